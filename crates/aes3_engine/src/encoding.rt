@@ -121,10 +121,8 @@ fn take_few<T: Sink>(
     if feed_front(file, piece) {
         return Ok(4);
     }
-    match take_byte(file, encoder, sink, piece[0]) {
-        Ok(()) => Ok(1),
-        Err(error) => Err(error),
-    }
+    take_byte(file, encoder, sink, piece[0])?;
+    Ok(1)
 }
 
 impl Input<Encoder> for BlockFile {
@@ -209,15 +207,13 @@ pub fn encode<S: Source, T: Sink>(
         blocks: 0,
         cells: blank_cells(),
     };
-    match convert(source, sink, max_bytes, &mut file, &mut encoder) {
-        Ok(bytes) => Ok(Counts {
-            bytes,
-            cells: BLOCK_CELLS * encoder.blocks,
-            blocks: encoder.blocks,
-            faults: 0,
-            unfinished: 0,
-            marks: 0,
-        }),
-        Err(error) => Err(error),
-    }
+    let bytes = convert(source, sink, max_bytes, &mut file, &mut encoder)?;
+    Ok(Counts {
+        bytes,
+        cells: BLOCK_CELLS * encoder.blocks,
+        blocks: encoder.blocks,
+        faults: 0,
+        unfinished: 0,
+        marks: 0,
+    })
 }

@@ -147,13 +147,11 @@ fn to_exact_24<S: Source, T: Sink>(
         (movement_of T.taken T.failed sink.old sink.new) result }
     ensures passed_on { IfOk result (λ _. T.passed sink.new ≡ T.taken sink.new) }
 {
-    match to_pcm(source, sink, max_bytes, input, format) {
-        Ok(counts) => Ok(Exact {
-            counts,
-            refused: None,
-        }),
-        Err(error) => Err(error),
-    }
+    let counts = to_pcm(source, sink, max_bytes, input, format)?;
+    Ok(Exact {
+        counts,
+        refused: None,
+    })
 }
 
 /// Reads cells from any cell on, and writes the samples of the blocks that stand whole and closed

@@ -96,10 +96,7 @@ fn put_frames<T: Sink>(sink: &mut T, frame: &[u8], count: u64) -> Result<(), Fau
     ensures { Wrote T.taken T.failed sink.old sink.new (repeated count frame.now) result }
 {
     'frames: for _written in 0..count {
-        match write_all(sink, frame) {
-            Ok(()) => {}
-            Err(fault) => return Err(fault),
-        }
+        write_all(sink, frame)?;
     }
     Ok(())
 }
@@ -214,14 +211,10 @@ impl FilledBlocks {
             (narrowed self.old.format (filling_before self.old.progress at)
             ++ narrowed self.old.format (block_samples block.now)) result }
     {
-        match self.put_filling(sink, at) {
-            Ok(()) => {
-                let samples = samples_of_block(block);
-                self.note(at, &samples);
-                put_narrowed(samples, self.format, sink)
-            }
-            Err(fault) => Err(fault),
-        }
+        self.put_filling(sink, at)?;
+        let samples = samples_of_block(block);
+        self.note(at, &samples);
+        put_narrowed(samples, self.format, sink)
     }
 
     /// Writes what a report gives.

@@ -57,13 +57,9 @@ impl MendedBlocks {
             (bytes_behind self.old.filled.format self.old.filled.fill self.old.filled.progress
             (record { place = at; block = block } ∷ [])) result }
     {
-        match self.filled.put_block(sink, at, &block) {
-            Ok(()) => {
-                self.before = block;
-                Ok(())
-            }
-            Err(fault) => Err(fault),
-        }
+        self.filled.put_block(sink, at, &block)?;
+        self.before = block;
+        Ok(())
     }
 
     /// Writes what an ending gives that a lock has just answered.

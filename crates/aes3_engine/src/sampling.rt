@@ -299,15 +299,13 @@ pub fn from_pcm_words<S: Source, T: Sink>(
     };
     let block_len = format.block_len() as u64;
     let mut change = *change;
-    match convert(source, sink, max_bytes, &mut input, &mut change) {
-        Ok(bytes) => Ok(Counts {
-            bytes,
-            cells: 0,
-            blocks: bytes.div_ceil(block_len),
-            faults: 0,
-            unfinished: 0,
-            marks: 0,
-        }),
-        Err(error) => Err(error),
-    }
+    let bytes = convert(source, sink, max_bytes, &mut input, &mut change)?;
+    Ok(Counts {
+        bytes,
+        cells: 0,
+        blocks: bytes.div_ceil(block_len),
+        faults: 0,
+        unfinished: 0,
+        marks: 0,
+    })
 }

@@ -152,15 +152,11 @@ impl Input<Encoder> for WordFile {
         piece: &[u8],
     ) -> Result<usize, RunError> {
         if let Some(word) = self.whole_word(piece) {
-            return match self.reader.take_word(encoder, sink, word) {
-                Ok(()) => Ok(WORD_LEN),
-                Err(error) => Err(error),
-            };
+            self.reader.take_word(encoder, sink, word)?;
+            return Ok(WORD_LEN);
         }
-        match self.take_octet(encoder, sink, piece[0]) {
-            Ok(()) => Ok(1),
-            Err(error) => Err(error),
-        }
+        self.take_octet(encoder, sink, piece[0])?;
+        Ok(1)
     }
 
     fn finish<T: Sink>(&mut self, encoder: &mut Encoder, sink: &mut T) -> Result<(), RunError> {
@@ -228,10 +224,8 @@ fn encode_other<S: Source, T: Sink>(
         blocks: 0,
         cells: blank_cells(),
     };
-    match convert(source, sink, max_bytes, &mut input, &mut encoder) {
-        Ok(bytes) => Ok(answer_of(bytes)),
-        Err(error) => Err(error),
-    }
+    let bytes = convert(source, sink, max_bytes, &mut input, &mut encoder)?;
+    Ok(answer_of(bytes))
 }
 
 /// Does what [`encode_words`] does.
@@ -251,13 +245,13 @@ fn encode_in<S: Source, T: Sink>(
     ensures passed_on { IfOk result (λ _. T.passed sink.new ≡ T.taken sink.new) }
 {
     match words {
-        Words::Own => match encode(source, sink, max_bytes, output) {
-            Ok(counts) => Ok(EncodedWords {
+        Words::Own => {
+            let counts = encode(source, sink, max_bytes, output)?;
+            Ok(EncodedWords {
                 counts,
                 left_out: 0,
-            }),
-            Err(error) => Err(error),
-        },
+            })
+        }
         Words::Alsa => encode_other(source, sink, max_bytes, output, Words::Alsa),
         Words::Am824 => encode_other(source, sink, max_bytes, output, Words::Am824),
     }

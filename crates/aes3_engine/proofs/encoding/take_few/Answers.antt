@@ -1,5 +1,6 @@
 use Rattle.std.proofs.Common.{◌∷◌, [], take, drop, get_or, arith, sym, refl, subst}
 use Rattle.std.proofs.lemmas.List.{take_more}
+use Rattle.std.proofs.lemmas.Result.{err_from_is_err_and}
 use Rattle.std.proofs.Math.Seq.{drop-cons}
 use Rattle.aes3_input.proofs.Feeding.{fed-is, fed-join, ran-join}
 use Rattle.aes3_engine.specs.Encoding.{encoding_state, Encodes}
@@ -18,20 +19,21 @@ returns-then-feed_front g c = (
   refl,
 )
 
-pub returns-in-Err : goal.returns-in-Err
-returns-in-Err g c =
+pub returns-in_err-take_byte : goal.returns-in_err-take_byte
+returns-in_err-take_byte g c =
     let xs = c.args.piece.now in
     let k = c.requires.some in
     let encoder = c.args.encoder.now in
     let new = c.take_byte.new in
-    ran-join (encoding_state encoder.output c.args.file.now encoder.blocks)
+    let p = err_from_is_err_and c.from_residual.result c.from_residual.ensures.1 in
+    rw (p.1, p.2) (ran-join (encoding_state encoder.output c.args.file.now encoder.blocks)
     (encoding_state encoder.output c.feed_front.new.file encoder.blocks)
     (encoding_state new.encoder.output new.file new.encoder.blocks)
     (g.T.Sink.taken c.take_byte.new.sink) (g.T.Sink.failed c.take_byte.new.sink)
-    (get_or xs 0 0 ∷ []) (drop 1 xs) xs c.in-Err.error
+    (get_or xs 0 0 ∷ []) (drop 1 xs) xs _
     (bytes-quiet c.args.encoder.now.output c.args.file.now c.feed_front.new.file [] (g.T.Sink.taken c.args.sink.now)
     (c.feed_front.ensures.same c.if-feed_front.false))
-    refl (sym (drop-cons xs 0 0 (omega arith))) c.in-Err.ensures
+    refl (sym (drop-cons xs 0 0 (omega arith))) c.in_err-take_byte.ensures)
 
 pub take_byte-requires-clause-following : goal.take_byte-requires-clause-following
 take_byte-requires-clause-following g c =
@@ -41,8 +43,8 @@ take_byte-requires-clause-following g c =
     let e = c.feed_front.ensures.same c.if-feed_front.false in
     (q.0, omega arith, subst (λ f. Encodes f c.args.encoder.now.blocks q.0) (sym e) q.2)
 
-pub returns-in-Ok : goal.returns-in-Ok
-returns-in-Ok g c =
+pub returns : goal.returns
+returns g c =
     let xs = c.args.piece.now in
     let k = c.requires.some in
     let f = c.feed_front.new.file in
@@ -50,6 +52,6 @@ returns-in-Ok g c =
     let q = bytes-quiet c.args.encoder.now.output c.args.file.now f [] (g.T.Sink.taken c.args.sink.now) e in (
       omega arith,
       omega arith,
-      fed-is (sym (take_more xs 0 0 k)) (fed-join q c.in-Ok.ensures.0),
-      c.in-Ok.ensures.1,
+      fed-is (sym (take_more xs 0 0 k)) (fed-join q c.in_ok-take_byte.ensures.0),
+      c.in_ok-take_byte.ensures.1,
     )

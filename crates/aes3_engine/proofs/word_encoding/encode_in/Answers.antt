@@ -1,17 +1,20 @@
 use Rattle.std.proofs.Common.{arith, rules}
+use Rattle.std.proofs.lemmas.Result.{err_from_is_err_and}
 use Rattle.aes3_input.proofs.InputRuns.{run-ok, run-err}
 use Rattle.aes3_engine.proofs.WordRuns.{none-left-out, own-gives}
 use Rattle.aes3_engine.proofs.WordsBack.{words-is}
 use Rattle.aes3_engine.proofs.word_encoding.encode_in.Goals as goal
 
-pub returns-in-Ok-clause-run : goal.returns-in-Ok-clause-run
-returns-in-Ok-clause-run g c =
+pub returns-in_ok-counts-in-Own-clause-run : goal.returns-in_ok-counts-in-Own-clause-run
+returns-in_ok-counts-in-Own-clause-run g c =
     words-is c.args.output c.in-Own.is
-    (run-ok (own-gives c.args.output) (λ b i h. (h, omega (arith, none-left-out b))) c.in-Ok.ensures.run)
+    (run-ok (own-gives c.args.output) (λ b i h. (h, omega (arith, none-left-out b))) c.in_ok-counts-in-Own.ensures.run)
 
-pub returns-in-Err-clause-run : goal.returns-in-Err-clause-run
-returns-in-Err-clause-run g c =
-    words-is c.args.output c.in-Own.is (run-err (own-gives c.args.output) c.in-Err.ensures.run)
+pub returns-in_err-counts-in-Own-clause-run : goal.returns-in_err-counts-in-Own-clause-run
+returns-in_err-counts-in-Own-clause-run g c =
+    let error = err_from_is_err_and c.from_residual.result c.from_residual.ensures.1 in
+    rw (error.1, error.2)
+    (words-is c.args.output c.in-Own.is (run-err (own-gives c.args.output) c.in_err-counts-in-Own.ensures.run))
 
 pub returns-in-Alsa-clause-run : goal.returns-in-Alsa-clause-run
 returns-in-Alsa-clause-run g c =

@@ -1,6 +1,7 @@
 use Rattle.std.proofs.Common.{◌≡◌, ◌∷◌, [], ◌++◌, take, drop, get_or, length, arith, sym, refl, ap, ◌∙◌}
 use Rattle.std.proofs.Common.{take-append-drop, Ok, Err}
 use Rattle.std.proofs.lemmas.List.{take_more}
+use Rattle.std.proofs.lemmas.Result.{err_from_is_err_and}
 use Rattle.std.proofs.Math.Seq.{drop-cons}
 use Rattle.aes3_input.specs.Running.{movement_of}
 use Rattle.aes3_input.proofs.Feeding.{fed-is, fed-none, ran-join}
@@ -23,8 +24,8 @@ take_octet-requires-clause-following g c =
     let h = c.requires.some in
     (q.0, omega arith, q.2)
 
-pub returns-in-Ok : goal.returns-in-Ok
-returns-in-Ok g c =
+pub returns-in-Some : goal.returns-in-Some
+returns-in-Some g c =
     let s = c.args.self.now in
     let r = s.reader in
     let o = c.args.encoder.now in
@@ -34,11 +35,11 @@ returns-in-Ok g c =
     let ran = none-begun (words_state r.words o.output r.file o.blocks r.left r.has_begun (take s.len s.begun))
     n.self.words n.encoder.output n.self.file n.encoder.blocks n.self.left n.self.has_begun (take s.len s.begun)
     c.in-Some.word (movement_of g.T.Sink.taken g.T.Sink.failed c.args.sink.now n.sink) (Ok tt) none
-    (c.in-Ok.ensures (take s.len s.begun) c.in-Some.word (ap (λ v. v ++ c.in-Some.word) none) (omega arith)) in
+    (c.in_ok-take_word.ensures (take s.len s.begun) c.in-Some.word (ap (λ v. v ++ c.in-Some.word) none) (omega arith)) in
     (omega arith, c.in-Some.ensures.enough, fed-is c.in-Some.ensures.word ran.0, ran.1)
 
-pub returns-in-Err : goal.returns-in-Err
-returns-in-Err g c =
+pub returns-in_err-take_word : goal.returns-in_err-take_word
+returns-in_err-take_word g c =
     let s = c.args.self.now in
     let r = s.reader in
     let o = c.args.encoder.now in
@@ -50,33 +51,35 @@ returns-in-Err g c =
     let new = words_state n.self.words n.encoder.output n.self.file n.encoder.blocks n.self.left n.self.has_begun
     (take s.len s.begun) in
     let ran = none-begun old n.self.words n.encoder.output n.self.file n.encoder.blocks n.self.left n.self.has_begun
-    (take s.len s.begun) c.in-Some.word (movement_of g.T.Sink.taken g.T.Sink.failed c.args.sink.now n.sink)
-    (Err c.in-Err.error) none
-    (c.in-Err.ensures (take s.len s.begun) c.in-Some.word (ap (λ v. v ++ c.in-Some.word) none) (omega arith)) in
-    ran-join old old new (g.T.Sink.taken n.sink) (g.T.Sink.failed n.sink) c.in-Some.word (drop 4 xs) xs c.in-Err.error
+    (take s.len s.begun) c.in-Some.word (movement_of g.T.Sink.taken g.T.Sink.failed c.args.sink.now n.sink) (Err _) none
+    (c.in_err-take_word.ensures (take s.len s.begun) c.in-Some.word (ap (λ v. v ++ c.in-Some.word) none) (omega arith)) in
+    let p = err_from_is_err_and c.from_residual.result c.from_residual.ensures.1 in
+    rw (p.1, p.2) (ran-join old old new (g.T.Sink.taken n.sink) (g.T.Sink.failed n.sink) c.in-Some.word (drop 4 xs) xs _
     (fed-none old.reads old.follows (g.T.Sink.taken c.args.sink.now)) refl
-    (ap (λ v. v ++ drop 4 xs) c.in-Some.ensures.word ∙ take-append-drop 4 xs) ran
+    (ap (λ v. v ++ drop 4 xs) c.in-Some.ensures.word ∙ take-append-drop 4 xs) ran)
 
-pub returns-in-Ok-take_octet : goal.returns-in-Ok-take_octet
-returns-in-Ok-take_octet g c =
+pub returns : goal.returns
+returns g c =
     let xs = c.args.piece.now in (
       omega arith,
       c.requires.some,
-      fed-is (sym (take_more xs 0 0 c.requires.some)) c.in-Ok-take_octet.ensures.0,
-      c.in-Ok-take_octet.ensures.1,
+      fed-is (sym (take_more xs 0 0 c.requires.some)) c.in_ok-take_octet.ensures.0,
+      c.in_ok-take_octet.ensures.1,
     )
 
-pub returns-in-Err-take_octet : goal.returns-in-Err-take_octet
-returns-in-Err-take_octet g c =
+pub returns-in_err-take_octet : goal.returns-in_err-take_octet
+returns-in_err-take_octet g c =
     let s = c.args.self.now in
     let r = s.reader in
     let o = c.args.encoder.now in
     let n = c.take_octet.new in
     let xs = c.args.piece.now in
     let old = words_state r.words o.output r.file o.blocks r.left r.has_begun (take s.len s.begun) in
-    ran-join old old
+    let e = c.from_residual-in_err-take_octet in
+    let p = err_from_is_err_and e.result e.ensures.1 in
+    rw (p.1, p.2) (ran-join old old
     (words_state n.self.reader.words n.encoder.output n.self.reader.file n.encoder.blocks n.self.reader.left
     n.self.reader.has_begun (take n.self.len n.self.begun))
-    (g.T.Sink.taken n.sink) (g.T.Sink.failed n.sink) (get_or xs 0 0 ∷ []) (drop 1 xs) xs c.in-Err-take_octet.error
+    (g.T.Sink.taken n.sink) (g.T.Sink.failed n.sink) (get_or xs 0 0 ∷ []) (drop 1 xs) xs _
     (fed-none old.reads old.follows (g.T.Sink.taken c.args.sink.now)) refl (sym (drop-cons xs 0 0 c.requires.some))
-    c.in-Err-take_octet.ensures
+    c.in_err-take_octet.ensures)
