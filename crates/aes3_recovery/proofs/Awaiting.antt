@@ -1,5 +1,5 @@
 -- A recovery that waits for the runs in which a line is found.
-use Rattle.std.proofs.Common.{ℕ, suc, List, [], ◌∷◌, ◌++◌, ◌≡◌, ◌≤◌, ◌<◌, ◌+◌, ◌-◌, ◌%◌, ◌^◌, ◌⊎◌, inl, inr, min}
+use Rattle.std.proofs.Common.{ℕ, suc, List, [], ◌∷◌, ◌++◌, ◌≡◌, ◌≤◌, ◌<◌, ◌+◌, ◌-◌, ◌*◌, ◌%◌, ◌^◌, ◌⊎◌, inl, inr, min}
 use Rattle.std.proofs.Common.{Option, Result, Ok, Err, IfOk, Bool, false, length, length-append, replicate, drop}
 use Rattle.std.proofs.Common.{refl, sym, ap, ap₂, ◌∙◌, subst, arith, append_assoc, append-nil}
 use Rattle.std.proofs.lemmas.List.{length-take-le}
@@ -9,9 +9,11 @@ use Rattle.aes3_level.specs.Cells.{line, other, after}
 use Rattle.aes3_level.proofs.Runs.{other-other}
 use Rattle.aes3_level.specs.Words.{level_of, low_cells}
 use Rattle.aes3_level.proofs.WordCells.{length-low_cells}
+use Rattle.aes3_capture.specs.declared.bounds.Bounds.{Bounds}
 use Rattle.aes3_capture.specs.declared.follower.Follower.{Follower}
-use Rattle.aes3_recovery.specs.Beginning.{AreFindable, AreShort, Awaits, BeginsWith, Begun, EndsWith, FollowsFrom, IsWaiting}
+use Rattle.aes3_recovery.specs.Beginning.{AreFindable, AreShort, Awaits, BeginsWith, Begun, EndsWith, FollowsFrom, IsKeptSince, IsLastingLine, IsWaiting}
 use Rattle.aes3_recovery.specs.Endings.{level_if}
+use Rattle.aes3_recovery.specs.Keeping.{IsKept, StaysKept}
 use Rattle.aes3_recovery.specs.LineFollowing.{Followed}
 use Rattle.aes3_recovery.specs.Recovering.{Holds, Recovered, Setting, StandsBehind, StandsOn, first_cells, first_level, runs_to_end, runs_waiting}
 use Rattle.aes3_recovery.specs.Queues.{Queued, waiting}
@@ -23,10 +25,13 @@ use Rattle.aes3_recovery.specs.declared.recovery.Recovery.{Recovery}
 use Rattle.aes3_recovery.specs.declared.recovery.State.TheVariants.{Following, Measuring, Still}
 use Rattle.aes3_recovery.proofs.Beginning.{before-last, begun-edge, behind-to-end, follows-on, none-measured}
 use Rattle.aes3_recovery.proofs.Followed.{followed-begins}
-use Rattle.aes3_recovery.proofs.Recovering.{first-of-word, nothing, only-one, recovered-begins, recovered-edge, recovered-gave}
+use Rattle.aes3_recovery.proofs.Lasting.{begun-kept, kept-awake, lasting-findable, lasting-short}
+use Rattle.aes3_recovery.proofs.Recovering.{first-of-word, holds-keeps, nothing, only-one, recovered-begins, recovered-edge, recovered-gave}
 use Rattle.aes3_recovery.proofs.Recovering.{recovered-first, recovered-level, recovered-more, recovered-rest, waits-keep}
 use Rattle.aes3_recovery.proofs.RunsToEnd.{end-none}
 use Rattle.aes3_recovery.proofs.Ahead.{recovered-ahead}
+use Rattle.aes3_recovery.proofs.OnLine.{end-least}
+use Rattle.aes3_recovery.proofs.Turning.{turned-runs}
 use Rattle.aes3_recovery.specs.Turns.{gaps, last_place, turns}
 use Rattle.aes3_recovery.proofs.States.{apart, following-or, measuring-apart, still-apart}
 
@@ -149,6 +154,10 @@ last-run told setting seen left now n run a first window within few same is f =
       waits = ap₂ (λ x m. x ++ m ∷ []) both.1 last ∙ sym parts;
     }
 
+no-more-runs : (xs ys : List ℕ) (m : List ℕ) → xs ++ ys ≡ xs ++ m → ys ≡ m
+no-more-runs [] ys m e = e
+no-more-runs (x ∷ xs) ys m e = no-more-runs xs ys m (let tail : xs ++ ys ≡ xs ++ m = cc in tail)
+
 -- a line that was measured once was followed before, if it is so now
 pub measured-once : (old new : Recovery) → old.figures.measured ≤ new.figures.measured
     → ((old.state ≡ Following → ⊥) → new.state ≡ Following → old.figures.measured + 1 < 2 ^ 64
@@ -188,10 +197,13 @@ pub awaits-edge : (told told' : Option (List ℕ)) (setting : Setting) (seen : L
     → (old.state ≡ Following → (front : List Level) (first : Follower) (before : Level) (levels : List Level)
     → Followed told setting.begun front old.line first before levels (levels_in piece)
     → Followed told' setting.begun front new.line first before levels (levels_in left))
+    → mid.spread ≡ old.spread
+    → (old.state ≡ Following → (narrow : Bounds) (spread : ℕ) (ahead : List ℕ)
+    → IsKept mid.line.follower mid.spread narrow spread (run ∷ ahead) → StaysKept narrow spread ahead mid new)
     → Awaits told setting seen (levels_in piece) old → Awaits told' setting seen (levels_in left) new
 unfolding recovered-edge
 awaits-edge told told' setting seen piece left run old mid new within few e k state edges same edge still gathers starts up
-    begins once follows a =
+    begins once follows distance keeps a =
     let w = a.recovered in
     let s = w.stands in
     let count = e.count in
@@ -254,6 +266,48 @@ awaits-edge told told' setting seen piece left run old mid new within few e k st
             follows-on told told' setting w.level (first ∷ []) window seen (levels_in piece) (levels_in left) old new
             (follows o.0) (a.joins o.0 o.1 first window m.0 m.1 f)
       ];
+      stays = λ narrow spread first counts window others ahead is l alive.
+          elim (split-last w.runs n (first ∷ window) others is) [
+            | inl none ↦
+                let now : w.runs ++ n ∷ [] ≡ first ∷ window
+                = is ∙ ap (λ x. first ∷ (window ++ x)) none ∙ ap (λ x. first ∷ x) (append-nil window) in
+                let f = lasting-findable setting.known narrow spread counts window (others ++ ahead) l in
+                let found = found_now first window now f in
+                let one = last first window now f in
+                let past : s.past ≡ 0 = s.holds.order.none_past one.measuring in
+                let runs : s.done ++ runs_waiting mid ≡ w.runs = ap (λ x. s.done ++ x) waits ∙ s.runs_are in
+                let b = begins one.unfound found.0 w.level s.done s.past
+                (holds-keeps told setting w.level s.done s.past old mid k state s.holds)
+                (s.turns ∙ ap (λ x. other (after w.level x)) (sym runs)) in
+                let begun : Begun told' setting w.level s.done window new
+                = subst (λ (x : List ℕ). Begun told' setting w.level s.done x new)
+                (ap₂ (λ x m. x ++ m ∷ []) waits (let z : s.past + run ≡ run = omega (arith, past) in z) ∙ one.waits) b in
+                record {
+                  state = found.0;
+                  once = found.1;
+                  kept = subst (λ (x : List ℕ). IsKept new.line.follower new.spread narrow spread (x ++ ahead)) none
+                      (begun-kept told' setting w.level narrow spread s.done window counts (others ++ ahead) new begun l);
+                }
+            | inr r ↦
+                let more : others ≡ r.0 ++ n ∷ []
+                = no-more-runs (first ∷ window) others (r.0 ++ n ∷ [])
+                (sym is ∙ ap (λ x. x ++ n ∷ []) r.1 ∙ append_assoc (first ∷ window) r.0 (n ∷ [])) in
+                let on : IsLastingLine setting.known narrow spread counts window (r.0 ++ n ∷ ahead)
+                = subst (λ (x : List ℕ). IsLastingLine setting.known narrow spread counts window x)
+                (ap (λ x. x ++ ahead) more ∙ append_assoc r.0 (n ∷ []) ahead) l in
+                let short = lasting-short setting.known narrow spread counts window r.0 ahead n on in
+                let was = a.stays narrow spread first counts window r.0 (n ∷ ahead) r.1 on (omega (arith, short)) in
+                let past : s.past ≡ 0 = s.holds.order.none_followed was.state in
+                let whole : n ≡ run = omega (arith, past, all) in
+                let next = keeps was.state narrow spread ahead
+                (rw (k.follower_is, distance)
+                (subst (λ m. IsKept old.line.follower old.spread narrow spread (m ∷ ahead)) whole was.kept)) in
+                record {
+                  state = next.state;
+                  once = next.measured ∙ k.measured_is ∙ was.once;
+                  kept = next.kept;
+                }
+          ];
     }
 
 -- no edge comes
@@ -271,10 +325,11 @@ awaits-rest : (told told' : Option (List ℕ)) (setting : Setting) (seen : List 
     × ((front : List Level) (first : Follower) (before : Level) (levels : List Level)
     → Followed told setting.begun front old.line first before levels (levels_in piece)
     → Followed told' setting.begun front new.line first before levels []))
+    → mid.spread ≡ old.spread → (1024 * mid.line.edges.run < mid.line.follower.bounds.low → new ≡ mid)
     → Awaits told setting seen (levels_in piece) old → Awaits told' setting seen [] new
 unfolding recovered-rest
 awaits-rest told told' setting seen piece old mid new few e k state high same short rest alive still near found measured follows
-    a =
+    distance awake a =
     let w = a.recovered in
     let s = w.stands in
     let run_is = e.run_is in
@@ -297,6 +352,16 @@ awaits-rest told told' setting seen piece old mid new few e k state high same sh
           let on = follows is in
           follows-on told told' setting w.level (first ∷ []) window seen (levels_in piece) [] old new on.1
           (a.joins on.0 (sym m ∙ one) first window more runs f);
+      stays = λ narrow spread first counts window others ahead is l few_behind.
+          let was = a.stays narrow spread first counts window others ahead is l (omega (arith, few_behind)) in
+          let kept : IsKept mid.line.follower mid.spread narrow spread ahead = rw (k.follower_is, distance) was.kept in
+          let awaken : new ≡ mid = awake
+          (kept-awake mid.line.follower mid.spread narrow spread mid.line.edges.run ahead kept (omega (arith, few_behind, all))) in
+          record {
+            state = ap (λ x. x.state) awaken ∙ state ∙ was.state;
+            once = m ∙ was.once;
+            kept = subst (λ (x : Recovery). IsKept x.line.follower x.spread narrow spread ahead) (sym awaken) kept;
+          };
     }
   where
     waiting-rest : (runs : List ℕ) (behind n : ℕ) (old new : Recovery) → behind ≤ n
@@ -339,13 +404,14 @@ pub awaits-rest-ok : {R E : Type 0} (told told' : Option (List ℕ)) (setting : 
     × ((front : List Level) (first : Follower) (before : Level) (levels : List Level)
     → Followed told setting.begun front old.line first before levels (levels_in piece)
     → IfOk r (λ x. Followed told' setting.begun front new.line first before levels [])))
+    → mid.spread ≡ old.spread → (1024 * mid.line.edges.run < mid.line.follower.bounds.low → new ≡ mid)
     → Awaits told setting seen (levels_in piece) old → IfOk r (λ x. Awaits told' setting seen [] new)
 awaits-rest-ok told told' setting seen piece old mid new (Err x) few e k state high same short rest alive still near found
-    measured follows a = tt
+    measured follows distance awake a = tt
 awaits-rest-ok told told' setting seen piece old mid new (Ok v) few e k state high same short rest alive still near found
-    measured follows a =
+    measured follows distance awake a =
     awaits-rest told told' setting seen piece old mid new few e k state high same short rest alive still near found measured
-    follows a
+    follows distance awake a
 
 -- no edge comes of a line that is still
 awaits-level : (told told' : Option (List ℕ)) (setting : Setting) (seen : List Level) (n : ℕ)
@@ -378,6 +444,9 @@ awaits-level told told' setting (x ∷ seen) n old mid new some few same run k s
       starts = λ first window e f near. let was = a.starts first window e f (omega (arith, near)) in
           absurd (apart old.state is was.0);
       joins = λ now one first window more runs f. absurd (apart old.state is (sym state ∙ follows now));
+      stays = λ narrow spread first counts window others ahead e l few_behind.
+          let was = a.stays narrow spread first counts window others ahead e l (omega (arith, few_behind)) in
+          absurd (apart old.state is was.state);
     }
   where
     waiting-still : (runs : List ℕ) (behind n : ℕ) (old new : Recovery) → behind ≤ n → old.state ≡ Still
@@ -488,7 +557,18 @@ awaits-new told setting now w unfound still count =
       finds = λ first window more is f. absurd (not-none first (window ++ more) (sym none ∙ is));
       starts = λ first window is f near. absurd (not-none first window (sym none ∙ is));
       joins = λ is one first window more runs f. absurd (not-none first (window ++ more) (sym none ∙ runs));
+      stays = λ narrow spread first counts window others ahead is l few. absurd (not-none first (window ++ others) (sym none ∙ is));
     }
+
+-- what is kept of a line, where nothing of it changed
+same-kept : (narrow : Bounds) (spread : ℕ) (ahead : List ℕ) (old new : Recovery) → new.state ≡ old.state
+    → new.figures.measured ≡ old.figures.measured → new.line.follower ≡ old.line.follower → new.spread ≡ old.spread
+    → IsKeptSince narrow spread ahead old → IsKeptSince narrow spread ahead new
+same-kept narrow spread ahead old new state measured follower distance w = record {
+  state = state ∙ w.state;
+  once = measured ∙ w.once;
+  kept = rw (follower, distance) w.kept;
+}
 
 awaits-begins : (told : Option (List ℕ)) (setting : Setting) (seen levels : List Level) (old new : Recovery)
     (k : KeepsTold old new) (state : new.state ≡ old.state)
@@ -496,9 +576,10 @@ awaits-begins : (told : Option (List ℕ)) (setting : Setting) (seen levels : Li
     (same : 1 ≤ old.figures.samples → new.line ≡ old.line) (none : length levels ≡ 0 → new.line ≡ old.line)
     (begins : old.figures.samples ≡ 0 → 1 ≤ length levels
     → (level_if new.line.edges.high ≡ first_level levels) × (new.line.edges.run ≡ 0))
+    → new.spread ≡ old.spread
     → Awaits told setting seen [] old → Awaits told setting (seen ++ levels) levels new
 unfolding recovered-begins recovered-more recovered-first
-awaits-begins told setting [] [] old new k state samples same none begins a =
+awaits-begins told setting [] [] old new k state samples same none begins distance a =
     let w = a.recovered in
     record {
       recovered = recovered-begins told setting [] [] old new k state samples same none begins w;
@@ -510,8 +591,11 @@ awaits-begins told setting [] [] old new k state samples same none begins a =
       joins = λ is one first window more runs f.
           follows-begins told setting w.level (first ∷ []) window [] [] old new (none refl)
           (a.joins (sym state ∙ is) (sym k.measured_is ∙ one) first window more runs f);
+      stays = λ narrow spread first counts window others ahead is l few.
+          same-kept narrow spread ahead old new state k.measured_is k.follower_is distance
+          (a.stays narrow spread first counts window others ahead is l few);
     }
-awaits-begins told setting [] (l ∷ levels) old new k state samples same none begins a =
+awaits-begins told setting [] (l ∷ levels) old new k state samples same none begins distance a =
     let w = a.recovered in
     let empty = no-runs told setting old w in
     record {
@@ -523,8 +607,9 @@ awaits-begins told setting [] (l ∷ levels) old new k state samples same none b
       finds = λ first window more is f. absurd (not-none first (window ++ more) is);
       starts = λ first window is f near. absurd (not-none first window is);
       joins = λ is one first window more runs f. absurd (not-none first (window ++ more) runs);
+      stays = λ narrow spread first counts window others ahead is l few. absurd (not-none first (window ++ others) is);
     }
-awaits-begins told setting (l ∷ seen) levels old new k state samples same none begins a =
+awaits-begins told setting (l ∷ seen) levels old new k state samples same none begins distance a =
     let w = a.recovered in
     let was = w.samples in
     record {
@@ -537,6 +622,9 @@ awaits-begins told setting (l ∷ seen) levels old new k state samples same none
       joins = λ is one first window more runs f.
           follows-begins told setting w.level (first ∷ []) window (l ∷ seen) levels old new (same (omega (arith, was)))
           (a.joins (sym state ∙ is) (sym k.measured_is ∙ one) first window more runs f);
+      stays = λ narrow spread first counts window others ahead is l few.
+          same-kept narrow spread ahead old new state k.measured_is k.follower_is distance
+          (a.stays narrow spread first counts window others ahead is l few);
     }
 
 pub awaits-word : (told : Option (List ℕ)) (setting : Setting) (seen : List Level) (len levels : ℕ)
@@ -545,9 +633,10 @@ pub awaits-word : (told : Option (List ℕ)) (setting : Setting) (seen : List Le
     → (1 ≤ old.figures.samples → new.line ≡ old.line) → (len ≡ 0 → new.line ≡ old.line)
     → (old.figures.samples ≡ 0 → 1 ≤ len
     → (level_if new.line.edges.high ≡ level_of (levels % 2)) × (new.line.edges.run ≡ 0))
+    → new.spread ≡ old.spread
     → Awaits told setting seen [] old
     → Awaits told setting (seen ++ low_cells len levels) (low_cells len levels) new
-awaits-word told setting seen len levels old new k state samples same none begins a =
+awaits-word told setting seen len levels old new k state samples same none begins distance a =
     let many : length (low_cells len levels) ≡ len = length-low_cells len levels in
     awaits-begins told setting seen (low_cells len levels) old new k state (omega (arith, many, samples)) same
     (λ e. none (sym many ∙ e))
@@ -555,7 +644,7 @@ awaits-word told setting seen len levels old new k state samples same none begin
     let some_len : 1 ≤ len = omega (arith, many, some) in
     let b = begins zero_seen some_len in
     (b.0 ∙ sym (first-of-word len levels some_len), b.1))
-    a
+    distance a
 
 -- the runs of all samples
 no-more : (s : Level) (run : ℕ) → runs_behind s run [] ≡ []
@@ -634,9 +723,9 @@ pub awaits-gave : {A : Type 0} {taken : A → Option (List ℕ)} (setting : Sett
     (old new : Recovery) (a b : A) → Gave taken old.line new.line a b [] → new.line.edges ≡ old.line.edges
     → new.line.follower ≡ old.line.follower → new.found ≡ old.found → new.known ≡ old.known → new.held ≡ old.held
     → new.figures ≡ old.figures → new.runs ≡ old.runs → new.count ≡ old.count → new.state ≡ old.state
-    → Awaits (taken a) setting seen [] old → Awaits (taken b) setting seen [] new
+    → new.spread ≡ old.spread → Awaits (taken a) setting seen [] old → Awaits (taken b) setting seen [] new
 unfolding recovered-gave
-awaits-gave {taken = taken} setting seen old new a b gave edges follower found known held figures runs count state t =
+awaits-gave {taken = taken} setting seen old new a b gave edges follower found known held figures runs count state distance t =
     let w = t.recovered in
     let measured : new.figures.measured ≡ old.figures.measured = ap (λ f. f.measured) figures in
     record {
@@ -656,6 +745,9 @@ awaits-gave {taken = taken} setting seen old new a b gave edges follower found k
           (λ front start before levels g.
           followed-gave setting.begun front old.line new.line start before levels a b gave edges follower g)
           (t.joins (sym state ∙ is) (sym measured ∙ one) first window more runs f);
+      stays = λ narrow spread first counts window others ahead is l few.
+          same-kept narrow spread ahead old new state measured follower distance
+          (t.stays narrow spread first counts window others ahead is l few);
     }
 
 -- edges taken ahead, of a line that is followed: no runs wait
@@ -687,9 +779,24 @@ no-gaps : (from : ℕ) (places : List ℕ) → gaps from places ≡ [] → last_
 no-gaps from [] e = refl
 no-gaps from (p ∷ places) e = cc
 
-no-more-runs : (xs ys : List ℕ) (m : List ℕ) → xs ++ ys ≡ xs ++ m → ys ≡ m
-no-more-runs [] ys m e = e
-no-more-runs (x ∷ xs) ys m e = no-more-runs xs ys m (let tail : xs ++ ys ≡ xs ++ m = cc in tail)
+-- the samples that wait before some that come are no more than the first run has
+ahead-runs : (s : Level) (from behind : ℕ) (levels : List Level) (runs : List ℕ) → from ≤ 128
+    → runs ≡ gaps from (turns s 128 levels) → behind ≡ (128 + length levels) - last_place from (turns s 128 levels)
+    → runs_to_end s (128 - from) (levels ++ []) ≡ runs ++ behind ∷ []
+ahead-runs s from behind levels runs near runs_are behind_is =
+    let places = turns s 128 levels in
+    turned-runs s 128 from levels [] near
+    ∙ ap (λ l. gaps from places ++ l)
+    (end-none (other (after (other s) (gaps from places))) (128 + length levels - last_place from places))
+    ∙ ap₂ (λ l n. l ++ n ∷ []) (sym runs_are) (sym behind_is)
+
+few-wait : (s : Level) (n : ℕ) (xs : List Level) (runs : List ℕ) (behind most : ℕ) → runs_to_end s n xs ≡ runs ++ behind ∷ []
+    → 65536 * behind < most → ((r : ℕ) (rs : List ℕ) → runs ≡ r ∷ rs → 65536 * r < most) → 65536 * n < most
+few-wait s n xs [] behind most e few short = let least = end-least s n xs behind [] e in omega (arith, least, few)
+few-wait s n xs (r ∷ runs) behind most e few short =
+    let least = end-least s n xs r (runs ++ behind ∷ []) e in
+    let below = short r runs refl in
+    omega (arith, least, below)
 
 pub awaits-ahead : (told told' : Option (List ℕ)) (setting : Setting) (seen levels : List Level) (old mid new : Recovery)
     (high : Bool) (runs : List ℕ) (from behind : ℕ)
@@ -708,14 +815,17 @@ pub awaits-ahead : (told told' : Option (List ℕ)) (setting : Setting) (seen le
     → (front : List Level) (first : Follower) (before : Level) (since : List Level)
     → Followed told setting.begun front old.line first before since []
     → Followed told' setting.begun front new.line first before (since ++ levels) [])
+    → ((narrow : Bounds) (spread : ℕ) (ahead : List ℕ) → IsKept old.line.follower old.spread narrow spread (runs ++ ahead)
+    → StaysKept narrow spread ahead old mid)
+    → new.spread ≡ mid.spread
     → Awaits told setting seen [] old → Awaits told' setting (seen ++ levels) [] new
 unfolding recovered-ahead
 awaits-ahead told told' setting [] levels old mid new high runs from behind is some near runs_are behind_is step k state
-    high_is run short samples up none follows a =
+    high_is run short samples up none follows keeps distance a =
     let was = a.recovered.samples in
     absurd (omega (arith, some, was))
 awaits-ahead told told' setting (x ∷ seen) levels old mid new high runs from behind is some near runs_are behind_is step k
-    state high_is run short samples up none follows a =
+    state high_is run short samples up none follows keeps distance a =
     let w = a.recovered in
     let past : w.stands.past ≡ 0 = w.stands.holds.order.none_followed is in
     let sum = w.stands.samples_are in
@@ -766,6 +876,28 @@ awaits-ahead told told' setting (x ∷ seen) levels old mid new high runs from b
           let once : old.figures.measured ≡ 1 = omega (arith, was, up, same, one) in
           follows-more told told' setting w.level (first ∷ []) window (x ∷ seen) levels [] old new
           (follows now (one ∙ sym once) once) (a.joins is once first window m.0 m.1 f);
+      stays = λ narrow spread first counts window others ahead e l few.
+          let f = lasting-findable setting.known narrow spread counts window (others ++ ahead) l in
+          let m = early first window others e f in
+          let more : others ≡ m.0 ++ runs
+          = no-more-runs (first ∷ window) others (m.0 ++ runs)
+          (sym e ∙ ap (λ x. x ++ runs) m.1 ∙ append_assoc (first ∷ window) m.0 runs) in
+          let on : IsLastingLine setting.known narrow spread counts window (m.0 ++ (runs ++ ahead))
+          = subst (λ (x : List ℕ). IsLastingLine setting.known narrow spread counts window x)
+          (ap (λ x. x ++ ahead) more ∙ append_assoc m.0 runs ahead) l in
+          let waiting : 65536 * (128 - from) < 63 * narrow.low
+          = few-wait (level_if old.line.edges.high) (128 - from) (levels ++ []) runs behind (63 * narrow.low)
+          (ahead-runs (level_if old.line.edges.high) from behind levels runs (omega (arith, near)) runs_are behind_is) few
+          (λ r rs is. lasting-short setting.known narrow spread counts window m.0 (rs ++ ahead) r
+          (subst (λ (x : List ℕ). IsLastingLine setting.known narrow spread counts window (m.0 ++ (x ++ ahead))) is on)) in
+          let was = a.stays narrow spread first counts window m.0 (runs ++ ahead) m.1 on
+          (omega (arith, waiting, past, sum, near)) in
+          let next = keeps narrow spread ahead was.kept in
+          record {
+            state = state ∙ next.state;
+            once = same ∙ next.measured ∙ was.once;
+            kept = rw (k.follower_is, distance) next.kept;
+          };
     }
   where
     empty : (l : List ℕ) → length l ≡ 0 → l ≡ []

@@ -338,8 +338,8 @@ pub told-begun : {A : Type 0} {taken : A → Option (List ℕ)} (old mid new : R
     → Gave taken old.line mid.line a b
     (replicate (min (65536 * old.held) (2 ^ 64 - 1) / mid.line.follower.period) (after level done))
     → mid.found ≡ true → RunsTold taken mid new b d (after level done) runs
-    → IsFoundIn setting.known runs mid.line.follower → Begun (taken d) setting level done runs new
-told-begun {taken = taken} old mid new a b d setting level done runs w none begun found t m =
+    → IsFoundIn setting.known runs mid.line.follower → new.spread ≡ 0 → Begun (taken d) setting level done runs new
+told-begun {taken = taken} old mid new a b d setting level done runs w none begun found t m fresh =
     let v = after level done in
     let u = told-none-measured (taken a) setting level done 0 old w none in
     let was = u.held in
@@ -351,6 +351,7 @@ told-begun {taken = taken} old mid new a b d setting level done runs w none begu
       found = m;
       counts = c.counts;
       counted = c.counted;
+      fresh = fresh;
       cells = subst (λ (x : List Level). Queued (taken d) setting.begun new.line.queue.form (waiting new.line.queue) x)
           (ap (λ h. replicate (min (65536 * h) (2 ^ 64 - 1) / mid.line.follower.period) v ++ line v c.counts) held)
           (c.gave.each setting.begun front (begun.each setting.begun [] u.cells));

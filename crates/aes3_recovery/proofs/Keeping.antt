@@ -142,7 +142,7 @@ mean-costs late spread mean displaced m d =
     let y = d.most in
     omega (arith, a, b, x, y)
 
-off-most : (late spread place : ℕ) → IsBetween late place spread → off_middle late spread place ≤ spread
+pub off-most : (late spread place : ℕ) → IsBetween late place spread → off_middle late spread place ≤ spread
 off-most late spread place b =
     let x = b.least in
     let y = b.most in

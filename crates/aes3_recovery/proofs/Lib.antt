@@ -25,6 +25,7 @@ pub mod Recovering
 mod Keeping
 mod OnLine
 mod OnLineAhead
+mod Lasting
 pub mod Followed
 pub mod Steady
 pub mod WordBits

@@ -59,7 +59,7 @@ kept-tracked f g distance narrow spread middle (r ∷ runs) (n ∷ cells) (p ∷
     (rest.0, rest.1 ∙ bounds)
 
 -- The last run is no shorter than the samples that came of it.
-end-least : (s : Level) (n : ℕ) (xs : List Level) (y : ℕ) (ys : List ℕ) → runs_to_end s n xs ≡ y ∷ ys → n ≤ y
+pub end-least : (s : Level) (n : ℕ) (xs : List Level) (y : ℕ) (ys : List ℕ) → runs_to_end s n xs ≡ y ∷ ys → n ≤ y
 end-least Low n [] y ys e = let h : n ≡ y = cc in omega (arith, h)
 end-least High n [] y ys e = let h : n ≡ y = cc in omega (arith, h)
 end-least Low n (Low ∷ xs) y ys e = let h = end-least Low (suc n) xs y ys e in omega (arith, h)

@@ -1,12 +1,13 @@
 -- How a recovery begins to follow a line.
-use Rattle.std.specs.Prelude.{ℕ, List, [], ◌∷◌, ◌++◌, ◌+◌, ◌≡◌, ◌≤◌, ◌<◌, Option, false, drop, length, take}
+use Rattle.std.specs.Prelude.{ℕ, List, [], ◌∷◌, ◌++◌, ◌+◌, ◌≡◌, ◌≤◌, ◌<◌, ◌*◌, Option, None, false, drop, length, take}
 use Rattle.aes3_level.specs.declared.level.Level.{Level}
 use Rattle.aes3_level.specs.Cells.{line, other, after}
 use Rattle.aes3_capture.specs.declared.bounds.Bounds.{Bounds}
 use Rattle.aes3_capture.specs.declared.follower.Follower.{Follower}
 use Rattle.aes3_capture.specs.Captures.{SpreadsLate}
 use Rattle.aes3_capture.specs.Following.{CountedAll}
-use Rattle.aes3_recovery.specs.Finding.{AllowsCells, AreCapturedRuns, AreOfManySubframes, FollowsLine, IsFindable}
+use Rattle.aes3_recovery.specs.Finding.{AllowsCells, AreCapturedRuns, AreOfManySubframes, FollowsLine, IsFindable, IsLasting}
+use Rattle.aes3_recovery.specs.Keeping.{IsKept}
 use Rattle.aes3_recovery.specs.LineFollowing.{Followed, Gives}
 use Rattle.aes3_recovery.specs.Measuring.{IsMeasured}
 use Rattle.aes3_recovery.specs.Queues.{Queued, waiting}
@@ -25,13 +26,14 @@ pub record IsFoundIn (known : Option ℕ) (window : List ℕ) (start : Follower)
       → FollowsLine known narrow spread late later places start
 
 -- A recovery found its line in the runs `window`, behind the runs `before`: it gave the cells of `before`, and then those
--- that the follower which it found counts of `window`.
+-- that the follower which it found counts of `window`. No edge was noted yet.
 pub record Begun (told : Option (List ℕ)) (setting : Setting) (level : Level) (before window : List ℕ)
     (now : Recovery) : Type 0 where
   pub start : Follower
   pub found : IsFoundIn setting.known window start
   pub counts : List ℕ
   pub counted : CountedAll start window counts now.line.follower
+  pub fresh : now.spread ≡ 0
   pub cells : Queued told setting.begun now.line.queue.form (waiting now.line.queue)
       (first_cells level before start ++ line (after level before) counts)
 
@@ -89,6 +91,28 @@ pub record EndsWith (known : Option ℕ) (levels : List Level) (first : ℕ) (wi
   pub runs_are : sample_runs levels ≡ first ∷ (window ++ behind ∷ [])
   pub findable : AreFindable known window
 
+-- The runs `window` and `more` are a capture of the runs of cells `counts`. In `window` the line can be found, where no period is asked
+-- for, and once it was found it lasts.
+pub record IsLastingLine (known : Option ℕ) (narrow : Bounds) (spread : ℕ) (counts window more : List ℕ) : Type 0 where
+  pub unasked : known ≡ None
+  pub long : length window ≡ 256
+  pub short : AreShort window
+  pub late : ℕ
+  pub later : ℕ
+  pub displaced : ℕ
+  pub captured : SpreadsLate narrow spread late later displaced counts (window ++ more)
+  pub place : ℕ
+  pub side : ℕ
+  pub many : AreOfManySubframes place side (take 256 counts)
+  pub findable : IsFindable narrow spread late later
+  pub lasting : IsLasting narrow spread late later
+
+-- A line was found once and is followed, and the runs ahead go on with it.
+pub record IsKeptSince (narrow : Bounds) (spread : ℕ) (ahead : List ℕ) (now : Recovery) : Type 0 where
+  pub state : now.state ≡ Following
+  pub once : now.figures.measured ≡ 1
+  pub kept : IsKept now.line.follower now.spread narrow spread ahead
+
 -- No line was found yet, and all of these runs but the first wait to be measured.
 pub record IsWaiting (runs : List ℕ) (now : Recovery) : Type 0 where
   pub unfound : now.found ≡ false
@@ -97,7 +121,7 @@ pub record IsWaiting (runs : List ℕ) (now : Recovery) : Type 0 where
 
 -- What a recovery that begins with no line is, by the samples that came: until there are 256 runs behind the first one,
 -- and none of them was too long, they wait to be measured. If a line can be found in these, one was found; and from these
--- on it is followed, while it is not measured anew.
+-- on it is followed, while it is not measured anew; so it is for as long as the line lasts and fewer samples than 63 cells have wait.
 pub record Awaits (told : Option (List ℕ)) (setting : Setting) (levels left : List Level) (now : Recovery) : Type 0 where
   pub recovered : Recovered told setting levels left now
   pub waits : AreShort (drop 1 (recovered.runs ++ recovered.behind ∷ [])) → length recovered.runs ≤ 256
@@ -110,6 +134,10 @@ pub record Awaits (told : Option (List ℕ)) (setting : Setting) (levels left : 
       → (first : ℕ) (window more : List ℕ) → recovered.runs ≡ first ∷ (window ++ more)
       → AreFindable setting.known window
       → FollowsFrom told setting recovered.level (first ∷ []) window levels left now
+  pub stays : (narrow : Bounds) (spread first : ℕ) (counts window others ahead : List ℕ)
+      → recovered.runs ≡ first ∷ (window ++ others)
+      → IsLastingLine setting.known narrow spread counts window (others ++ ahead)
+      → 65536 * recovered.behind < 63 * narrow.low → IsKeptSince narrow spread ahead now
 
 -- Samples with these levels are a first run and then a capture of the runs of cells `counts`: the first 256 of these are
 -- such as a line can be found in, by how far the edges lie from their places, and none of their runs is too long.
@@ -137,3 +165,22 @@ pub record GivesLine (told : Option (List ℕ)) (setting : Setting) (levels : Li
   pub start : Follower
   pub gives : Gives told setting.begun (first_cells (other (first_level levels)) (first ∷ []) start) now.line
       (line (first_level levels) counts)
+
+-- Samples with these levels are a first run, then a capture of the runs of cells `counts` in whose first 256 runs the line is found,
+-- and which lasts, and then fewer samples than 63 cells have.
+pub record IsLastingBehind (known : Option ℕ) (levels : List Level) (first : ℕ) (counts : List ℕ) : Type 0 where
+  pub window : List ℕ
+  pub more : List ℕ
+  pub behind : ℕ
+  pub runs_are : sample_runs levels ≡ first ∷ (window ++ (more ++ behind ∷ []))
+  pub narrow : Bounds
+  pub spread : ℕ
+  pub line : IsLastingLine known narrow spread counts window more
+  pub alive : 65536 * behind < 63 * narrow.low
+
+-- The line was found in the first of these samples, and is followed; the cells of the first run and then those of `counts` were given.
+pub record KeepsLine (told : Option (List ℕ)) (setting : Setting) (levels : List Level) (first : ℕ) (counts : List ℕ)
+    (now : Recovery) : Type 0 where
+  pub state : now.state ≡ Following
+  pub once : now.figures.measured ≡ 1
+  pub gives : GivesLine told setting levels first counts now

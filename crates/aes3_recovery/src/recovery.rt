@@ -759,6 +759,7 @@ impl Recovery {
         ensures err_count { OnErr result (T.failed sink.new ≡ T.failed sink.old + 1) }
         ensures state { self.new.state ≡ self.old.state }
         ensures measured { self.new.figures.measured ≡ self.old.figures.measured }
+        ensures distance { self.new.spread ≡ self.old.spread }
         ensures keeps { KeepsRuns self.old self.new }
         ensures told { (level : Level) → level_if high ≡ other level
             → IfOk result (λ _. RunsTold T.taken self.old self.new sink.old sink.new level (run ∷ [])) }
@@ -917,6 +918,7 @@ impl Recovery {
         ensures known { self.new.known ≡ self.old.known }
         ensures found { self.new.found ≡ true }
         ensures state { self.new.state ≡ Following }
+        ensures fresh { self.new.spread ≡ 0 }
         ensures once { self.old.figures.measured ≡ 0 → self.new.figures.measured ≡ 1 }
         ensures follower { self.new.line.follower ≡ follower }
         ensures again { self.old.found ≡ true
@@ -964,6 +966,7 @@ impl Recovery {
         ensures err_count { OnErr result (T.failed sink.new ≡ T.failed sink.old + 1) }
         ensures state { self.new.state ≡ self.old.state }
         ensures measured { self.new.figures.measured ≡ self.old.figures.measured }
+        ensures distance { self.new.spread ≡ self.old.spread }
         ensures keeps { KeepsRuns self.old self.new }
         ensures told { (level : Level)
             → level_if self.old.line.edges.high ≡ other (after level (take count self.old.runs))

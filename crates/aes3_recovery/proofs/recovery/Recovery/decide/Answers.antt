@@ -84,7 +84,7 @@ returns-in-Ok-clause-begins g c = λ none was is many setting level done w turns
       measured = c.in-Some.ensures.measured;
       found = λ narrow spread late later place side places cells a allows.
           c.in-Some.ensures.found narrow spread late later place side places cells a allows;
-    }))))
+    }))) (c.release-in-Ok.ensures.distance ∙ begun.fresh))
     (c.release-in-Ok.ensures.told u
     (subst (λ (l : List ℕ). level_if mid.line.edges.high ≡ other (after u (take c.args.count l)))
     (sym begun.runs) (ap (λ e. level_if e.high) begun.edges ∙ turned)))

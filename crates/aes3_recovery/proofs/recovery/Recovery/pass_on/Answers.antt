@@ -18,7 +18,7 @@ returns-in-Ok-clause-awaits g c = λ setting seen a.
     (awaits-gave setting seen c.args.self.now _ c.args.sink.now c.pass_on.new.sink
     (gave-puts c.args.self.now.line c.pass_on.new.self c.args.sink.now c.pass_on.new.sink c.in-Ok.field-0 _
     c.in-Ok.ensures.cells)
-    c.pass_on.ensures.edges c.pass_on.ensures.follower refl refl refl refl refl refl refl a))
+    c.pass_on.ensures.edges c.pass_on.ensures.follower refl refl refl refl refl refl refl refl a))
 
 pub returns-in-Ok-clause-follows : goal.returns-in-Ok-clause-follows
 returns-in-Ok-clause-follows g c = λ begun front first before seen w.

@@ -10,6 +10,7 @@ pub loop-i-init : goal.loop-i-init
 loop-i-init g c = record {
   quiet = refl;
   state = refl;
+  distance = refl;
   keeps = keeps-same c.args.self.now;
   told = λ level e. (
     level-not c.is_high_before-high.result ∙ ap other (c.is_high_before-high.ensures level e),
@@ -31,6 +32,7 @@ loop-i-preserved g c =
     record {
       quiet = c.in-Ok.ensures.count ∙ v.quiet;
       state = c.tell.ensures.state ∙ v.state;
+      distance = c.tell.ensures.distance ∙ v.distance;
       keeps = keeps-chain old mid c.tell.new.self v.keeps c.tell.ensures.keeps;
       told = λ level e.
           let t = v.told level e in (

@@ -37,7 +37,8 @@ loop-run-init g c = record {
       let counted = c.count_samples.ensures in
       rw c.new-piece.ensures
       (awaits-word (g.T.Sink.taken c.args.sink.now) setting seen c.args.len c.args.levels c.args.self.now
-      c.count_samples.new.self counted.others counted.state counted.samples counted.line counted.none counted.begins a);
+      c.count_samples.new.self counted.others counted.state counted.samples counted.line counted.none counted.begins
+      counted.distance a);
   stays = λ narrow spread more w.
       let counted = c.count_samples.ensures in
       let some = w.some in
@@ -178,6 +179,7 @@ loop-run-preserved g c =
           c.next_edge.new.piece c.in-Some.run' c.loop-run.piece.few c.in-Some.ensures.edge
           c.next_edge.ensures.follower c.next_edge.ensures.queue
           (not c.is_high-high.result) (ap not c.is_high-high.ensures) (c.in-Ok.ensures.told follows) f)
+          refl (λ follows narrow spread ahead k. c.in-Ok.ensures.stays follows narrow spread ahead k)
           (c.loop-run.invariant.awaits setting seen a);
       stays = λ narrow spread more w.
           let before = c.loop-run.invariant.stays narrow spread more w in
@@ -271,7 +273,7 @@ returns-clause-awaits g c = λ setting seen a.
           c.loop-run.piece.few c.in_default.ensures.rest c.next_edge.ensures.follower c.next_edge.ensures.queue
           (c.rest.ensures.told is) f,
     ))
-    (c.loop-run.invariant.awaits setting seen a)
+    refl c.rest.ensures.awake (c.loop-run.invariant.awaits setting seen a)
 
 pub returns-clause-finds : goal.returns-clause-finds
 returns-clause-finds g c = λ setting seen first window a b.

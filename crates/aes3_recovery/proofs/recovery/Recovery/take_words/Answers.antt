@@ -143,7 +143,8 @@ returns-in-Ok-clause-awaits g c = λ setting seen w.
     (λ now same once front first before since f.
     returns-in-Ok-clause-follows g c (c.is_quick.ensures.following c.if-not-is_quick.false) now same
     (omega (arith, once)) setting.begun front first before since f)
-    w
+    (λ narrow spread ahead k. c.in-Ok.ensures.stays (c.is_quick.ensures.following c.if-not-is_quick.false) narrow spread ahead k)
+    refl w
 
 pub returns-in-Ok-clause-mean : goal.returns-in-Ok-clause-mean
 returns-in-Ok-clause-mean g c =
