@@ -674,7 +674,7 @@ awaits-joins told setting levels now first window is one b a =
     (sym (other-other a.recovered.level) ∙ ap other a.recovered.first)
     (a.joins is one first window b.more (runs-are told setting levels now a.recovered ∙ b.runs_are) b.findable)
 
-same-last : (xs ys : List ℕ) (x y : ℕ) → xs ++ x ∷ [] ≡ ys ++ y ∷ [] → x ≡ y
+pub same-last : (xs ys : List ℕ) (x y : ℕ) → xs ++ x ∷ [] ≡ ys ++ y ∷ [] → x ≡ y
 same-last [] [] x y e = cc
 same-last [] (b ∷ []) x y e = cc
 same-last [] (b ∷ c ∷ ys) x y e = cc

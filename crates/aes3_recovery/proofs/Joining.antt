@@ -1,6 +1,6 @@
 -- A line that was found gives its cells.
 use Rattle.std.proofs.Common.{ℕ, suc, List, [], ◌∷◌, ◌++◌, ◌≡◌, ◌≤◌, ◌+◌, ◌*◌, Option, length, replicate}
-use Rattle.std.proofs.Common.{sym, ap, ◌∙◌, subst, arith, append-nil, take}
+use Rattle.std.proofs.Common.{Result, Ok, Err, IfOk, sym, ap, ap₂, ◌∙◌, subst, arith, append_assoc, append-nil, take}
 use Rattle.aes3_level.specs.declared.level.Level.{Level}
 use Rattle.aes3_level.specs.declared.level.Level.TheVariants.{Low, High}
 use Rattle.aes3_level.specs.Cells.{line, other}
@@ -11,18 +11,21 @@ use Rattle.aes3_capture.specs.Directions.{IsWider}
 use Rattle.aes3_capture.specs.Following.{Follows}
 use Rattle.aes3_capture.proofs.Counts.{captures-late}
 use Rattle.aes3_capture.proofs.Mirror.{Displaced, displaced-by-numbers, placed-wider}
-use Rattle.aes3_recovery.specs.Beginning.{Awaits, BeginsWith, GivesLine, IsLineBehind}
+use Rattle.aes3_recovery.specs.Beginning.{Awaits, BeginsWith, GivesLine, IsLastingBehind, IsLastingLine, IsLineBehind, KeepsLine}
 use Rattle.aes3_recovery.specs.Finding.{AreCapturedRuns}
 use Rattle.aes3_recovery.specs.LineFollowing.{Gives}
-use Rattle.aes3_recovery.specs.Recovering.{Setting, first_cells, first_level}
+use Rattle.aes3_recovery.specs.Endings.{level_if}
+use Rattle.aes3_recovery.specs.Recovering.{Setting, first_cells, first_level, runs_to_end}
 use Rattle.aes3_recovery.specs.Runs.{runs_behind}
 use Rattle.aes3_recovery.specs.declared.recovery.Recovery.{Recovery}
 use Rattle.aes3_recovery.specs.declared.recovery.State.TheVariants.{Following}
-use Rattle.aes3_recovery.proofs.Awaiting.{awaits-joins}
-use Rattle.aes3_recovery.proofs.Beginning.{heads, tails}
+use Rattle.aes3_recovery.proofs.Awaiting.{awaits-joins, same-last}
+use Rattle.aes3_recovery.proofs.Beginning.{before-last, end-behind, heads, tails}
 use Rattle.aes3_recovery.proofs.Followed.{followed-gives}
 use Rattle.aes3_recovery.proofs.Found.{spreads-first, spreads-wider}
+use Rattle.aes3_recovery.proofs.Lasting.{unasked-allows}
 use Rattle.aes3_recovery.proofs.RunsBehind.{behind-same}
+use Rattle.aes3_recovery.proofs.RunsToEnd.{end-none}
 
 -- a capture begins with one of the first runs
 spreads-front : (bounds : Bounds) (spread late later displaced : ℕ) (counts xs ys : List ℕ)
@@ -135,3 +138,57 @@ joined-gives told setting levels now first counts is one l a =
           (other (other s)) f.since at.first at.second l.displaced counts f.followed follows
           (subst (λ (x : List ℕ). Captures f.start.bounds at.first at.second l.displaced counts x) (sym since) captures));
     }
+
+-- A line that lasts is one.
+pub lasting-line : (known : Option ℕ) (levels : List Level) (first : ℕ) (counts : List ℕ)
+    → IsLastingBehind known levels first counts → IsLineBehind known levels first counts
+lasting-line known levels first counts l =
+    let e = end-behind (first_level levels) 0 levels in
+    record {
+      window = l.window;
+      more = l.more;
+      runs_are = before-last (runs_behind (first_level levels) 0 levels) (first ∷ (l.window ++ l.more)) e.0 l.behind
+          (sym e.1 ∙ l.runs_are ∙ ap (λ x. first ∷ x) (sym (append_assoc l.window l.more (l.behind ∷ []))));
+      long = l.line.long;
+      short = l.line.short;
+      narrow = l.narrow;
+      spread = l.spread;
+      late = l.line.late;
+      later = l.line.later;
+      displaced = l.line.displaced;
+      captured = l.line.captured;
+      place = l.line.place;
+      side = l.line.side;
+      many = l.line.many;
+      findable = l.line.findable;
+      allows = unasked-allows known l.narrow l.line.unasked;
+    }
+
+-- It is found, and followed to the end.
+pub lasting-kept : (told : Option (List ℕ)) (setting : Setting) (levels : List Level) (now : Recovery) (first : ℕ)
+    (counts : List ℕ) → IsLastingBehind setting.known levels first counts → Awaits told setting levels [] now
+    → KeepsLine told setting levels first counts now
+lasting-kept told setting levels now first counts l a =
+    let w = a.recovered in
+    let all : w.runs ++ w.behind ∷ [] ≡ (first ∷ (l.window ++ l.more)) ++ l.behind ∷ []
+    = ap (λ x. w.runs ++ x) (sym (end-none (level_if now.line.edges.high) w.behind)) ∙ sym (w.split [])
+    ∙ ap₂ (λ x y. runs_to_end x 0 y) w.first (append-nil levels) ∙ l.runs_are
+    ∙ ap (λ x. first ∷ x) (sym (append_assoc l.window l.more (l.behind ∷ []))) in
+    let last = same-last w.runs (first ∷ (l.window ++ l.more)) w.behind l.behind all in
+    let runs = before-last w.runs (first ∷ (l.window ++ l.more)) w.behind l.behind all in
+    let alive = l.alive in
+    let kept = a.stays l.narrow l.spread first counts l.window l.more [] runs
+    (subst (λ (x : List ℕ). IsLastingLine setting.known l.narrow l.spread counts l.window x) (sym (append-nil l.more)) l.line)
+    (omega (arith, last, alive)) in
+    record {
+      state = kept.state;
+      once = kept.once;
+      gives = joined-gives told setting levels now first counts kept.state kept.once
+          (lasting-line setting.known levels first counts l) a;
+    }
+
+pub lasting-ok : {R E : Type 0} (r : Result R E) (told : Option (List ℕ)) (setting : Setting) (levels : List Level) (now : Recovery)
+    (first : ℕ) (counts : List ℕ) → IsLastingBehind setting.known levels first counts
+    → IfOk r (λ x. Awaits told setting levels [] now) → IfOk r (λ x. KeepsLine told setting levels first counts now)
+lasting-ok (Ok v) told setting levels now first counts l a = lasting-kept told setting levels now first counts l a
+lasting-ok (Err e) told setting levels now first counts l a = tt

@@ -170,3 +170,20 @@ on-line-ahead old mid new narrow spread levels more runs from behind near runs_a
 pub on-line-none : (now : Recovery) (narrow : Bounds) (spread : ℕ) (ahead : List Level) → IsOnLine narrow spread ahead now
     → StaysOnLine narrow spread ahead now now
 on-line-none now narrow spread ahead w = record { on = w; measured = refl }
+
+-- Cells were passed on, and the line is as it was.
+pub on-line-passed : (old new : Recovery) (narrow : Bounds) (spread : ℕ) (ahead : List Level) → new.line.edges ≡ old.line.edges
+    → new.line.follower ≡ old.line.follower → new.spread ≡ old.spread → new.state ≡ old.state → new.figures ≡ old.figures
+    → IsOnLine narrow spread ahead old → StaysOnLine narrow spread ahead old new
+on-line-passed old new narrow spread ahead edges follower distance state figures w = record {
+  on = record {
+    state = state ∙ w.state;
+    some = let some = w.some in let same = ap (λ f. f.samples) figures in omega (arith, some, same);
+    runs = w.runs;
+    behind = w.behind;
+    runs_are = ap (λ e. runs_to_end (level_if e.high) e.run ahead) edges ∙ w.runs_are;
+    alive = rw follower w.alive;
+    kept = rw (follower, distance) w.kept;
+  };
+  measured = ap (λ f. f.measured) figures;
+}

@@ -3,9 +3,11 @@ use Rattle.std.proofs.Common.{◌≡◌, ◌≤◌, ◌<◌, ◌+◌, ◌^◌, �
 use Rattle.std.proofs.Common.{Ok, Err, IfOk, ◌∷◌, ap, ap₂, sym, subst, refl, arith, append_assoc, append-nil, if◌then◌else◌, ◌∙◌}
 use Rattle.aes3_level.specs.declared.level.Level.{Level}
 use Rattle.aes3_level.specs.Cells.{line, other}
+use Rattle.aes3_capture.specs.declared.bounds.Bounds.{Bounds}
 use Rattle.aes3_capture.specs.declared.follower.Follower.{Follower}
-use Rattle.aes3_recovery.specs.Beginning.{Awaits, IsLineBehind}
+use Rattle.aes3_recovery.specs.Beginning.{Awaits, GivesLine, IsLastingBehind, IsLineBehind}
 use Rattle.aes3_recovery.specs.Endings.{finished}
+use Rattle.aes3_recovery.specs.Keeping.{IsOnLine, StaysOnLine}
 use Rattle.aes3_recovery.specs.LineFollowing.{Followed}
 use Rattle.aes3_recovery.specs.Queues.{Queued, Writes, waiting}
 use Rattle.aes3_recovery.specs.Recovering.{AreRecovered, Recovered, Setting, first_cells, first_level}
@@ -14,7 +16,8 @@ use Rattle.aes3_recovery.specs.declared.recovery.Recovery.{Recovery}
 use Rattle.aes3_recovery.specs.declared.recovery.State.TheVariants.{Following}
 use Rattle.aes3_recovery.proofs.States.{begun-more, following-or, measuring-apart}
 use Rattle.aes3_recovery.proofs.Awaiting.{awaits-finds}
-use Rattle.aes3_recovery.proofs.Joining.{begins-line, joined-gives}
+use Rattle.aes3_recovery.proofs.Joining.{begins-line, joined-gives, lasting-kept}
+use Rattle.aes3_recovery.proofs.OnLineAhead.{on-line-none}
 
 pub took-none : {A : Type 0} (taken : A → Option (List ℕ)) (now : Recovery) (sink : A) → Took taken now now sink sink []
 took-none taken now sink = record {
@@ -25,6 +28,7 @@ took-none taken now sink = record {
   begun = λ none is room. absurd (none is);
   follows = λ was is same room some written front first cell seen w.
       subst (λ (l : List Level). Followed (taken sink) written front now.line first cell l []) (sym (append-nil seen)) w;
+  stays = λ narrow spread more w. on-line-none now narrow spread more w;
 }
 
 pub took-is : {A : Type 0} {taken : A → Option (List ℕ)} {old new : Recovery} {before after : A} {levels all : List Level}
@@ -61,6 +65,11 @@ took-join {A} {taken} {old} {mid} {new} {before} {between} {after} {first} {seco
           (append_assoc seen first second)
           (q.follows follows now (same ∙ sym kept) later (p.some some) written front start cell (seen ++ first)
           (p.follows was follows kept room some written front start cell seen w));
+      stays = λ narrow spread more w.
+          let one = p.stays narrow spread (second ++ more)
+          (subst (λ (l : List Level). IsOnLine narrow spread l old) (append_assoc first second more) w) in
+          let two = q.stays narrow spread more one.on in
+          record { on = two.on; measured = two.measured ∙ one.measured };
     })
 
 -- the same of a recovery and a sink that are what these are
@@ -92,7 +101,34 @@ took-all {A} {taken} {old} {mid} {new} {before} {between} {after} {levels} p q =
       subst (λ (k : List Level). WritesLine (taken after) setting k first counts) (append-nil (seen ++ levels))
       (q.joined is one setting (seen ++ levels) first counts (p.awaits setting seen a)
       (subst (λ (k : List Level). IsLineBehind setting.known k first counts) (sym (append-nil (seen ++ levels))) l));
+  lasts = λ setting seen first counts a l.
+      let end = q.lasts setting (seen ++ levels) first counts (p.awaits setting seen a)
+      (subst (λ (k : List Level). IsLastingBehind setting.known k first counts) (sym (append-nil (seen ++ levels))) l) in
+      (end.0, subst (λ (k : List Level). WritesLine (taken after) setting k first counts) (append-nil (seen ++ levels)) end.1);
 }
+
+-- what a line gave that is followed is written at the end
+given-written : (told told_now : Option (List ℕ)) (setting : Setting) (levels : List Level) (old : Recovery) (first : ℕ)
+    (counts : List ℕ)
+    → (old.found ≡ true → old.count ≡ 0 → (begun : List ℕ) (all : List Level)
+    → Queued told begun old.line.queue.form (waiting old.line.queue) all → Writes told_now begun old.line.queue.form all)
+    → old.state ≡ Following → GivesLine told setting levels first counts old → Awaits told setting levels [] old
+    → WritesLine told_now setting levels first counts
+given-written told told_now setting levels old first counts writes follows g a =
+    let order = a.recovered.stands.holds.order in
+    let none = order.none_wait (λ m. measuring-apart old.state m follows) in
+    let front = first_cells (other (first_level levels)) (first ∷ []) g.start in
+    let cells = line (first_level levels) counts in
+    let w = writes (order.followed follows) none setting.begun (front ++ (cells ++ g.gives.more)) g.gives.queued in
+    record {
+      start = g.start;
+      writes = record {
+        more = g.gives.more ++ w.more;
+        tells = w.tells ∙ ap₂ (λ form x. Some (setting.begun ++ finished form x)) a.recovered.stands.holds.told_is.form_is
+            (ap (λ x. x ++ w.more) (sym (append_assoc front cells g.gives.more))
+            ∙ append_assoc (front ++ cells) g.gives.more w.more);
+      };
+    }
 
 -- a line that was found once, in the first runs, and is followed at the end, was followed before it
 line-written : (told told_now : Option (List ℕ)) (setting : Setting) (levels : List Level) (old new : Recovery) (first : ℕ)
@@ -110,21 +146,8 @@ line-written told told_now setting levels old new first counts up begun writes i
       | inl e ↦ e
       | inr n ↦ let more = begun n is (omega (arith, once)) in absurd (omega (arith, more, once, one))
     ] in
-    let g = joined-gives told setting levels old first counts follows once l a in
-    let order = a.recovered.stands.holds.order in
-    let none = order.none_wait (λ m. measuring-apart old.state m follows) in
-    let front = first_cells (other (first_level levels)) (first ∷ []) g.start in
-    let cells = line (first_level levels) counts in
-    let w = writes (order.followed follows) none setting.begun (front ++ (cells ++ g.gives.more)) g.gives.queued in
-    record {
-      start = g.start;
-      writes = record {
-        more = g.gives.more ++ w.more;
-        tells = w.tells ∙ ap₂ (λ form x. Some (setting.begun ++ finished form x)) a.recovered.stands.holds.told_is.form_is
-            (ap (λ x. x ++ w.more) (sym (append_assoc front cells g.gives.more))
-            ∙ append_assoc (front ++ cells) g.gives.more w.more);
-      };
-    }
+    given-written told told_now setting levels old first counts writes follows
+    (joined-gives told setting levels old first counts follows once l a) a
 
 pub took-end : {A : Type 0} (taken : A → Option (List ℕ)) (old new : Recovery) (before after : A)
     → new.figures.samples ≡ old.figures.samples
@@ -137,8 +160,9 @@ pub took-end : {A : Type 0} (taken : A → Option (List ℕ)) (old new : Recover
     → (old.found ≡ true → old.count ≡ 0 → (begun : List ℕ) (all : List Level)
     → Queued (taken before) begun old.line.queue.form (waiting old.line.queue) all
     → Writes (taken after) begun old.line.queue.form all)
+    → (old.count ≡ 0 → new.figures.measured ≡ old.figures.measured)
     → TookAll taken old new before after []
-took-end taken old new before after same ended up begun writes = record {
+took-end taken old new before after same ended up begun writes kept = record {
   recovered = λ setting seen w. subst (λ (l : List Level). RecoveredAll (taken after) setting l new)
       (sym (append-nil seen))
       (let e = ended setting seen w in
@@ -147,6 +171,14 @@ took-end taken old new before after same ended up begun writes = record {
       subst (λ (k : List Level). WritesLine (taken after) setting k first counts) (sym (append-nil seen))
       (line-written (taken before) (taken after) setting seen old new first counts up begun writes is one a
       (subst (λ (k : List Level). IsLineBehind setting.known k first counts) (append-nil seen) l));
+  lasts = λ setting seen first counts a l.
+      let k = lasting-kept (taken before) setting seen old first counts
+      (subst (λ (k : List Level). IsLastingBehind setting.known k first counts) (append-nil seen) l) a in
+      let none = a.recovered.stands.holds.order.none_wait (λ m. measuring-apart old.state m k.state) in (
+        kept none ∙ k.once,
+        subst (λ (k : List Level). WritesLine (taken after) setting k first counts) (sym (append-nil seen))
+            (given-written (taken before) (taken after) setting seen old first counts writes k.state k.gives a),
+      );
 }
 
 -- a last call that takes samples, where others were taken
@@ -166,8 +198,10 @@ pub took-rest : {A R E : Type 0} {taken : A → Option (List ℕ)} {first : Reco
     → (written : List ℕ) (front : List Level) (start : Follower) (cell : Level) (seen : List Level)
     → Followed (taken before) written front old.line start cell seen []
     → IfOk result (λ x. Followed (taken after) written front new.line start cell (seen ++ own) []))
+    → ((narrow : Bounds) (spread : ℕ) (more : List Level) → IsOnLine narrow spread (own ++ more) old
+    → IfOk result (λ x. StaysOnLine narrow spread more old new))
     → IfOk result (λ x. Took taken first new start after all)
-took-rest (Ok v) old new before after is sum p recovered awaits up some begun follows =
+took-rest (Ok v) old new before after is sum p recovered awaits up some begun follows stays =
     took-join sum p (took-is is (record {
       recovered = recovered;
       awaits = awaits;
@@ -175,8 +209,9 @@ took-rest (Ok v) old new before after is sum p recovered awaits up some begun fo
       some = some;
       begun = begun;
       follows = follows;
+      stays = stays;
     }))
-took-rest (Err e) old new before after is sum p recovered awaits up some begun follows = tt
+took-rest (Err e) old new before after is sum p recovered awaits up some begun follows stays = tt
 
 -- a call that says whether it took samples, of a line that is followed before or not behind
 pub took-some : {A : Type 0} (taken : A → Option (List ℕ)) (old new : Recovery) (before after : A) (levels : List Level)
@@ -192,8 +227,12 @@ pub took-some : {A : Type 0} (taken : A → Option (List ℕ)) (old new : Recove
     → (written : List ℕ) (front : List Level) (first : Follower) (cell : Level) (seen : List Level)
     → Followed (taken before) written front old.line first cell seen []
     → Followed (taken after) written front new.line first cell (if took then seen ++ levels else seen) [])
+    → ((narrow : Bounds) (spread : ℕ) (more : List Level) → IsOnLine narrow spread (levels ++ more) old → took ≡ true
+    → StaysOnLine narrow spread more old new)
+    → ((narrow : Bounds) (spread : ℕ) (more : List Level) → IsOnLine narrow spread more old → took ≡ false
+    → StaysOnLine narrow spread more old new)
     → Took taken old new before after (some_levels took levels)
-took-some taken old new before after levels took recovered awaits up some begun follows = record {
+took-some taken old new before after levels took recovered awaits up some begun follows stays waits = record {
   recovered = λ setting seen w. subst (λ (l : List Level). Recovered (taken after) setting l [] new)
       (some-joined took seen levels) (recovered setting seen w);
   awaits = λ setting seen w. subst (λ (l : List Level). Awaits (taken after) setting l [] new)
@@ -204,7 +243,13 @@ took-some taken old new before after levels took recovered awaits up some begun 
   follows = λ was is same room first-sample written front first cell seen w.
       subst (λ (l : List Level). Followed (taken after) written front new.line first cell l [])
       (some-joined took seen levels) (follows was is same room written front first cell seen w);
+  stays = λ narrow spread more w. by took refl narrow spread more w;
 }
+  where
+    by : (b : Bool) → took ≡ b → (narrow : Bounds) (spread : ℕ) (more : List Level)
+        → IsOnLine narrow spread (some_levels b levels ++ more) old → StaysOnLine narrow spread more old new
+    by true is narrow spread more w = stays narrow spread more w is
+    by false is narrow spread more w = waits narrow spread more w is
 
 -- a call that takes no samples, and keeps how often a line was measured and whether it is followed
 pub took-nothing : {A : Type 0} (taken : A → Option (List ℕ)) (old new : Recovery) (before after : A)
@@ -216,7 +261,10 @@ pub took-nothing : {A : Type 0} (taken : A → Option (List ℕ)) (old new : Rec
     → ((written : List ℕ) (front : List Level) (first : Follower) (cell : Level) (seen : List Level)
     → Followed (taken before) written front old.line first cell seen []
     → Followed (taken after) written front new.line first cell seen [])
+    → ((narrow : Bounds) (spread : ℕ) (more : List Level) → IsOnLine narrow spread more old
+    → StaysOnLine narrow spread more old new)
     → Took taken old new before after []
-took-nothing taken old new before after recovered awaits measured samples state follows =
+took-nothing taken old new before after recovered awaits measured samples state follows stays =
     took-some taken old new before after [] false recovered awaits (omega (arith, measured))
     (λ was. omega (arith, was, samples)) (λ none is. none (sym state ∙ is)) (λ was is same room. follows)
+    (λ narrow spread more w is. stays narrow spread more w) (λ narrow spread more w is. stays narrow spread more w)

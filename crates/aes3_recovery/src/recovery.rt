@@ -137,7 +137,7 @@ impl Recovery {
     ghost use Rattle.aes3_recovery.specs.Runs.{AreCaptured};
     ghost use Rattle.aes3_recovery.specs.LineFollowing.{Followed, Gives, RunTold, SomeTold};
     ghost use Rattle.aes3_recovery.specs.Beginning.{AreFindable, Awaits, Began, BeginsWith, Begun, EndsWith, FollowsFrom, GivesLine};
-    ghost use Rattle.aes3_recovery.specs.Beginning.{IsLineBehind};
+    ghost use Rattle.aes3_recovery.specs.Beginning.{IsLastingBehind, IsLineBehind, KeepsLine};
     ghost use Rattle.aes3_recovery.specs.Recovering.{first_level};
     ghost use Rattle.aes3_recovery.specs.Endings.{finished};
     ghost use Rattle.aes3_recovery.specs.Keeping.{IsKept, IsOnLine, StaysKept, StaysOnLine};
@@ -289,6 +289,13 @@ impl Recovery {
         ensures stays { (narrow : Bounds) (spread : ℕ) (more : List Level)
             → IsOnLine narrow spread (low_cells len levels ++ more) self.old
             → IfOk result (λ _. StaysOnLine narrow spread more self.old self.new) }
+
+        // A line that is found in the first of these samples, and lasts to their end, is followed then, and was measured once.
+        ensures lasts { (setting : Setting) (seen : List Level) (first : ℕ) (counts : List ℕ)
+            → Awaits (T.taken sink.old) setting seen [] self.old
+            → IsLastingBehind setting.known (seen ++ low_cells len levels) first counts
+            → IfOk result (λ _. KeepsLine (T.taken sink.new) setting (seen ++ low_cells len levels) first counts
+            self.new) }
     {
         self.count_samples(levels, len);
         let mut piece = Piece::new(levels, len);
@@ -362,8 +369,9 @@ impl Recovery {
         ensures begun { IfOk result (λ _. self.old.state ≢ Following → self.new.state ≢ Following) }
         ensures stays { (narrow : Bounds) (spread : ℕ) (more : List Level)
             → IsOnLine narrow spread (flat_map word_cells words.now ++ more) self.old
-            → IfOk result (λ taken. StaysOnLine narrow spread
-            (if taken then more else flat_map word_cells words.now ++ more) self.old self.new) }
+            → IfOk result (λ taken. taken ≡ true → StaysOnLine narrow spread more self.old self.new) }
+        ensures leaves { (narrow : Bounds) (spread : ℕ) (more : List Level) → IsOnLine narrow spread more self.old
+            → IfOk result (λ taken. taken ≡ false → StaysOnLine narrow spread more self.old self.new) }
     {
         if self.is_still() {
             return self.take_still(sink, words);
@@ -1119,6 +1127,8 @@ impl Recovery {
         ensures follows { (begun : List ℕ) (front : List Level) (first : Follower) (before : Level) (seen : List Level)
             → Followed (T.taken sink.old) begun front self.old.line first before seen []
             → IfOk result (λ _. Followed (T.taken sink.new) begun front self.new.line first before seen []) }
+        ensures stays { (narrow : Bounds) (spread : ℕ) (more : List Level) → IsOnLine narrow spread more self.old
+            → IfOk result (λ _. StaysOnLine narrow spread more self.old self.new) }
     {
         match self.line.pass_on(sink) {
             Ok(()) => sink.flush(),
@@ -1143,6 +1153,8 @@ impl Recovery {
         ensures up { IfOk result (λ _. self.old.figures.measured ≤ self.new.figures.measured) }
         ensures begun { self.old.state ≢ Following → self.new.state ≡ Following → self.old.figures.measured + 1 < 2 ^ 64
             → IfOk result (λ _. self.old.figures.measured < self.new.figures.measured) }
+
+        ensures kept { self.old.count ≡ 0 → self.new.figures.measured ≡ self.old.figures.measured }
 
         // Where no run waits and a line was found, what was given stands at the beginning of what is written.
         ensures writes { self.old.found ≡ true → self.old.count ≡ 0 → (begun : List ℕ) (all : List Level)
@@ -1176,6 +1188,7 @@ impl Recovery {
             → self.old.figures.measured + 1 < 2 ^ 64
             → self.old.figures.measured < self.new.figures.measured }
         ensures found { count ≡ 0 → self.new.found ≡ self.old.found }
+        ensures kept { count ≡ 0 → self.new.figures.measured ≡ self.old.figures.measured }
         ensures none { count ≡ 0 → self.old.found ≡ true
             → IfOk result (λ _. Gave T.taken self.old.line self.new.line sink.old sink.new []) }
     {

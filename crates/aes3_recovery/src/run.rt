@@ -9,7 +9,7 @@ ghost use Rattle.aes3_level.specs.declared.level.Level.{Level};
 ghost use Rattle.aes3_capture.specs.declared.follower.Follower.{Follower};
 ghost use Rattle.aes3_capture.specs.Captures.{Captures};
 ghost use Rattle.aes3_capture.specs.Following.{Follows};
-ghost use Rattle.aes3_recovery.specs.Beginning.{Awaits, GivesLine, IsLineBehind};
+ghost use Rattle.aes3_recovery.specs.Beginning.{Awaits, GivesLine, IsLastingBehind, IsLineBehind, KeepsLine};
 ghost use Rattle.aes3_recovery.specs.LineFollowing.{Followed, Gives};
 ghost use Rattle.aes3_recovery.specs.Recovering.{Setting};
 ghost use Rattle.aes3_recovery.specs.Runs.{AreCaptured};
@@ -78,6 +78,12 @@ pub fn feed<T: Sink>(
         → Awaits (T.taken sink.old) setting seen [] recovery.old
         → IsLineBehind setting.known (seen ++ levels_of_samples unit piece.now) first counts
         → IfOk result (λ _. GivesLine (T.taken sink.new) setting (seen ++ levels_of_samples unit piece.now) first counts
+        recovery.new) }
+    ensures lasts { bit_of_line unit < bits_of_sample unit
+        → (setting : Setting) (seen : List Level) (first : ℕ) (counts : List ℕ)
+        → Awaits (T.taken sink.old) setting seen [] recovery.old
+        → IsLastingBehind setting.known (seen ++ levels_of_samples unit piece.now) first counts
+        → IfOk result (λ _. KeepsLine (T.taken sink.new) setting (seen ++ levels_of_samples unit piece.now) first counts
         recovery.new) }
 {
     if piece.len() < BLOCK {

@@ -5,3 +5,4 @@ pub returns-in-Ok-clause-took : goal.returns-in-Ok-clause-took
 returns-in-Ok-clause-took g c =
     took-end g.T.Sink.taken c.args.recovery.now c.finish.new.self c.args.sink.now c.finish.new.sink c.finish.ensures.samples
     c.in-Ok.ensures.recovered c.in-Ok.ensures.up c.in-Ok.ensures.begun c.in-Ok.ensures.writes
+    c.finish.ensures.kept

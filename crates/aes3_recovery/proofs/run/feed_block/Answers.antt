@@ -20,7 +20,8 @@ returns-then-branch-clause-took g c =
     (took-some g.T.Sink.taken c.args.recovery.now c.take_words.new.self c.args.sink.now c.take_words.new.sink
     (flat_map word_cells (take count words)) c.in_ok-take_words.field-0
     c.in_ok-take_words.ensures.recovered c.in_ok-take_words.ensures.awaits c.in_ok-take_words.ensures.up
-    c.in_ok-take_words.ensures.some c.in_ok-take_words.ensures.begun c.in_ok-take_words.ensures.follows)
+    c.in_ok-take_words.ensures.some c.in_ok-take_words.ensures.begun c.in_ok-take_words.ensures.follows
+    c.in_ok-take_words.ensures.stays c.in_ok-take_words.ensures.leaves)
 
 pub returns-clause-took : goal.returns-clause-took
 returns-clause-took g c =
@@ -33,7 +34,8 @@ returns-clause-took g c =
           (took-some g.T.Sink.taken c.args.recovery.now w.take_words.new.self c.args.sink.now w.take_words.new.sink
           (flat_map word_cells (take w.words_of-count.result.1 w.words_of-count.result.0)) w.in_ok-take_words.field-0
           w.in_ok-take_words.ensures.recovered w.in_ok-take_words.ensures.awaits w.in_ok-take_words.ensures.up
-          w.in_ok-take_words.ensures.some w.in_ok-take_words.ensures.begun w.in_ok-take_words.ensures.follows))
+          w.in_ok-take_words.ensures.some w.in_ok-take_words.ensures.begun w.in_ok-take_words.ensures.follows
+          w.in_ok-take_words.ensures.stays w.in_ok-take_words.ensures.leaves))
       | else-is_quick+else-is_still w ↦
           took-at w.recovery-is w.sink-is (took-none g.T.Sink.taken c.args.recovery.now c.args.sink.now)
     ] in

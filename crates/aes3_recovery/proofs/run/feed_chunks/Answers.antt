@@ -45,6 +45,7 @@ loop-octets-preserved g c =
             some = c.in_ok-take.ensures.some;
             begun = c.in_ok-take.ensures.begun;
             follows = c.in_ok-take.ensures.follows;
+            stays = c.in_ok-take.ensures.stays;
           }));
     }
 
@@ -73,4 +74,4 @@ returns-clause-took g c =
     (samples.0 ∙ ap (samples_in c.args.unit) long) samples.1 bit are)
     (sym (levels-rest c.args.unit piece at v.within v.places)) (v.took bit)
     c.take-2.ensures.recovered c.take-2.ensures.awaits c.take-2.ensures.up c.take-2.ensures.some c.take-2.ensures.begun
-    c.take-2.ensures.follows
+    c.take-2.ensures.follows c.take-2.ensures.stays

@@ -58,7 +58,7 @@ returns-then-is_due-clause-read g c =
     (none-kept piece (drop (kept + n - k) piece) k none) c.in-Ok-feed_blocks.ensures.took
     (took-nothing g.T.Sink.taken c.feed_blocks.new.recovery c.pass_on.new.self c.feed_blocks.new.sink c.pass_on.new.sink
     c.in-Ok-pass_on.ensures.recovered c.in-Ok-pass_on.ensures.awaits c.pass_on.ensures.measured c.pass_on.ensures.samples
-    c.pass_on.ensures.state c.in-Ok-pass_on.ensures.follows))
+    c.pass_on.ensures.state c.in-Ok-pass_on.ensures.follows c.in-Ok-pass_on.ensures.stays))
     (ap (λ i. take i piece) none)
 
 pub pieces-preserved : goal.pieces-preserved
@@ -101,7 +101,7 @@ pieces-preserved g c =
           c.in-Ok-feed_blocks.ensures.took
           (took-nothing g.T.Sink.taken c.feed_blocks.new.recovery c.pass_on.new.self c.feed_blocks.new.sink c.pass_on.new.sink
           c.in-Ok-pass_on.ensures.recovered c.in-Ok-pass_on.ensures.awaits c.pass_on.ensures.measured c.pass_on.ensures.samples
-          c.pass_on.ensures.state c.in-Ok-pass_on.ensures.follows);
+          c.pass_on.ensures.state c.in-Ok-pass_on.ensures.follows c.in-Ok-pass_on.ensures.stays);
     }
 
 pub returns-clause-read : goal.returns-clause-read

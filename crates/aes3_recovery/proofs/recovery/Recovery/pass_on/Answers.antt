@@ -1,5 +1,6 @@
 use Rattle.std.proofs.Common.{refl}
 use Rattle.aes3_recovery.proofs.Awaiting.{awaits-gave, followed-gave}
+use Rattle.aes3_recovery.proofs.OnLineAhead.{on-line-passed}
 use Rattle.aes3_recovery.proofs.Recovering.{recovered-gave}
 use Rattle.aes3_recovery.proofs.Telling.{gave-puts, ok-const}
 use Rattle.aes3_recovery.proofs.recovery.Recovery.pass_on.Goals as goal
@@ -27,3 +28,8 @@ returns-in-Ok-clause-follows g c = λ begun front first before seen w.
     (gave-puts c.args.self.now.line c.pass_on.new.self c.args.sink.now c.pass_on.new.sink c.in-Ok.field-0 _
     c.in-Ok.ensures.cells)
     c.pass_on.ensures.edges c.pass_on.ensures.follower w))
+
+pub returns-in-Ok-clause-stays : goal.returns-in-Ok-clause-stays
+returns-in-Ok-clause-stays g c = λ narrow spread more w.
+    ok-const c.flush.result _
+    (on-line-passed c.args.self.now _ narrow spread more c.pass_on.ensures.edges c.pass_on.ensures.follower refl refl refl w)

@@ -6,7 +6,7 @@ use Rattle.aes3_recovery.proofs.Awaiting.{awaits-edge, awaits-finds, awaits-join
 use Rattle.aes3_recovery.proofs.Telling.{ok-const, ok-map}
 use Rattle.aes3_recovery.proofs.Beginning.{began-edge, began-ok, began-on, found-or, none-measured, none-or, not-begun, not-both}
 use Rattle.aes3_recovery.proofs.Followed.{captured-late, followed-begins, followed-edge, followed-rest, gives-ok}
-use Rattle.aes3_recovery.proofs.Joining.{joined-gives}
+use Rattle.aes3_recovery.proofs.Joining.{joined-gives, lasting-ok}
 use Rattle.aes3_recovery.proofs.OnLine.{on-line-edge, on-line-end, on-line-same}
 use Rattle.aes3_recovery.proofs.Recovering.{recovered-edge, recovered-rest-ok, recovered-word, turned-ended}
 use Rattle.aes3_recovery.proofs.States.{begun-more, following-or}
@@ -326,3 +326,8 @@ returns-clause-stays g c = λ narrow spread more w.
     on-line-end c.rest.result c.args.self.now c.loop-run.self _ c.rest.new.self c.loop-run.piece narrow spread more
     c.loop-run.piece.few c.in_default.ensures.rest c.next_edge.ensures.follower refl refl refl c.rest.ensures.awake
     (c.loop-run.invariant.stays narrow spread more w)
+
+pub returns-clause-lasts : goal.returns-clause-lasts
+returns-clause-lasts g c = λ setting seen first counts a l.
+    lasting-ok c.rest.result (g.T.Sink.taken c.rest.new.sink) setting (seen ++ low_cells c.args.len c.args.levels) c.rest.new.self
+    first counts l (returns-clause-awaits g c setting seen a)

@@ -162,7 +162,7 @@ returns-in-Ok-clause-late g c =
     later narrow above below s o captured) taken
 
 pub returns-in-Ok-clause-stays : goal.returns-in-Ok-clause-stays
-returns-in-Ok-clause-stays g c = λ narrow spread more w.
+returns-in-Ok-clause-stays g c = λ narrow spread more w taken.
     let old = c.args.self.now in
     let levels = flat_map word_cells c.args.words.now in
     let count = c.find-count.result in
