@@ -390,11 +390,13 @@ AES3_SIZE(aes3_capture, 80);
 
 /*
  * Recovers the cells of a line from all samples of a capture, in `count` octets: of `unit` octets a
- * sample, 1 or 2, the lower first, of which bit `bit` is the line, 0 to 7 or 0 to 15. A cell is
+ * sample, 1 or 2, the lower first, of which bit `bit` is the line, 0 to 7 or 0 to 15. Any `unit` but 2
+ * counts as 1, and of a `bit` past the last its remainder by 8 or 16. A cell is
  * `period` 65,536ths of a sample, 132,096 to 524,288,000 (2.015625 to 8,000 samples); where that is 0
  * it is measured, within the same limits. Puts the cells into cells[], packed as `aes3-cells
  * --packed-out` writes them, and what was found into *found. Answers whether they all fitted into the
- * `room` octets; where not, a front of them stands there. A quarter of `count`, and 64 octets, are
+ * `room` octets. If not, cells[] has the first `room` of these octets, and *found the figures of all
+ * samples. cells[] is unchanged after found->octets octets. A quarter of `count`, and 64 octets, are
  * room enough for any samples.
  *
  * Where found->measured is 0, no line was found. If `period` is 0 or outside its limits, there are no

@@ -350,6 +350,7 @@ static void captures(void) {
     memset(packed, 0x5A, sizeof packed);
     WANT(!aes3_capture_cells(octets, 2 * SAMPLES, 2, 9, 0, packed, 100, &found));
     WANT(found.octets == 100 && memcmp(packed, wanted, 100) == 0 && packed[100] == 0x5A);
+    WANT(found.samples == SAMPLES && found.cells == CELLS && found.measured == 1);
     WANT(aes3_capture_cells(octets, 2 * SAMPLES, 2, 0, 0, packed, sizeof packed, &found));
     WANT(found.measured == 0 && found.period == 0);
     WANT(aes3_capture_cells(octets, 0, 1, 0, 0, packed, 1, &found) && found.samples == 0 && found.cells == 0);

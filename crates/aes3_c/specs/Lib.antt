@@ -5,4 +5,6 @@ pub mod Consumer
 pub mod Octets
 pub mod Taking
 pub mod Room
+pub mod Putting
+pub mod Capturing
 pub mod Accounts

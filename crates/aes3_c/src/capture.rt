@@ -1,6 +1,7 @@
 //! The cells of captures.
 
-ghost use Rattle.std.specs.Prelude.{◌≡◌, ◌≤◌, length};
+ghost use Rattle.std.specs.Prelude.{◌≤◌, length};
+ghost use Rattle.aes3_c.specs.Capturing.{IsCaptured};
 
 use crate::recovering::recover_into;
 
@@ -33,10 +34,12 @@ const _: () = prove!(size_of::<Aes3Capture>() == 80);
 const _: () = prove!(align_of::<Aes3Capture>() == 8);
 
 /// Recovers the cells of a line from all samples of a capture, of `unit` octets each, 1 or 2, the
-/// lower first, in whose bit `bit` the line is. A cell is `period` 65,536ths of a sample, or is
-/// measured where that is 0. Puts the packed cells, and what was found. Answers whether there was
-/// room for all of them; else a front of them stands there. Where no line was found there are no
-/// cells, or with a period those of that alone, which no measurement confirmed.
+/// lower first, in whose bit `bit` the line is. Any other `unit` than 2 is 1, and of a `bit` past the
+/// last its remainder by 8 or 16 counts. A cell is `period` 65,536ths of a sample, or is measured
+/// where that is 0. Puts the packed cells, and what was found. Answers whether there was room for all
+/// of them; else a front of them stands there, and what was found is that of all samples. Where no
+/// line was found there are no cells, or with a period those of that alone, which no measurement
+/// confirmed.
 #[unsafe(no_mangle)]
 pub extern "C" fn aes3_capture_cells(
     samples: &[u8],
@@ -47,6 +50,7 @@ pub extern "C" fn aes3_capture_cells(
     found: &mut Aes3Capture,
 ) -> bool
     ensures within { found.new.octets ≤ length cells.new }
+    ensures captured { IsCaptured unit bit period samples.now cells.old cells.new found.new result }
 {
     recover_into(samples, unit, bit, period, cells, found)
 }

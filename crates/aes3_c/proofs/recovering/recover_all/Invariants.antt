@@ -1,8 +1,16 @@
-use Rattle.std.proofs.Common.{◌≡◌}
+use Rattle.std.proofs.Common.{◌≡◌, ◌-◌, ◌%◌, ◌<◌, ◌≤◌, length, take}
+use Rattle.aes3_recovery.specs.Levels.{bit_of_line, bits_of_sample, levels_of_samples}
+use Rattle.aes3_recovery.specs.Taking.{Took}
 use Rattle.aes3_c.proofs.recovering.recover_all.Given as goal
 
 abbrev pub invariant-loop-piece : goal.invariant-loop-piece
-invariant-loop-piece l =
-    (goal.iterator-loop-piece).can_next l.piece-iterator
-    × (goal.iterator-loop-piece).is_finite l.piece-iterator
-    × (l.sink.failures ≡ 0)
+invariant-loop-piece g l = record {
+  within : l.at ≤ length l.samples;
+  places : l.at % 64 ≡ 0;
+  quiet : g.T.Sink.failed l.sink ≡ g.T.Sink.failed l.fn.sink;
+  took : bit_of_line l.fn.unit < bits_of_sample l.fn.unit → Took g.T.Sink.taken l.fn.recovery l.recovery l.fn.sink l.sink
+      (levels_of_samples l.fn.unit (take l.at l.samples));
+}
+
+abbrev pub decreases-loop-piece : goal.decreases-loop-piece
+decreases-loop-piece g l = length l.samples - l.at
