@@ -6,7 +6,7 @@ use Rattle.std.specs.Prelude.{unwrap_or}
 use Rattle.std.proofs.lemmas.List.{drop_at, take_at}
 use Rattle.aes3_level.specs.declared.level.Level.{Level}
 use Rattle.aes3_cell.specs.declared.form.Form.TheVariants.{Packed}
-use Rattle.aes3_recovery.specs.Beginning.{Awaits, BeginsWith, IsLineBehind}
+use Rattle.aes3_recovery.specs.Beginning.{Awaits, BeginsWith, IsLastingBehind, IsLineBehind}
 use Rattle.aes3_recovery.specs.Endings.{finished}
 use Rattle.aes3_recovery.specs.Levels.{bit_of_line, bits_of_sample, levels_of_samples}
 use Rattle.aes3_recovery.specs.Queues.{Queued, Writes, waiting}
@@ -45,15 +45,16 @@ pub ran-over : {A R E : Type 0} {taken : A → Option (List ℕ)} {first : Recov
     → (old.found ≡ true → old.count ≡ 0 → (begun : List ℕ) (all : List Level)
     → Queued (taken before) begun old.line.queue.form (waiting old.line.queue) all
     → IfOk result (λ x. Writes (taken after) begun old.line.queue.form all))
+    → (old.count ≡ 0 → new.figures.measured ≡ old.figures.measured)
     → IfOk result (λ x. RanOver taken first new start after levels)
-ran-over {A} {R} {E} {taken} {first} {start} {levels} (Ok v) old new before after p samples recovered up begun writes =
+ran-over {A} {R} {E} {taken} {first} {start} {levels} (Ok v) old new before after p samples recovered up begun writes kept =
     record {
-      took = took-all p (took-end taken old new before after samples recovered up begun writes);
+      took = took-all p (took-end taken old new before after samples recovered up begun writes kept);
       finds = λ setting seen first window a b.
           let some = awaits-finds (taken before) setting (seen ++ levels) old first window b (p.awaits setting seen a) in
           omega (arith, some, up);
     }
-ran-over (Err e) old new before after p samples recovered up begun writes = tt
+ran-over (Err e) old new before after p samples recovered up begun writes kept = tt
 
 -- a call that would have told a fault, had there been one
 pub ok-unless : {R E : Type 0} {P : Type 0} (result : Result R E) → OnErr result (0 ≡ 0 + 1) → IfOk result (λ x. P) → P
@@ -133,6 +134,19 @@ module _ (period : ℕ) (levels : List Level) (old now : Recovery) (s t : RoomSi
                       (sym (same-some _ _ r.tells) ∙ same-some _ _ w.writes.tells));
                 };
               };
+          lasts = λ is first counts l.
+              let w = ran.took.lasts setting [] first counts (await is)
+              (subst (λ (k : Option ℕ). IsLastingBehind k levels first counts) (sym (none is)) l) in (
+                w.0,
+                record {
+                  start = w.1.start;
+                  writes = record {
+                    more = w.1.writes.more;
+                    tells = ap Some (same-behind (lent_to s) octets _
+                        (sym (same-some _ _ r.tells) ∙ same-some _ _ w.1.writes.tells));
+                  };
+                },
+              );
         };
         same = same-sink s t octets (same-some _ _ r.tells);
       }

@@ -2,7 +2,7 @@
 use Rattle.std.specs.Prelude.{ℕ, List, [], ◌++◌, ◌≡◌, ◌≤◌, ◌%◌, ◌==◌, ◌↔◌, Bool, IsTrue, Option, None, Some, true, cond, length, min}
 use Rattle.aes3_level.specs.declared.level.Level.{Level}
 use Rattle.aes3_cell.specs.declared.form.Form.TheVariants.{Packed}
-use Rattle.aes3_recovery.specs.Beginning.{Awaits, BeginsWith, IsLineBehind}
+use Rattle.aes3_recovery.specs.Beginning.{Awaits, BeginsWith, IsLastingBehind, IsLineBehind}
 use Rattle.aes3_recovery.specs.Levels.{levels_of_samples}
 use Rattle.aes3_recovery.specs.Recovering.{Setting}
 use Rattle.aes3_recovery.specs.Taking.{RecoveredAll, TookAll, WritesLine}
@@ -37,13 +37,15 @@ pub record RanOver {A : Type 0} (taken : A → Option (List ℕ)) (old new : Rec
 
 -- These octets are what a recovery writes of samples with these levels, packed, at their end: the cells of each run of
 -- samples, once and in its order. If no period is asked for, and 256 runs behind the first one are a capture in which a
--- line can be found, one is found. Where it was measured once and is followed at the end, they are its cells.
+-- line can be found, one is found. Where it was measured once and is followed at the end, they are its cells; so it is if the line lasts.
 pub record AreCellsOf (period : ℕ) (levels : List Level) (octets : List ℕ) (now : Recovery) : Type 0 where
   pub recovered : RecoveredAll (Some octets) (packed_by period) levels now
   pub finds : period ≡ 0 → (first : ℕ) (window : List ℕ) → BeginsWith None levels first window
       → 1 ≤ now.figures.measured
   pub joined : period ≡ 0 → now.state ≡ Following → now.figures.measured ≡ 1 → (first : ℕ) (counts : List ℕ)
       → IsLineBehind None levels first counts → WritesLine (Some octets) (packed_by period) levels first counts
+  pub lasts : period ≡ 0 → (first : ℕ) (counts : List ℕ) → IsLastingBehind None levels first counts
+      → (now.figures.measured ≡ 1) × WritesLine (Some octets) (packed_by period) levels first counts
 
 -- the figures of a recovery, as the caller has them
 pub record AreFigures (found : Aes3Capture) (now : Recovery) : Type 0 where

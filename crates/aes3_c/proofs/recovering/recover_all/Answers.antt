@@ -43,3 +43,4 @@ returns-clause-ran g c =
     (took-join (sym (levels-rest c.args.unit samples at v.within v.places)) (v.took bit)
     (took-is (ap (levels_of_samples c.args.unit) (take_rest samples at)) (c.in_ok-feed-2.ensures.took bit)))
     c.finish.ensures.samples c.finish.ensures.recovered c.finish.ensures.up c.finish.ensures.begun c.finish.ensures.writes
+    c.finish.ensures.kept
