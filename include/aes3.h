@@ -20,7 +20,7 @@
  *
  * Stack in bytes that a call used (examples/c/stack.c, x86-64): aes3_lock_push 5,064,
  * aes3_lock_finish 4,792, aes3_lock_take_octets 3,976, aes3_lock_take_cells 3,432,
- * aes3_lock_take_words 3,304, aes3_capture_cells 5,480, aes3_block_of_samples 3,096,
+ * aes3_lock_take_words 3,304, aes3_capture_cells 5,408, aes3_block_of_samples 3,096,
  * aes3_block_status, aes3_block_validity and aes3_block_user 1,592, aes3_encode_block,
  * aes3_block_set_status and its kin 1,576, aes3_lock_block and aes3_block_samples 1,560,
  * aes3_status_text 1,304, each other 70 at most.
