@@ -24,9 +24,10 @@ pub returns-in-Ok-clause-stays : goal.returns-in-Ok-clause-stays
 returns-in-Ok-clause-stays g c = λ is narrow spread ahead k.
     let old = c.args.self.now in
     let told = c.in-Ok.ensures.told in
-    stays-noted old _ c.note.new.self c.args.run told.cells narrow spread ahead is
+    let kept = stays-noted old _ c.note.new.self c.args.run told.cells narrow spread ahead is
     (subst (λ (l : LineFollower). Counted old.line.follower c.args.run told.cells l.follower) (sym c.note.ensures.line) told.counted)
-    c.note.ensures.noted refl refl refl k
+    c.note.ensures.noted refl refl refl k in
+    search kept
 
 pub returns-in-Err-clause-told : goal.returns-in-Err-clause-told
 returns-in-Err-clause-told g c = search (rules, c.in-Err.ensures.told)
