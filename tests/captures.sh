@@ -2,7 +2,7 @@
 # tests/captures.sh [PROGRAM [AES3]]: aes3-cells on captures made by an encoder of another hand (captures/line.py), and by ALSA and
 # sigrok where they are installed: how many whole blocks come back, each as it was sent; lines late, in another bit, in sixteen
 # channels; what is refused; that cells leave before it waits; runs that are no line (captures/hostile.py). PROGRAM is the one
-# that bin/build aes3_cells leaves, AES3 that of bin/build.
+# that bin/build aes3_cells_program leaves, AES3 that of bin/build.
 #
 # The last line is `N passed, M failed`, and the status 0 where none failed.
 
@@ -10,7 +10,7 @@ root=$(dirname "$(dirname "$(realpath "$0")")")
 # shellcheck source=examples/words.sh
 . "$root/examples/words.sh"
 take_words 0 2 "$@"
-program=$(realpath -m "${1:-$root/crates/aes3_cells/out/aes3_cells}")
+program=$(realpath -m "${1:-$root/crates/aes3_cells_program/out/aes3_cells_program}")
 aes3=$(realpath -m "${2:-$root/crates/aes3/out/aes3}")
 here=$root/tests/captures
 # shellcheck source=tests/judging.sh
@@ -19,7 +19,7 @@ leave_out() {
     echo "left out: $1 ($2)"
     [ -z "${3-}" ] || tell
 }
-[ -x "$program" ] || leave_out "tests/captures.sh" "there is no aes3-cells: bin/build aes3_cells" all
+[ -x "$program" ] || leave_out "tests/captures.sh" "there is no aes3-cells: bin/build aes3_cells_program" all
 for python in python3 /usr/bin/python3 none; do
     "$python" -c 'import numpy' 2>/dev/null && break
 done

@@ -79,10 +79,10 @@ rmdir "$crates/aes3/specs"
 judge "a part gone that nothing else was in" says "$ran" "$tree/bin/aes3" a b
 echo >>"$tree/crates.txt"
 once "an edit of crates.txt"
-touch "$crates/aes3_workloads/src/lib.rt" "$crates/aes3_cells/src/main.rt" "$tree/README.md"
+touch "$crates/aes3_workloads/src/lib.rt" "$crates/aes3_cells_program/src/main.rt" "$tree/README.md"
 judge "an edit of what it does not stand on" says "$ran" "$tree/bin/aes3" a b
 
-for each in cells=aes3_cells spoil=aes3_spoil_program; do
+for each in cells=aes3_cells_program spoil=aes3_spoil_program; do
     judge "bin/aes3-${each%=*}" says "built ${each#*=}
 $ran" "$tree/bin/aes3-${each%=*}" a b
     judge "bin/aes3-${each%=*}, built" says "$ran" "$tree/bin/aes3-${each%=*}" a b
@@ -131,7 +131,7 @@ mkdir "$work/tools"
 for tool in sh awk dirname find mv realpath sed tr; do ln -s "$(command -v $tool)" "$work/tools/$tool"; done
 judge "no toolchain, an old program" ends_with 7 env PATH="$work/tools" bin/aes3
 judge "it warns" grep -q '^bin/aes3: warning: ' "$work/got"
-rm "$crates/aes3_cells/out/aes3_cells"
+rm "$crates/aes3_cells_program/out/aes3_cells_program"
 judge "no toolchain, no program" ends_with 127 env PATH="$work/tools" bin/aes3-cells
 judge "it says so" grep -q '^bin/aes3-cells: the program must be built' "$work/got"
 printf '#!/bin/sh\nexit 1\n' >bin/build

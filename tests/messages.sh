@@ -2,7 +2,7 @@
 # tests/messages.sh [PROGRAM [CELLS [SPOIL]]]: what aes3, aes3-cells and aes3-spoil tell of words that they don't take, with the usage of the
 # command, and where an input looks like another form than it was read in: with the option that reads it, where a FILE is named, and nothing
 # but the refusal where none is; samples that look like another width, and none of the declared width that do. PROGRAM is the one that
-# bin/build leaves, CELLS that of bin/build aes3_cells, SPOIL that of bin/build aes3_spoil_program.
+# bin/build leaves, CELLS that of bin/build aes3_cells_program, SPOIL that of bin/build aes3_spoil_program.
 #
 # The last line is `N passed, M failed`, and the status 0 where none failed.
 
@@ -11,7 +11,7 @@ root=$(dirname "$(dirname "$(realpath "$0")")")
 . "$root/examples/words.sh"
 take_words 0 3 "$@"
 aes3=$(realpath -m "${1:-$root/crates/aes3/out/aes3}")
-cells=$(realpath -m "${2:-$root/crates/aes3_cells/out/aes3_cells}")
+cells=$(realpath -m "${2:-$root/crates/aes3_cells_program/out/aes3_cells_program}")
 spoil=$(realpath -m "${3:-$root/crates/aes3_spoil_program/out/aes3_spoil_program}")
 # shellcheck source=tests/judging.sh
 . "$root/tests/judging.sh"
@@ -224,7 +224,7 @@ if [ -x "$cells" ]; then
     judge "aes3-cells: packed cells, turned" told 1 "aes3-cells: these are packed cells already: \`aes3 check --packed-in --lsb-first FILE\` reads them
 " "$cells" line.lsb
 else
-    echo "left out: aes3-cells (it is not built: bin/build aes3_cells)"
+    echo "left out: aes3-cells (it is not built: bin/build aes3_cells_program)"
 fi
 if [ -x "$spoil" ]; then
     usage="aes3-spoil [OPTIONS] [FILE] > CELLS"

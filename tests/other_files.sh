@@ -1,7 +1,7 @@
 #!/bin/sh
 # tests/other_files.sh [PROGRAM [CELLS]]: files of other kinds, as a person gives them by mistake: sound files of all common kinds, as sox and ffmpeg
 # write them, given to `aes3 from-pcm`, and these, value change dumps, tables, archives, programs and cells given to aes3-cells. Each is refused, and
-# nothing is written. PROGRAM is the one that bin/build leaves, CELLS that of bin/build aes3_cells.
+# nothing is written. PROGRAM is the one that bin/build leaves, CELLS that of bin/build aes3_cells_program.
 #
 # The last line is `N passed, M failed`, and the status 0 where none failed.
 
@@ -10,7 +10,7 @@ root=$(dirname "$(dirname "$(realpath "$0")")")
 . "$root/examples/words.sh"
 take_words 0 2 "$@"
 program=$(realpath -m "${1:-$root/crates/aes3/out/aes3}")
-cells=$(realpath -m "${2:-$root/crates/aes3_cells/out/aes3_cells}")
+cells=$(realpath -m "${2:-$root/crates/aes3_cells_program/out/aes3_cells_program}")
 # shellcheck source=tests/judging.sh
 . "$root/tests/judging.sh"
 cd "$work" || exit 2
@@ -71,7 +71,7 @@ judge "less than a head is samples" eval '"$program" from-pcm shorter >out 2>sai
 { head -c 1536 /dev/zero; printf 'fLaC1234567890123456'; } | head -c 1544 >later
 judge "a head in the second block is samples" eval '"$program" from-pcm later >out 2>said_why && [ "$(wc -c <out)" = 3072 ]'
 
-[ -x "$cells" ] || { echo "left out: what is no capture (there is no aes3-cells: bin/build aes3_cells)"; tell; }
+[ -x "$cells" ] || { echo "left out: what is no capture (there is no aes3-cells: bin/build aes3_cells_program)"; tell; }
 printf '$date Fri $end\n$timescale 1 ns $end\n$scope module top $end\n$var wire 1 ! D0 $end\n$upscope $end\n$enddefinitions $end\n#0\n0!\n' >capture.vcd
 yes '#10
 1!' | head -n 20000 >>capture.vcd

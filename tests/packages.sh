@@ -138,7 +138,7 @@ if inside "command -v aes3-cells" >/dev/null; then
         examples/neighbours/samples.py 3.90625 0.3 <line.txt >samples.bin
         ./capture <samples.bin >got.packed && aes3-cells --packed-out <samples.bin >want.cells && cmp got.packed want.cells'
 else
-    echo "left out: a capture in C, in a root of its own (no aes3-cells was built: bin/build aes3_cells)"
+    echo "left out: a capture in C, in a root of its own (no aes3-cells was built: bin/build aes3_cells_program)"
 fi
 judge "a program in C++" inside 'c++ -std=c++11 -o checkpp src/check.cpp $(pkg-config --cflags --libs aes3)'
 judge "a program in C++, run" tells_packed ./checkpp

@@ -18,7 +18,7 @@ root=$(dirname "$(dirname "$(realpath "$0")")")
 . "$root/examples/words.sh"
 take_words 1 100 "$@"
 program=$(realpath "$1") || exit 2
-cells=$(realpath -m "${CELLS:-$root/crates/aes3_cells/out/aes3_cells}")
+cells=$(realpath -m "${CELLS:-$root/crates/aes3_cells_program/out/aes3_cells_program}")
 spoil=$(realpath -m "${SPOIL:-$root/crates/aes3_spoil_program/out/aes3_spoil_program}")
 shift
 [ $# -gt 0 ] || set -- "$root/README.md" "$root/docs/TUTORIAL.md" "$root/docs/COMMANDS.md"

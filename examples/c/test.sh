@@ -57,7 +57,7 @@ status=85022c0000004a4154480000000000000000000000000000
 "$program" from-pcm --status1 $status --status2 $status --mend-check <speech.s32 >speech.want
 
 # Samples of the line with jitter, in an octet each and in two, and what aes3-cells makes of them.
-recover=$here/../../crates/aes3_cells/out/aes3_cells
+recover=$here/../../crates/aes3_cells_program/out/aes3_cells_program
 if [ -x "$recover" ] && command -v python3 >/dev/null; then
     head -c 2000000 line.txt | "$here/../neighbours/samples.py" 3.90625 0.3 >capture.samples
     python3 -c 'import sys; sys.stdout.buffer.write(b"".join(bytes([0x55, it << 3]) for it in sys.stdin.buffer.read()))' \
@@ -65,7 +65,7 @@ if [ -x "$recover" ] && command -v python3 >/dev/null; then
     "$recover" --packed-out <capture.samples >capture.want 2>/dev/null
     "$recover" --packed-out --unit 2 --bit 11 <wide.samples >wide.want 2>/dev/null
 else
-    echo "left out: captures beside aes3-cells (bin/build aes3_cells makes it, and python3 the samples)"
+    echo "left out: captures beside aes3-cells (bin/build aes3_cells_program makes it, and python3 the samples)"
 fi
 
 # The lines of gaps.c, on each input.

@@ -7,7 +7,7 @@ import subprocess
 from checks.expected import ROOT
 from checks.lines import SHOWN
 
-CELLS = f"{ROOT}/crates/aes3_cells/out/aes3_cells"
+CELLS = f"{ROOT}/crates/aes3_cells_program/out/aes3_cells_program"
 
 
 def captures(program):
@@ -37,7 +37,7 @@ def recovered(path, unit, channel):
 def compare_captures(compare, browser, program, folder):
     """How many captures were compared; None where there is no program to compare with."""
     if not os.access(CELLS, os.X_OK):
-        print("left out: captures on the page (bin/build aes3_cells makes aes3-cells)")
+        print("left out: captures on the page (bin/build aes3_cells_program makes aes3-cells)")
         return None
     count = 0
     for name, samples, unit, channel in captures(program):

@@ -7,13 +7,13 @@ mod recognised;
 
 ghost use Rattle.std.specs.Prelude.{◌+◌, ◌<◌, ◌^◌, ◌≡◌, IfErr};
 
-use aes3_arguments::{file_of_line, line_of_words};
 use aes3_cell::{BufferedSink, Sink, StdSink, StdSource};
+use aes3_cli_arguments::{file_of_line, line_of_words};
+use aes3_cli_hints::{Hints, Terminals};
+use aes3_cli_progress::Clearing;
 use aes3_files::{Input, Preview};
-use aes3_hints::{Hints, Terminals};
-use aes3_progress::Clearing;
-use aes3_runner::Unread;
-use aes3_terminal::{report_unread, run_and_explain};
+use aes3_program::Unread;
+use aes3_program_terminal::{report_unread, run_and_explain};
 use recognised::recognise;
 use std::cell::Cell;
 use std::env;

@@ -2,10 +2,10 @@
 
 ghost use Rattle.std.specs.Prelude.{◌≡◌, IfErr, IfOk};
 
-use aes3_arguments::{CommandLine, LineFault};
 use aes3_cell::Form;
+use aes3_cli_arguments::{CommandLine, LineFault};
+use aes3_cli_jobs::{Job, ReadWork};
 use aes3_files::{FileKind, Preview, are_turned};
-use aes3_job::{Job, ReadWork};
 use std::alloc::AllocError;
 use std::io::Read;
 

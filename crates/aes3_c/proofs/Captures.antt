@@ -6,17 +6,17 @@ use Rattle.std.specs.Prelude.{unwrap_or}
 use Rattle.std.proofs.lemmas.List.{drop_at, take_at}
 use Rattle.aes3_level.specs.declared.level.Level.{Level}
 use Rattle.aes3_cell.specs.declared.form.Form.TheVariants.{Packed}
-use Rattle.aes3_recovery.specs.Beginning.{Awaits, BeginsWith, IsLastingBehind, IsLineBehind}
-use Rattle.aes3_recovery.specs.Endings.{finished}
-use Rattle.aes3_recovery.specs.Levels.{bit_of_line, bits_of_sample, levels_of_samples}
-use Rattle.aes3_recovery.specs.Queues.{Queued, Writes, waiting}
-use Rattle.aes3_recovery.specs.Recovering.{AreRecovered, Recovered, Setting}
-use Rattle.aes3_recovery.specs.Taking.{Took}
-use Rattle.aes3_recovery.specs.declared.levels.Unit.TheVariants.{Octets, Pairs}
-use Rattle.aes3_recovery.specs.declared.recovery.Recovery.{Recovery}
-use Rattle.aes3_recovery.specs.declared.recovery.State.TheVariants.{Following}
-use Rattle.aes3_recovery.proofs.Awaiting.{awaits-finds}
-use Rattle.aes3_recovery.proofs.Taking.{took-all, took-end}
+use Rattle.aes3_capture_recovery.specs.Beginning.{Awaits, BeginsWith, IsLastingBehind, IsLineBehind}
+use Rattle.aes3_capture_recovery.specs.Endings.{finished}
+use Rattle.aes3_capture_recovery.specs.Levels.{bit_of_line, bits_of_sample, levels_of_samples}
+use Rattle.aes3_capture_recovery.specs.Queues.{Queued, Writes, waiting}
+use Rattle.aes3_capture_recovery.specs.Recovering.{AreRecovered, Recovered, Setting}
+use Rattle.aes3_capture_recovery.specs.Taking.{Took}
+use Rattle.aes3_capture_recovery.specs.declared.levels.Unit.TheVariants.{Octets, Pairs}
+use Rattle.aes3_capture_recovery.specs.declared.recovery.Recovery.{Recovery}
+use Rattle.aes3_capture_recovery.specs.declared.recovery.State.TheVariants.{Following}
+use Rattle.aes3_capture_recovery.proofs.Awaiting.{awaits-finds}
+use Rattle.aes3_capture_recovery.proofs.Taking.{took-all, took-end}
 use Rattle.aes3_c.specs.Capturing.{AreCellsOf, AreFigures, IsCaptured, RanOver, period_of, unit_of}
 use Rattle.aes3_c.specs.Putting.{put_into}
 use Rattle.aes3_c.specs.Room.{lent_to, taken_in}

@@ -5,9 +5,9 @@ use Rattle.std.proofs.lemmas.Option.{none-some}
 use Rattle.aes3_level.specs.declared.level.Level.{Level}
 use Rattle.aes3_lock.specs.declared.report.Ending.{Ending}
 use Rattle.aes3_lock.specs.declared.report.Report.{Report}
-use Rattle.aes3_gaps.specs.declared.account.Account.{Account}
-use Rattle.aes3_gaps.specs.Gaps.{Entry, reported}
-use Rattle.aes3_gaps.specs.Told.{Tells, report_with}
+use Rattle.aes3_lock_gaps.specs.declared.account.Account.{Account}
+use Rattle.aes3_lock_gaps.specs.Gaps.{Entry, reported}
+use Rattle.aes3_lock_gaps.specs.Told.{Tells, report_with}
 use Rattle.aes3_c.specs.declared.report.Aes3Report.{Aes3Report}
 use Rattle.aes3_c.specs.States.{told_of}
 

@@ -1,7 +1,7 @@
 -- What C keeps of an account and is told of a gap.
 use Rattle.std.specs.Prelude.{not, ◌==◌}
-use Rattle.aes3_gaps.specs.declared.account.Account.{Account}
-use Rattle.aes3_gaps.specs.Gaps.{Entry, kind}
+use Rattle.aes3_lock_gaps.specs.declared.account.Account.{Account}
+use Rattle.aes3_lock_gaps.specs.Gaps.{Entry, kind}
 use Rattle.aes3_c.specs.declared.account.Aes3Account.{Aes3Account}
 use Rattle.aes3_c.specs.declared.account.Aes3Gap.{Aes3Gap}
 

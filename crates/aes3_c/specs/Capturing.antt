@@ -2,14 +2,14 @@
 use Rattle.std.specs.Prelude.{ℕ, List, [], ◌++◌, ◌≡◌, ◌≤◌, ◌%◌, ◌==◌, ◌↔◌, Bool, IsTrue, Option, None, Some, true, cond, length, min}
 use Rattle.aes3_level.specs.declared.level.Level.{Level}
 use Rattle.aes3_cell.specs.declared.form.Form.TheVariants.{Packed}
-use Rattle.aes3_recovery.specs.Beginning.{Awaits, BeginsWith, IsLastingBehind, IsLineBehind}
-use Rattle.aes3_recovery.specs.Levels.{levels_of_samples}
-use Rattle.aes3_recovery.specs.Recovering.{Setting}
-use Rattle.aes3_recovery.specs.Taking.{RecoveredAll, TookAll, WritesLine}
-use Rattle.aes3_recovery.specs.declared.levels.Unit.{Unit}
-use Rattle.aes3_recovery.specs.declared.levels.Unit.TheVariants.{Octets, Pairs}
-use Rattle.aes3_recovery.specs.declared.recovery.Recovery.{Recovery}
-use Rattle.aes3_recovery.specs.declared.recovery.State.TheVariants.{Following}
+use Rattle.aes3_capture_recovery.specs.Beginning.{Awaits, BeginsWith, IsLastingBehind, IsLineBehind}
+use Rattle.aes3_capture_recovery.specs.Levels.{levels_of_samples}
+use Rattle.aes3_capture_recovery.specs.Recovering.{Setting}
+use Rattle.aes3_capture_recovery.specs.Taking.{RecoveredAll, TookAll, WritesLine}
+use Rattle.aes3_capture_recovery.specs.declared.levels.Unit.{Unit}
+use Rattle.aes3_capture_recovery.specs.declared.levels.Unit.TheVariants.{Octets, Pairs}
+use Rattle.aes3_capture_recovery.specs.declared.recovery.Recovery.{Recovery}
+use Rattle.aes3_capture_recovery.specs.declared.recovery.State.TheVariants.{Following}
 use Rattle.aes3_c.specs.Putting.{put_into}
 use Rattle.aes3_c.specs.declared.capture.Aes3Capture.{Aes3Capture}
 

@@ -5,16 +5,16 @@ ghost use Rattle.std.specs.Prelude.{length, option_map};
 ghost use Rattle.aes3_level.specs.declared.level.Level.{Level};
 ghost use Rattle.aes3_lock.specs.declared.report.Report.{Report};
 ghost use Rattle.aes3_lock.specs.Reports.{decided, reports};
-ghost use Rattle.aes3_gaps.specs.Gaps.{Entry, reported};
-ghost use Rattle.aes3_gaps.specs.Told.{ComesNext, HasAll, HasBegun, Tells, gap_entry};
-ghost use Rattle.aes3_gaps.specs.Told.{report_with, reports_in};
+ghost use Rattle.aes3_lock_gaps.specs.Gaps.{Entry, reported};
+ghost use Rattle.aes3_lock_gaps.specs.Told.{ComesNext, HasAll, HasBegun, Tells, gap_entry};
+ghost use Rattle.aes3_lock_gaps.specs.Told.{report_with, reports_in};
 ghost use Rattle.aes3_c.specs.Accounts.{account_in, gap_in};
 ghost use Rattle.aes3_c.specs.States.{told_of};
 
 use crate::level::level_of_byte;
 use crate::report::{Aes3Report, why_of_byte};
-use aes3_gaps::{Account, Gap};
 use aes3_lock::Ending;
+use aes3_lock_gaps::{Account, Gap};
 
 /// What has been told of a lock's cells, by its reports and the gaps between them. Its fields are
 /// nobody's but the functions' here.

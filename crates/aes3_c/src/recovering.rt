@@ -1,13 +1,13 @@
 //! From the samples of a capture to its cells.
 
 ghost use Rattle.std.specs.Prelude.{◌≡◌, ◌+◌, ◌<◌, ◌≤◌, ◌^◌, IfOk, OnErr, [], length};
-ghost use Rattle.aes3_recovery.specs.Levels.{bit_of_line, bits_of_sample, levels_of_samples};
+ghost use Rattle.aes3_capture_recovery.specs.Levels.{bit_of_line, bits_of_sample, levels_of_samples};
 ghost use Rattle.aes3_c.specs.Capturing.{AreFigures, IsCaptured, RanOver, period_of, unit_of};
 
 use crate::capture::Aes3Capture;
 use crate::room::RoomSink;
+use aes3_capture_recovery::{Recovery, Unit, feed};
 use aes3_cell::{Fault, Form, Sink};
-use aes3_recovery::{Recovery, Unit, feed};
 
 /// How the samples lie, of so many octets each, and which bit of them the line is.
 fn unit_of(octets: u8, bit: u8) -> Unit

@@ -7,10 +7,10 @@ use Rattle.aes3_capture.proofs.Telescope.{sum-next}
 use Rattle.aes3_slot.specs.declared.mark.Mark.{Mark}
 use Rattle.aes3_slot.specs.declared.mark.Mark.TheVariants.{X}
 use Rattle.aes3_slot.specs.Slots.{mark_runs, runs_of}
-use Rattle.aes3_recovery.specs.Finding.{sums_to}
-use Rattle.aes3_recovery.specs.Measuring.{place_at}
-use Rattle.aes3_recovery.proofs.Periods.{sums-none, sums-next}
-use Rattle.aes3_recovery.specs.Finding.{HasFirst, HasLongest}
+use Rattle.aes3_capture_recovery.specs.Finding.{sums_to}
+use Rattle.aes3_capture_recovery.specs.Measuring.{place_at}
+use Rattle.aes3_capture_recovery.proofs.Periods.{sums-none, sums-next}
+use Rattle.aes3_capture_recovery.specs.Finding.{HasFirst, HasLongest}
 use Rattle.aes3_capture_laws.proofs.LineRuns.{EachSubframe, begin_of, begins-all, begins-apart, begins-sum}
 use Rattle.aes3_capture_laws.proofs.LineWindows.{IsWindow, IsBegin, begin-is, first-is, next-begin, place-is, place_of, preamble-run}
 use Rattle.aes3_capture_laws.proofs.LineWindows.{second-is, some-cells, third-is}

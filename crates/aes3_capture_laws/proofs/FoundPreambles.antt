@@ -4,8 +4,8 @@ use Rattle.std.proofs.Common.{length, get_or, take, if◌then◌else◌, ap, ◌
 use Rattle.std.specs.Prelude.{nat_eq, nat_le, nat_lt}
 use Rattle.std.proofs.lemmas.List.{length-take-le, get_or-take}
 use Rattle.aes3_slot.specs.declared.mark.Mark.{Mark}
-use Rattle.aes3_recovery.specs.Finding.{AreOfSubframes}
-use Rattle.aes3_recovery.specs.Measuring.{are_preamble, place_at, places_from, preambles_from}
+use Rattle.aes3_capture_recovery.specs.Finding.{AreOfSubframes}
+use Rattle.aes3_capture_recovery.specs.Measuring.{are_preamble, place_at, places_from, preambles_from}
 use Rattle.aes3_capture_laws.proofs.LineWindows.{AreSecond, IsWindow, first-is, none-past, place-sum, place_of, second-is, some-cells, sum-take, third-is}
 
 -- run `i` has a cell, and lies within a subframe

@@ -8,7 +8,7 @@ use Rattle.aes3_capture.proofs.Telescope.{sum-next}
 use Rattle.aes3_slot.specs.declared.mark.Mark.{Mark}
 use Rattle.aes3_slot.specs.declared.mark.Mark.TheVariants.{X, Y, Z}
 use Rattle.aes3_slot.specs.Slots.{mark_runs, runs_of}
-use Rattle.aes3_recovery.specs.Measuring.{place_at}
+use Rattle.aes3_capture_recovery.specs.Measuring.{place_at}
 use Rattle.aes3_capture_laws.proofs.LineRuns.{EachSubframe, begin_of, begins-apart, begins-even}
 use Rattle.aes3_capture_laws.proofs.LineRuns.{preamble-runs, IsInside, inside}
 

@@ -7,7 +7,7 @@ use Rattle.aes3_capture.specs.Captures.{sum_to}
 use Rattle.aes3_capture.proofs.Telescope.{sum-next}
 use Rattle.aes3_slot.specs.declared.mark.Mark.{Mark}
 use Rattle.aes3_slot.specs.Slots.{runs_of}
-use Rattle.aes3_recovery.specs.Finding.{long_pairs}
+use Rattle.aes3_capture_recovery.specs.Finding.{long_pairs}
 use Rattle.aes3_capture_laws.proofs.LineRuns.{EachSubframe, begin_of, begins-apart, IsInside}
 use Rattle.aes3_capture_laws.proofs.LineWindows.{IsWindow, run-is}
 

@@ -10,7 +10,7 @@ use Rattle.aes3_frame.specs.Blocks.{block_runs, block_slots, mark_at, IsBlock}
 use Rattle.aes3_frame.proofs.FileLaws.{each-block}
 use Rattle.aes3_frame.proofs.Runs.{Each27}
 use Rattle.aes3_lock.proofs.LawfulPieces.{each27-in, payloads_in, stream_marks, stream-runs}
-use Rattle.aes3_recovery.specs.Finding.{AreOfManySubframes}
+use Rattle.aes3_capture_recovery.specs.Finding.{AreOfManySubframes}
 use Rattle.aes3_capture_laws.proofs.LineRuns.{EachSubframe}
 use Rattle.aes3_capture_laws.proofs.LineWindows.{few-cells, first-is, place_of, second-is, side-is, six-is, some-cells, third-is}
 use Rattle.aes3_capture_laws.proofs.LineWindows.{three-is, window-of}

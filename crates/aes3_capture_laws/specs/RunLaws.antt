@@ -4,7 +4,7 @@ use Rattle.std.specs.List.{flat_map, All}
 use Rattle.aes3_frame.specs.Blocks.{block_runs, IsBlock}
 use Rattle.aes3_capture.specs.declared.bounds.Bounds.{Bounds}
 use Rattle.aes3_capture.specs.Captures.{IsBetween, SpreadsLate}
-use Rattle.aes3_recovery.specs.Finding.{AreOfManySubframes, IsFindable}
+use Rattle.aes3_capture_recovery.specs.Finding.{AreOfManySubframes, IsFindable}
 
 -- Any 256 runs in a row of a line of whole blocks are those of subframes.
 abbrev pub RunsAreOfSubframes : Type 0

@@ -3,11 +3,11 @@
 
 ghost use Rattle.std.specs.Prelude.{ℕ, List, Bool, ◌≡◌, IsSomeAnd, take};
 ghost use Rattle.aes3_capture.specs.declared.bounds.Bounds.{Bounds};
-ghost use Rattle.aes3_recovery.specs.Finding.{CountsLine};
+ghost use Rattle.aes3_capture_recovery.specs.Finding.{CountsLine};
 ghost use Rattle.aes3_capture_laws.specs.RunLaws.{AreOfBlocks, RunsAreOfSubframes};
 
 use aes3_capture::Follower;
-use aes3_recovery::follower_of_runs;
+use aes3_capture_recovery::follower_of_runs;
 
 /// Any 256 runs in a row of a line of whole blocks are runs of subframes, in the form that the measuring of a line needs. Preambles
 /// begin at numbers of one side, at least one among any 64 runs, 32 to 60 runs apart. Among all runs only the first two of an X

@@ -17,12 +17,12 @@ use Rattle.aes3_input.specs.Driving.{CellRun}
 use Rattle.aes3_input.proofs.CellRuns.{cells-give}
 use Rattle.aes3_input.proofs.InputRuns.{run-err, run-ok, run-told}
 use Rattle.aes3_input.proofs.Items.{before-is}
-use Rattle.aes3_pcm.specs.declared.format.SampleFormat.{SampleFormat}
-use Rattle.aes3_pcm.specs.declared.format.SampleFormat.TheVariants.{S32, S24, S24In32, S16}
-use Rattle.aes3_pcm.specs.Formats.{fits, narrowed}
-use Rattle.aes3_pcm.proofs.Formats.{narrowed-join, narrowed-none}
-use Rattle.aes3_runs.specs.BlockRuns.{decided_blocks}
-use Rattle.aes3_runs.specs.ReportRuns.{counts_of, told_reports}
+use Rattle.aes3_forms_samples.specs.declared.format.SampleFormat.{SampleFormat}
+use Rattle.aes3_forms_samples.specs.declared.format.SampleFormat.TheVariants.{S32, S24, S24In32, S16}
+use Rattle.aes3_forms_samples.specs.Formats.{fits, narrowed}
+use Rattle.aes3_forms_samples.proofs.Formats.{narrowed-join, narrowed-none}
+use Rattle.aes3_lock_runs.specs.BlockRuns.{decided_blocks}
+use Rattle.aes3_lock_runs.specs.ReportRuns.{counts_of, told_reports}
 use Rattle.aes3_engine.specs.declared.exact_samples.Exact.{Exact}
 use Rattle.aes3_engine.specs.declared.exact_samples.ExactBlocks.{ExactBlocks}
 use Rattle.aes3_engine.specs.Filling.{Placed, placed}

@@ -9,14 +9,14 @@ use Rattle.aes3_cell.proofs.Growing.{grew-is}
 use Rattle.aes3_frame.specs.declared.fill.Fill.{Fill}
 use Rattle.aes3_frame.specs.Blocks.{zero_block}
 use Rattle.aes3_frame.specs.Samples.{samples}
-use Rattle.aes3_pcm.specs.declared.format.SampleFormat.{SampleFormat}
-use Rattle.aes3_pcm.specs.Formats.{narrowed}
+use Rattle.aes3_forms_samples.specs.declared.format.SampleFormat.{SampleFormat}
+use Rattle.aes3_forms_samples.specs.Formats.{narrowed}
 use Rattle.aes3_lock.specs.Reports.{reports, decided, wholes, blocks}
 use Rattle.aes3_input.specs.Running.{Movement, InputRun}
 use Rattle.aes3_input.specs.Inputs.{cells_of}
 use Rattle.aes3_input.proofs.CellRuns.{cells-give}
 use Rattle.aes3_input.proofs.InputRuns.{run-ok, run-err, run-wrote}
-use Rattle.aes3_runs.specs.ReportRuns.{counts_of, heard_cells, told_reports}
+use Rattle.aes3_lock_runs.specs.ReportRuns.{counts_of, heard_cells, told_reports}
 use Rattle.aes3_engine.specs.declared.filling.Filled.{Filled}
 use Rattle.aes3_engine.specs.Filling.{Placed, placed, given, marked_given, filled, frame_bytes, block_frames}
 use Rattle.aes3_engine.specs.Filling.{frames_filled, InRow, KeepsTime}

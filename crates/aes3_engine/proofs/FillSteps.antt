@@ -12,9 +12,9 @@ use Rattle.aes3_lock.specs.declared.report.Report.{Report}
 use Rattle.aes3_lock.specs.declared.report.Report.TheVariants.{Whole, Marked, Fault, Unfinished}
 use Rattle.aes3_input.specs.Taking.{before_end, with_end}
 use Rattle.aes3_input.proofs.Items.{before-is}
-use Rattle.aes3_pcm.specs.declared.format.SampleFormat.{SampleFormat}
-use Rattle.aes3_pcm.specs.Formats.{narrowed}
-use Rattle.aes3_pcm.proofs.Formats.{narrowed-join, narrowed-none}
+use Rattle.aes3_forms_samples.specs.declared.format.SampleFormat.{SampleFormat}
+use Rattle.aes3_forms_samples.specs.Formats.{narrowed}
+use Rattle.aes3_forms_samples.proofs.Formats.{narrowed-join, narrowed-none}
 use Rattle.aes3_engine.proofs.PcmRuns.{block-whole, join-whole}
 use Rattle.aes3_engine.specs.declared.filling.Progress.{Progress}
 use Rattle.aes3_engine.specs.Filling.{Placed, placed, between, filled_behind, filled, frame_cells, frame_bytes}

@@ -20,13 +20,13 @@ use Rattle.aes3_lock.specs.Reports.{reports, decided, wholes, blocks}
 use Rattle.aes3_lock.proofs.Deciding.{block_len_64, read_slots-append}
 use Rattle.aes3_lock.proofs.NormalStreams.{blocks-lawful}
 use Rattle.aes3_lock.proofs.ReportPlaces.{Parted, parted-reports, parted-decided, parted-weaker}
-use Rattle.aes3_runs.proofs.Reports.{decided-more, reports-more}
-use Rattle.aes3_runs.specs.Reporting.{decided_by, decided_at_end}
+use Rattle.aes3_lock_runs.proofs.Reports.{decided-more, reports-more}
+use Rattle.aes3_lock_runs.specs.Reporting.{decided_by, decided_at_end}
 use Rattle.aes3_input.specs.Taking.{behind, before_end, with_end}
 use Rattle.aes3_input.proofs.Items.{before-is, before-join}
-use Rattle.aes3_pcm.specs.declared.format.SampleFormat.{SampleFormat}
-use Rattle.aes3_pcm.specs.Formats.{narrowed}
-use Rattle.aes3_pcm.proofs.Formats.{narrowed-join, narrowed-none}
+use Rattle.aes3_forms_samples.specs.declared.format.SampleFormat.{SampleFormat}
+use Rattle.aes3_forms_samples.specs.Formats.{narrowed}
+use Rattle.aes3_forms_samples.proofs.Formats.{narrowed-join, narrowed-none}
 use Rattle.aes3_engine.specs.Filling.{Placed, placed, mended_from, given, is_marked, marked_given, filled}
 use Rattle.aes3_engine.specs.Filling.{block_frames, frames_between, frames_filled_behind, frames_filled}
 use Rattle.aes3_engine.specs.FillSteps.{Apart, behind_blocks}

@@ -12,9 +12,9 @@ use Rattle.aes3_lock.specs.declared.report.Report.TheVariants.{Fault as Refuted,
 use Rattle.aes3_lock.specs.Following.{LockState, HeldBlock, report_in}
 use Rattle.aes3_lock.specs.Reports.{decided, reports}
 use Rattle.aes3_input.specs.Taking.{behind}
-use Rattle.aes3_pcm.specs.declared.format.SampleFormat.{SampleFormat}
-use Rattle.aes3_pcm.specs.Formats.{narrowed}
-use Rattle.aes3_pcm.proofs.Formats.{narrowed-none}
+use Rattle.aes3_forms_samples.specs.declared.format.SampleFormat.{SampleFormat}
+use Rattle.aes3_forms_samples.specs.Formats.{narrowed}
+use Rattle.aes3_forms_samples.proofs.Formats.{narrowed-none}
 use Rattle.aes3_engine.specs.declared.filling.Progress.{Progress}
 use Rattle.aes3_engine.specs.declared.mended.MendedBlocks.{MendedBlocks}
 use Rattle.aes3_engine.specs.Filling.{Placed, given, mended_from, marked_given}

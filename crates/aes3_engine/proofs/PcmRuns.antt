@@ -13,15 +13,15 @@ use Rattle.aes3_cell.proofs.Growing.{grew-is}
 use Rattle.aes3_frame.specs.Blocks.{IsBlock}
 use Rattle.aes3_frame.specs.Files.{word_bytes}
 use Rattle.aes3_frame.specs.Samples.{block_samples, sample_of}
-use Rattle.aes3_pcm.specs.declared.format.SampleFormat.{SampleFormat}
-use Rattle.aes3_pcm.specs.Formats.{narrowed}
-use Rattle.aes3_pcm.proofs.Formats.{narrowed-join, narrowed-none}
+use Rattle.aes3_forms_samples.specs.declared.format.SampleFormat.{SampleFormat}
+use Rattle.aes3_forms_samples.specs.Formats.{narrowed}
+use Rattle.aes3_forms_samples.proofs.Formats.{narrowed-join, narrowed-none}
 use Rattle.aes3_lock.specs.Reports.{blocks, decided, normal, reports}
 use Rattle.aes3_input.specs.Inputs.{cells_of}
 use Rattle.aes3_input.specs.Running.{Movement}
-use Rattle.aes3_runs.specs.BlockRuns.{decided_blocks, report_bytes, written_stream}
-use Rattle.aes3_runs.specs.ReportRuns.{ReportRun, output}
-use Rattle.aes3_runs.proofs.BlockRuns.{alike-begun, alike-whole, run-alike, run-back, run-normal}
+use Rattle.aes3_lock_runs.specs.BlockRuns.{decided_blocks, report_bytes, written_stream}
+use Rattle.aes3_lock_runs.specs.ReportRuns.{ReportRun, output}
+use Rattle.aes3_lock_runs.proofs.BlockRuns.{alike-begun, alike-whole, run-alike, run-back, run-normal}
 use Rattle.aes3_engine.specs.ValidSamples.{valid_block_samples, valid_sample}
 
 -- whole samples of 32 bits one behind the other, and words

@@ -32,9 +32,9 @@ use Rattle.aes3_input.specs.Taking.{before_end, with_end}
 use Rattle.aes3_input.specs.Inputs.{cells_of}
 use Rattle.aes3_input.proofs.InputRuns.{Gives, run-err, run-ok, run-told}
 use Rattle.aes3_input.proofs.Items.{before-is}
-use Rattle.aes3_runs.specs.BlockRuns.{normal_block, numbered, written_stream}
-use Rattle.aes3_runs.specs.ReportRuns.{counts_of, told_reports}
-use Rattle.aes3_runs.proofs.BlockRuns.{blocks27, decided27, normal-numbered, stream-ended}
+use Rattle.aes3_lock_runs.specs.BlockRuns.{normal_block, numbered, written_stream}
+use Rattle.aes3_lock_runs.specs.ReportRuns.{counts_of, told_reports}
+use Rattle.aes3_lock_runs.proofs.BlockRuns.{blocks27, decided27, normal-numbered, stream-ended}
 use Rattle.aes3_engine.specs.declared.exact_samples.Exact.{Exact}
 use Rattle.aes3_engine.specs.declared.rewriting_exactly.ExactlyRewrittenBlocks.{ExactlyRewrittenBlocks}
 use Rattle.aes3_engine.specs.declared.rewriting_exactly.MetPlaces.{MetPlaces}

@@ -26,9 +26,9 @@ use Rattle.aes3_input.specs.Running.{Movement, InputRun}
 use Rattle.aes3_input.specs.Taking.{Writing}
 use Rattle.aes3_input.specs.Inputs.{cells_of}
 use Rattle.aes3_input.proofs.InputRuns.{Gives, run-ok, run-err}
-use Rattle.aes3_runs.specs.ReportRuns.{counts_of, report_writing, told_reports}
-use Rattle.aes3_runs.specs.BlockRuns.{report_bytes}
-use Rattle.aes3_runs.proofs.ReportLemmas.{before-output, with-output}
+use Rattle.aes3_lock_runs.specs.ReportRuns.{counts_of, report_writing, told_reports}
+use Rattle.aes3_lock_runs.specs.BlockRuns.{report_bytes}
+use Rattle.aes3_lock_runs.proofs.ReportLemmas.{before-output, with-output}
 use Rattle.aes3_engine.specs.declared.rewriting_runs.MetKinds.{MetKinds}
 use Rattle.aes3_engine.specs.declared.rewriting_runs.Rewritten.{Rewritten}
 use Rattle.aes3_engine.specs.declared.rewriting_runs.RewrittenBlocks.{RewrittenBlocks}

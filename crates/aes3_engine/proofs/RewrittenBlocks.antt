@@ -14,15 +14,15 @@ use Rattle.aes3_frame.proofs.Streams.{EachBlock27}
 use Rattle.aes3_lock.specs.Reports.{reports, decided, blocks}
 use Rattle.aes3_status.specs.Statuses.{is_professional}
 use Rattle.aes3_status.specs.declared.change.Change.{Change}
-use Rattle.aes3_runs.specs.ReportRuns.{output}
-use Rattle.aes3_runs.specs.BlockRuns.{decided_blocks, report_bytes, numbered, normal_block, begun_stream}
-use Rattle.aes3_runs.specs.BlockRuns.{written_stream}
+use Rattle.aes3_lock_runs.specs.ReportRuns.{output}
+use Rattle.aes3_lock_runs.specs.BlockRuns.{decided_blocks, report_bytes, numbered, normal_block, begun_stream}
+use Rattle.aes3_lock_runs.specs.BlockRuns.{written_stream}
 use Rattle.aes3_status.specs.declared.setting.Settings.{Settings}
 use Rattle.aes3_status.specs.Settings.{set_all}
 use Rattle.aes3_engine.specs.Rewriting.{all_bits, cleared, set_validity, set_user, with_bits_given, set_status}
 use Rattle.aes3_engine.specs.Rewriting.{set_settings, checked, mended, changed, rewritten, rewritten_block}
 use Rattle.aes3_engine.specs.Rewriting.{rewritten_blocks}
-use Rattle.aes3_runs.proofs.BlockRuns.{whole-stream, begun-stream, normal-numbered}
+use Rattle.aes3_lock_runs.proofs.BlockRuns.{whole-stream, begun-stream, normal-numbered}
 use Rattle.aes3_engine.proofs.BitsAt.{each-at}
 
 -- what each new status keeps of a block, a change keeps

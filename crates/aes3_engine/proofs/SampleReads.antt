@@ -25,10 +25,10 @@ use Rattle.aes3_input.specs.Converting.{or_else, unless, fault_behind, out_behin
 use Rattle.aes3_input.specs.Running.{Fed, Stopped}
 use Rattle.aes3_input.proofs.Feeding.{front-longer}
 use Rattle.aes3_input.proofs.Outputs.{out-is, behind-clean, fault-clean, fault-first}
-use Rattle.aes3_words.specs.declared.form.Words.{Words}
-use Rattle.aes3_pcm.specs.declared.format.SampleFormat.{SampleFormat}
-use Rattle.aes3_pcm.specs.declared.format.SampleFormat.TheVariants.{S32, S24, S24In32, S16}
-use Rattle.aes3_pcm.specs.Formats.{asks_exact, block_len, frame_len, sample_len}
+use Rattle.aes3_forms_words.specs.declared.form.Words.{Words}
+use Rattle.aes3_forms_samples.specs.declared.format.SampleFormat.{SampleFormat}
+use Rattle.aes3_forms_samples.specs.declared.format.SampleFormat.TheVariants.{S32, S24, S24In32, S16}
+use Rattle.aes3_forms_samples.specs.Formats.{asks_exact, block_len, frame_len, sample_len}
 use Rattle.aes3_status.specs.declared.change.Change.{Change}
 use Rattle.aes3_engine.specs.Rewriting.{rewritten, rewritten_blocks}
 use Rattle.aes3_engine.specs.Words.{block_words, words_file}

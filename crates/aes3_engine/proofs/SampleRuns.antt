@@ -17,10 +17,10 @@ use Rattle.aes3_frame.specs.Blocks.{block_slots}
 use Rattle.aes3_input.specs.Converting.{or_else, fault_behind, first_fault, whole}
 use Rattle.aes3_input.specs.Running.{CleanEnd, IsFault, converted}
 use Rattle.aes3_input.proofs.InputRuns.{Gives}
-use Rattle.aes3_words.specs.declared.form.Words.{Words}
+use Rattle.aes3_forms_words.specs.declared.form.Words.{Words}
 use Rattle.aes3_status.specs.declared.change.Change as change
-use Rattle.aes3_pcm.specs.declared.format.SampleFormat.{SampleFormat}
-use Rattle.aes3_pcm.specs.Formats.{asks_exact, block_len, frame_len}
+use Rattle.aes3_forms_samples.specs.declared.format.SampleFormat.{SampleFormat}
+use Rattle.aes3_forms_samples.specs.Formats.{asks_exact, block_len, frame_len}
 use Rattle.aes3_engine.specs.Sampling.{pcm_words, AllExact, AreSamples, IsPcm, BadSampleAt, IsPcmCause}
 use Rattle.aes3_engine.specs.Sampling.{IsSound, words_in}
 use Rattle.aes3_files.specs.Sound.{sound_head_len}

@@ -17,15 +17,15 @@ use Rattle.aes3_frame.specs.Files.{word_bytes}
 use Rattle.aes3_frame.specs.Samples.{block_samples, sample_of, samples}
 use Rattle.aes3_frame.specs.Subframes.{audio_len, bits_of}
 use Rattle.aes3_frame.proofs.StatusBits.{validity-get}
-use Rattle.aes3_pcm.specs.declared.format.SampleFormat.{SampleFormat}
-use Rattle.aes3_pcm.specs.Formats.{narrowed}
+use Rattle.aes3_forms_samples.specs.declared.format.SampleFormat.{SampleFormat}
+use Rattle.aes3_forms_samples.specs.Formats.{narrowed}
 use Rattle.aes3_engine.proofs.PcmRuns.{narrowed-whole, valid-whole}
 use Rattle.aes3_lock.specs.Reports.{blocks}
 use Rattle.aes3_input.specs.Inputs.{cells_of}
 use Rattle.aes3_input.specs.Running.{Movement}
 use Rattle.aes3_input.proofs.InputRuns.{run-wrote}
-use Rattle.aes3_runs.specs.ReportRuns.{ReportRun}
-use Rattle.aes3_runs.specs.BlockRuns.{report_bytes}
+use Rattle.aes3_lock_runs.specs.ReportRuns.{ReportRun}
+use Rattle.aes3_lock_runs.specs.BlockRuns.{report_bytes}
 use Rattle.aes3_engine.specs.ValidSamples.{IsAllValid, silenced, valid_block_samples, valid_sample, valid_samples}
 use Rattle.aes3_engine.specs.ValidSamples.{validity_bit}
 

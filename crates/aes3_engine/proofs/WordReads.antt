@@ -9,11 +9,11 @@ use Rattle.aes3_cell.specs.declared.form.Form.{Form}
 use Rattle.aes3_cell.specs.declared.refusal.RunError.{RunError}
 use Rattle.aes3_cell.specs.declared.refusal.RunError.TheVariants.{Read, Write, TooLong}
 use Rattle.aes3_cell.proofs.Growing.{grew-none, grew-is, front-is}
-use Rattle.aes3_words.specs.declared.form.Words.{Words}
-use Rattle.aes3_words.specs.Lists.{own_of}
-use Rattle.aes3_words.specs.Forms.{is_within}
-use Rattle.aes3_words.specs.Reading.{AreAhead, is_left_out, read_more, read_whole}
-use Rattle.aes3_words.proofs.Ahead.{length-read, more-is, more-one, read-cut, read-on}
+use Rattle.aes3_forms_words.specs.declared.form.Words.{Words}
+use Rattle.aes3_forms_words.specs.Lists.{own_of}
+use Rattle.aes3_forms_words.specs.Forms.{is_within}
+use Rattle.aes3_forms_words.specs.Reading.{AreAhead, is_left_out, read_more, read_whole}
+use Rattle.aes3_forms_words.proofs.Ahead.{length-read, more-is, more-one, read-cut, read-on}
 use Rattle.aes3_block.specs.declared.file.FileFault.{FileFault}
 use Rattle.aes3_block.specs.Readers.{FileReader, reader_of, byte_fault, block_with}
 use Rattle.aes3_block.proofs.WholeBlocks.{short}

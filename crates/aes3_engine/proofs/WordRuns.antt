@@ -14,14 +14,14 @@ use Rattle.aes3_cell.specs.declared.refusal.RunError.TheVariants.{TooLong, Memor
 use Rattle.aes3_cell.specs.declared.refusal.RunError.TheVariants.{SoundHeader, Inexact}
 use Rattle.aes3_cell.specs.Written.{bytes_of, ending, written}
 use Rattle.aes3_level.specs.declared.level.Level.TheVariants.{Low}
-use Rattle.aes3_words.specs.declared.form.Words.{Words}
-use Rattle.aes3_words.specs.declared.form.Words.TheVariants.{Own}
-use Rattle.aes3_words.specs.Forms.{is_within, own_word}
-use Rattle.aes3_words.specs.Lists.{from_block, most_left_out, own_of}
-use Rattle.aes3_words.specs.Reading.{read_whole, whole_of}
-use Rattle.aes3_words.proofs.EachWord.{length-each}
-use Rattle.aes3_words.proofs.OneWord.{own-fours}
-use Rattle.aes3_words.proofs.Ahead.{length-own, length-own-le, own-cut, whole-length}
+use Rattle.aes3_forms_words.specs.declared.form.Words.{Words}
+use Rattle.aes3_forms_words.specs.declared.form.Words.TheVariants.{Own}
+use Rattle.aes3_forms_words.specs.Forms.{is_within, own_word}
+use Rattle.aes3_forms_words.specs.Lists.{from_block, most_left_out, own_of}
+use Rattle.aes3_forms_words.specs.Reading.{read_whole, whole_of}
+use Rattle.aes3_forms_words.proofs.EachWord.{length-each}
+use Rattle.aes3_forms_words.proofs.OneWord.{own-fours}
+use Rattle.aes3_forms_words.proofs.Ahead.{length-own, length-own-le, own-cut, whole-length}
 use Rattle.aes3_block.specs.Readers.{FileReader}
 use Rattle.aes3_frame.specs.Blocks.{block_slots, stream}
 use Rattle.aes3_frame.specs.Files.{IsBlockFile, blocks_in, file_blocks, has_code, has_parity, is_lawful, lawful_words}

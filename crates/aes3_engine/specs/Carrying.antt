@@ -11,7 +11,7 @@ use Rattle.aes3_input.specs.Inputs.{cells_of}
 use Rattle.aes3_status.specs.declared.carried.CarriedBits.{CarriedBits}
 use Rattle.aes3_status.specs.declared.carried.CarriedBits.TheVariants.{Validity, User, Status}
 use Rattle.aes3_status.specs.declared.change.Change.{Change}
-use Rattle.aes3_runs.specs.BlockRuns.{written_stream}
+use Rattle.aes3_lock_runs.specs.BlockRuns.{written_stream}
 use Rattle.aes3_engine.specs.Rewriting.{all_bits, cleared, rewritten_blocks}
 
 -- the 192 bits of a channel in a block as 24 octets, bit 0 first, the lowest of each octet first

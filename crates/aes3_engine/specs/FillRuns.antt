@@ -8,9 +8,9 @@ use Rattle.aes3_lock.specs.Reports.{decided, reports}
 use Rattle.aes3_input.specs.Driving.{over_cells}
 use Rattle.aes3_input.specs.Inputs.{cells_of}
 use Rattle.aes3_input.specs.Running.{Movement, Promise}
-use Rattle.aes3_pcm.specs.declared.format.SampleFormat.{SampleFormat}
-use Rattle.aes3_pcm.specs.Formats.{narrowed}
-use Rattle.aes3_runs.specs.ReportRuns.{counts_of}
+use Rattle.aes3_forms_samples.specs.declared.format.SampleFormat.{SampleFormat}
+use Rattle.aes3_forms_samples.specs.Formats.{narrowed}
+use Rattle.aes3_lock_runs.specs.ReportRuns.{counts_of}
 use Rattle.aes3_engine.specs.declared.filling.Filled.{Filled}
 use Rattle.aes3_engine.specs.Filling.{block_frames, filled, frame_bytes, frames_filled, given, marked_given}
 

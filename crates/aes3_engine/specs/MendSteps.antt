@@ -11,8 +11,8 @@ use Rattle.aes3_lock.specs.declared.report.Report.{Report}
 use Rattle.aes3_lock.specs.Outcomes.{payloads_of}
 use Rattle.aes3_lock.specs.Reports.{decided, reports}
 use Rattle.aes3_input.specs.Taking.{Writing}
-use Rattle.aes3_pcm.specs.declared.format.SampleFormat.{SampleFormat}
-use Rattle.aes3_pcm.specs.Formats.{narrowed}
+use Rattle.aes3_forms_samples.specs.declared.format.SampleFormat.{SampleFormat}
+use Rattle.aes3_forms_samples.specs.Formats.{narrowed}
 use Rattle.aes3_engine.specs.declared.mended.MendedBlocks.{MendedBlocks}
 use Rattle.aes3_engine.specs.Filling.{Placed, given, marked_given}
 use Rattle.aes3_engine.specs.FillSteps.{behind_blocks, progress_behind, progress_of}

@@ -11,7 +11,7 @@ use Rattle.aes3_status.specs.Check.{check_byte_of}
 use Rattle.aes3_status.specs.declared.setting.Settings.{Settings}
 use Rattle.aes3_status.specs.Settings.{set_all}
 use Rattle.aes3_status.specs.declared.change.Change.{Change}
-use Rattle.aes3_runs.specs.BlockRuns.{normal_block}
+use Rattle.aes3_lock_runs.specs.BlockRuns.{normal_block}
 
 -- the bytes of a channel's bits that are all this one
 abbrev pub all_bits : Bool → List ℕ

@@ -18,8 +18,8 @@ use Rattle.aes3_input.specs.Inputs.{cells_of}
 use Rattle.aes3_input.specs.Running.{Promise}
 use Rattle.aes3_input.specs.Driving.{over_cells}
 use Rattle.aes3_input.specs.Taking.{Writing}
-use Rattle.aes3_runs.specs.BlockRuns.{begun_stream, normal_block, written_stream}
-use Rattle.aes3_runs.specs.ReportRuns.{counts_of}
+use Rattle.aes3_lock_runs.specs.BlockRuns.{begun_stream, normal_block, written_stream}
+use Rattle.aes3_lock_runs.specs.ReportRuns.{counts_of}
 use Rattle.aes3_engine.specs.declared.exact_samples.Exact.{Exact}
 use Rattle.aes3_engine.specs.declared.rewriting_exactly.MetPlaces.{MetPlaces}
 use Rattle.aes3_engine.specs.Filling.{Placed, placed}

@@ -13,8 +13,8 @@ use Rattle.aes3_lock.specs.Reports.{blocks}
 use Rattle.aes3_input.specs.Inputs.{cells_of}
 use Rattle.aes3_input.specs.Running.{Promise}
 use Rattle.aes3_input.specs.Driving.{over_cells}
-use Rattle.aes3_runs.specs.BlockRuns.{begun_stream, decided_blocks, written_stream}
-use Rattle.aes3_runs.specs.ReportRuns.{counts_of}
+use Rattle.aes3_lock_runs.specs.BlockRuns.{begun_stream, decided_blocks, written_stream}
+use Rattle.aes3_lock_runs.specs.ReportRuns.{counts_of}
 use Rattle.aes3_engine.specs.declared.rewriting_runs.MetKinds.{MetKinds}
 use Rattle.aes3_engine.specs.declared.rewriting_runs.Rewritten.{Rewritten}
 use Rattle.aes3_engine.specs.Rewriting.{rewritten_blocks}

@@ -7,12 +7,12 @@ use Rattle.aes3_frame.specs.Samples.{samples}
 use Rattle.aes3_frame.specs.Sampled.{IsSample, filled}
 use Rattle.aes3_lock.specs.Reports.{blocks}
 use Rattle.aes3_input.specs.Inputs.{cells_of}
-use Rattle.aes3_pcm.specs.declared.format.SampleFormat.{SampleFormat}
-use Rattle.aes3_pcm.specs.declared.format.SampleFormat.TheVariants.{S32, S24, S24In32, S16}
-use Rattle.aes3_pcm.specs.Formats.{narrowed}
-use Rattle.aes3_words.specs.declared.form.Words.TheVariants.{Own}
+use Rattle.aes3_forms_samples.specs.declared.format.SampleFormat.{SampleFormat}
+use Rattle.aes3_forms_samples.specs.declared.format.SampleFormat.TheVariants.{S32, S24, S24In32, S16}
+use Rattle.aes3_forms_samples.specs.Formats.{narrowed}
+use Rattle.aes3_forms_words.specs.declared.form.Words.TheVariants.{Own}
 use Rattle.aes3_status.specs.declared.change.Change.{Change}
-use Rattle.aes3_runs.specs.BlockRuns.{written_stream}
+use Rattle.aes3_lock_runs.specs.BlockRuns.{written_stream}
 use Rattle.aes3_engine.specs.Sampling.{pcm_words}
 
 -- the line that `encode` writes of what `from_pcm_words` writes of samples in a form, and the samples that `to_pcm`

@@ -11,12 +11,12 @@ use Rattle.aes3_frame.specs.Files.{bytes_number, words_of}
 use Rattle.aes3_frame.specs.Sampled.{sampled, filled}
 use Rattle.aes3_input.specs.Converting.{Reading}
 use Rattle.aes3_input.specs.Running.{InputState, Promise}
-use Rattle.aes3_pcm.specs.declared.format.SampleFormat.{SampleFormat}
-use Rattle.aes3_pcm.specs.declared.format.SampleFormat.TheVariants.{S32, S24, S24In32, S16}
-use Rattle.aes3_pcm.specs.Formats.{asks_exact, block_len, frame_len, widened}
+use Rattle.aes3_forms_samples.specs.declared.format.SampleFormat.{SampleFormat}
+use Rattle.aes3_forms_samples.specs.declared.format.SampleFormat.TheVariants.{S32, S24, S24In32, S16}
+use Rattle.aes3_forms_samples.specs.Formats.{asks_exact, block_len, frame_len, widened}
 use Rattle.aes3_status.specs.declared.change.Change.{Change}
-use Rattle.aes3_words.specs.declared.form.Words.{Words}
-use Rattle.aes3_words.specs.declared.form.Words.TheVariants.{Own}
+use Rattle.aes3_forms_words.specs.declared.form.Words.{Words}
+use Rattle.aes3_forms_words.specs.declared.form.Words.TheVariants.{Own}
 use Rattle.aes3_engine.specs.Rewriting.{rewritten_blocks}
 use Rattle.aes3_engine.specs.Words.{words_file}
 

@@ -10,10 +10,10 @@ use Rattle.aes3_cell.specs.declared.refusal.RunError.TheVariants.{BadCell, BadLe
 use Rattle.aes3_cell.specs.declared.refusal.RunError.TheVariants.{TooLong, Memory, BadStatusText, BadPadding, BadSample}
 use Rattle.aes3_cell.specs.declared.refusal.RunError.TheVariants.{SoundHeader, Inexact}
 use Rattle.aes3_cell.specs.Written.{written}
-use Rattle.aes3_words.specs.declared.form.Words.{Words}
-use Rattle.aes3_words.specs.declared.form.Words.TheVariants.{Own, Alsa, Am824}
-use Rattle.aes3_words.specs.Lists.{from_block, most_left_out, own_of, written_of}
-use Rattle.aes3_words.specs.Reading.{AreAhead, read_more, read_whole}
+use Rattle.aes3_forms_words.specs.declared.form.Words.{Words}
+use Rattle.aes3_forms_words.specs.declared.form.Words.TheVariants.{Own, Alsa, Am824}
+use Rattle.aes3_forms_words.specs.Lists.{from_block, most_left_out, own_of, written_of}
+use Rattle.aes3_forms_words.specs.Reading.{AreAhead, read_more, read_whole}
 use Rattle.aes3_frame.specs.Blocks.{stream}
 use Rattle.aes3_frame.specs.Files.{IsBlockFile, block_bytes, file_blocks}
 use Rattle.aes3_input.specs.Converting.{Reading, fault_behind, out_behind}

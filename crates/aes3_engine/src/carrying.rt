@@ -8,13 +8,13 @@ ghost use Rattle.aes3_lock.specs.Reports.{blocks};
 ghost use Rattle.aes3_input.specs.Inputs.{cells_of};
 ghost use Rattle.aes3_input.specs.Driving.{CellRun};
 ghost use Rattle.aes3_input.specs.Running.{movement_of};
-ghost use Rattle.aes3_runs.specs.BlockRuns.{decided_blocks, written_stream};
-ghost use Rattle.aes3_runs.specs.ReportRuns.{counts_of};
+ghost use Rattle.aes3_lock_runs.specs.BlockRuns.{decided_blocks, written_stream};
+ghost use Rattle.aes3_lock_runs.specs.ReportRuns.{counts_of};
 ghost use Rattle.aes3_engine.specs.Carrying.{all_carried, carried};
 
 use aes3_block::{Block, Channel, GatheredCells};
 use aes3_cell::{Counts, Fault, Form, RunError, Sink, Source, write_all};
-use aes3_runs::{BlockWriter, run_blocks};
+use aes3_lock_runs::{BlockWriter, run_blocks};
 use aes3_status::CarriedBits;
 
 /// The bits of a channel in a block, as octets.

@@ -8,8 +8,8 @@ ghost use Rattle.aes3_lock.specs.Following.{report_in};
 ghost use Rattle.aes3_lock.specs.Reports.{blocks};
 ghost use Rattle.aes3_input.specs.Inputs.{cells_of};
 ghost use Rattle.aes3_input.specs.Running.{InputRun, movement_of};
-ghost use Rattle.aes3_pcm.specs.declared.format.SampleFormat.TheVariants.{S16};
-ghost use Rattle.aes3_pcm.specs.Formats.{narrowed};
+ghost use Rattle.aes3_forms_samples.specs.declared.format.SampleFormat.TheVariants.{S16};
+ghost use Rattle.aes3_forms_samples.specs.Formats.{narrowed};
 ghost use Rattle.aes3_engine.specs.ExactSamples.{exact_cells, exact_samples, exact_writing, first_unfit};
 ghost use Rattle.aes3_engine.specs.ExactSamples.{refused_behind, unless_refused};
 ghost use Rattle.aes3_engine.specs.Filling.{placed};
@@ -17,9 +17,9 @@ ghost use Rattle.aes3_engine.specs.Filling.{placed};
 use crate::samples::{put_narrowed, to_pcm};
 use aes3_block::{Block, samples_of_block};
 use aes3_cell::{Counts, Fault, Form, RunError, Sink, Source};
+use aes3_forms_samples::SampleFormat;
 use aes3_lock::{Ending, Lock};
-use aes3_pcm::SampleFormat;
-use aes3_runs::{Reporter, run_reports};
+use aes3_lock_runs::{Reporter, run_reports};
 
 /// What a run answers that gives blocks exactly.
 #[derive(Clone, Copy)]

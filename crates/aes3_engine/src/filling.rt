@@ -10,7 +10,7 @@ ghost use Rattle.aes3_lock.specs.Following.{report_in};
 ghost use Rattle.aes3_lock.specs.Reports.{blocks, reports};
 ghost use Rattle.aes3_input.specs.Inputs.{cells_of};
 ghost use Rattle.aes3_input.specs.Running.{InputRun, movement_of};
-ghost use Rattle.aes3_pcm.specs.Formats.{narrowed};
+ghost use Rattle.aes3_forms_samples.specs.Formats.{narrowed};
 ghost use Rattle.aes3_engine.specs.Filling.{InRow, KeepsTime, Placed, block_frames, filled, filling};
 ghost use Rattle.aes3_engine.specs.Filling.{frame_bytes, frames_between, frames_filled, given};
 ghost use Rattle.aes3_engine.specs.Filling.{marked_given, placed, repeated};
@@ -22,10 +22,10 @@ use crate::mended::fill_mended;
 use crate::samples::put_narrowed;
 use aes3_block::{BLOCK_BYTES, Block, samples_of_block};
 use aes3_cell::{Counts, Fault, Form, RunError, Sink, Source, write_all};
+use aes3_forms_samples::SampleFormat;
 use aes3_frame::Fill;
 use aes3_lock::{Ending, Lock};
-use aes3_pcm::SampleFormat;
-use aes3_runs::{Reporter, run_reports};
+use aes3_lock_runs::{Reporter, run_reports};
 
 /// How many cells a frame has, how many bytes its samples, and how many frames a block has (AES3-3).
 const FRAME_CELLS: u64 = 128;

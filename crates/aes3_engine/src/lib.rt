@@ -33,7 +33,7 @@ mod word_encoding;
 mod words;
 
 pub use aes3_frame::Fill;
-pub use aes3_runs::{
+pub use aes3_lock_runs::{
     BlockWriter, Followed, Input, Listener, Reporter, Taker, Tally, cell, convert, drive,
     run_blocks, run_cells, run_reports, word,
 };

@@ -13,10 +13,10 @@ ghost use Rattle.aes3_engine.specs.MendSteps.{mend_writing};
 use crate::filling::{Filled, FilledBlocks};
 use aes3_block::Block;
 use aes3_cell::{Fault, Form, RunError, Sink, Source};
+use aes3_forms_samples::SampleFormat;
 use aes3_frame::Fill;
 use aes3_lock::{Ending, Lock};
-use aes3_pcm::SampleFormat;
-use aes3_runs::{Listener, run_cells};
+use aes3_lock_runs::{Listener, run_cells};
 
 /// Hears of cells, and writes the samples of the whole and the marked blocks on them, and what fills
 /// the time between.

@@ -17,16 +17,16 @@ ghost use Rattle.aes3_lock.specs.Pieces.{IsPiece, given_blocks, whole_blocks};
 ghost use Rattle.aes3_input.specs.Driving.{CellRun, IsCause};
 ghost use Rattle.aes3_input.specs.Inputs.{IsInput, cells_before, cells_of};
 ghost use Rattle.aes3_input.specs.Running.{Complete, movement_of};
-ghost use Rattle.aes3_runs.specs.BlockRuns.{begun_stream, cut_block, cut_blocks, decided_blocks};
-ghost use Rattle.aes3_runs.specs.BlockRuns.{normal_block, written_stream};
-ghost use Rattle.aes3_runs.specs.ReportRuns.{counts_of};
+ghost use Rattle.aes3_lock_runs.specs.BlockRuns.{begun_stream, cut_block, cut_blocks, decided_blocks};
+ghost use Rattle.aes3_lock_runs.specs.BlockRuns.{normal_block, written_stream};
+ghost use Rattle.aes3_lock_runs.specs.ReportRuns.{counts_of};
 ghost use Rattle.aes3_engine.specs.Words.{numbered_words, words_file};
 
 use crate::words::put_block_words;
 use aes3_block::{GatheredCells, put_read_block};
 use aes3_cell::{Counts, Fault, Form, Level, RunError, Sink, Source, put_ending};
-use aes3_runs::{BlockWriter, run_blocks};
-use aes3_words::Words;
+use aes3_forms_words::Words;
+use aes3_lock_runs::{BlockWriter, run_blocks};
 
 /// Writes blocks as cells in the normal polarity.
 #[derive(Drop)]

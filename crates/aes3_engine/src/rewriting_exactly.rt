@@ -11,8 +11,8 @@ ghost use Rattle.aes3_lock.specs.Following.{report_in};
 ghost use Rattle.aes3_lock.specs.Reports.{blocks, reports};
 ghost use Rattle.aes3_input.specs.Inputs.{cells_of};
 ghost use Rattle.aes3_input.specs.Running.{InputRun, movement_of};
-ghost use Rattle.aes3_runs.specs.BlockRuns.{normal_block, written_stream};
-ghost use Rattle.aes3_runs.specs.ReportRuns.{counts_of};
+ghost use Rattle.aes3_lock_runs.specs.BlockRuns.{normal_block, written_stream};
+ghost use Rattle.aes3_lock_runs.specs.ReportRuns.{counts_of};
 ghost use Rattle.aes3_engine.specs.Filling.{Placed, placed};
 ghost use Rattle.aes3_engine.specs.Rewriting.{rewritten, rewritten_blocks};
 ghost use Rattle.aes3_engine.specs.RewritingExactly.{AnswersExactly, AreMetAt, exactly_rewritten_cells};
@@ -26,7 +26,7 @@ use crate::rewriting_runs::bits_that_tell;
 use aes3_block::{Block, Channel, put_block};
 use aes3_cell::{Counts, Fault, Form, Level, RunError, Sink, Source, put_ending};
 use aes3_lock::{Ending, Lock};
-use aes3_runs::{Reporter, run_reports};
+use aes3_lock_runs::{Reporter, run_reports};
 use aes3_status::{Change, KindPlaces, Settings, earlier, takes_all};
 
 /// Whether a block takes all settings of a channel, where some are given. The status that is given

@@ -14,8 +14,8 @@ ghost use Rattle.aes3_lock.specs.Following.{report_in};
 ghost use Rattle.aes3_lock.specs.Reports.{blocks, reports, wholes};
 ghost use Rattle.aes3_input.specs.Inputs.{cells_of};
 ghost use Rattle.aes3_input.specs.Running.{InputRun, movement_of};
-ghost use Rattle.aes3_runs.specs.BlockRuns.{normal_block, report_bytes, written_stream};
-ghost use Rattle.aes3_runs.specs.ReportRuns.{counts_of, report_writing};
+ghost use Rattle.aes3_lock_runs.specs.BlockRuns.{normal_block, report_bytes, written_stream};
+ghost use Rattle.aes3_lock_runs.specs.ReportRuns.{counts_of, report_writing};
 ghost use Rattle.aes3_engine.specs.Rewriting.{rewritten, rewritten_block, rewritten_blocks};
 ghost use Rattle.aes3_engine.specs.RewritingRuns.{AreMet, met_statuses, rewritten_answer};
 ghost use Rattle.aes3_engine.specs.RewritingRuns.{rewritten_cells, statuses_of, taken_of};
@@ -24,7 +24,7 @@ use crate::rewriting::rewrite_block;
 use aes3_block::{Block, Channel, GatheredCells, put_block};
 use aes3_cell::{Counts, Fault, Form, Level, RunError, Sink, Source, put_ending};
 use aes3_lock::{Ending, Lock};
-use aes3_runs::{Reporter, run_reports};
+use aes3_lock_runs::{Reporter, run_reports};
 use aes3_status::{Change, Kinds, Settings, TELLING_BITS, Taken};
 
 /// The bit of a channel's status in a frame.

@@ -12,14 +12,14 @@ ghost use Rattle.aes3_lock.specs.Reports.{blocks, normal};
 ghost use Rattle.aes3_input.specs.Inputs.{cells_of};
 ghost use Rattle.aes3_input.specs.Driving.{CellRun};
 ghost use Rattle.aes3_input.specs.Running.{movement_of};
-ghost use Rattle.aes3_pcm.specs.Formats.{narrowed};
-ghost use Rattle.aes3_runs.specs.BlockRuns.{decided_blocks, written_stream};
-ghost use Rattle.aes3_runs.specs.ReportRuns.{counts_of};
+ghost use Rattle.aes3_forms_samples.specs.Formats.{narrowed};
+ghost use Rattle.aes3_lock_runs.specs.BlockRuns.{decided_blocks, written_stream};
+ghost use Rattle.aes3_lock_runs.specs.ReportRuns.{counts_of};
 
 use aes3_block::{BLOCK_BYTES, GatheredCells, samples_of_block};
 use aes3_cell::{Counts, Fault, Form, RunError, Sink, Source, write_all};
-use aes3_pcm::SampleFormat;
-use aes3_runs::{BlockWriter, run_blocks};
+use aes3_forms_samples::SampleFormat;
+use aes3_lock_runs::{BlockWriter, run_blocks};
 
 /// Writes samples of a block, which are of 32 bits, in this form; handed on as one buffer.
 ///

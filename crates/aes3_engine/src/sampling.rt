@@ -9,8 +9,8 @@ ghost use Rattle.aes3_cell.specs.Writes.{Wrote};
 ghost use Rattle.aes3_frame.specs.Files.{words_of};
 ghost use Rattle.aes3_frame.specs.Sampled.{payload_of_sample};
 ghost use Rattle.aes3_input.specs.Running.{InputRun, movement_of};
-ghost use Rattle.aes3_pcm.specs.declared.format.SampleFormat.TheVariants.{S32};
-ghost use Rattle.aes3_pcm.specs.Formats.{asks_exact, block_len};
+ghost use Rattle.aes3_forms_samples.specs.declared.format.SampleFormat.TheVariants.{S32};
+ghost use Rattle.aes3_forms_samples.specs.Formats.{asks_exact, block_len};
 ghost use Rattle.aes3_engine.specs.Rewriting.{rewritten};
 ghost use Rattle.aes3_engine.specs.Sampling.{IsPcm, pcm_file, pcm_words, sampled_file, sampled_words};
 ghost use Rattle.aes3_engine.specs.Sampling.{sampling_state, words_in};
@@ -21,10 +21,10 @@ use crate::words::put_block_words;
 use aes3_block::{BLOCK_BYTES, Block};
 use aes3_cell::{Counts, Fault, RunError, Sink, Source};
 use aes3_files::{SOUND_HEAD_LEN, SoundFile};
+use aes3_forms_samples::SampleFormat;
+use aes3_forms_words::Words;
 use aes3_input::{Input, convert};
-use aes3_pcm::SampleFormat;
 use aes3_status::Change;
-use aes3_words::Words;
 
 /// How many bytes a sample of 32 bits has.
 const SAMPLE_BYTES: u64 = 4;

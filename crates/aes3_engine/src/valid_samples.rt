@@ -10,17 +10,17 @@ ghost use Rattle.aes3_lock.specs.Reports.{blocks};
 ghost use Rattle.aes3_input.specs.Inputs.{cells_of};
 ghost use Rattle.aes3_input.specs.Driving.{CellRun};
 ghost use Rattle.aes3_input.specs.Running.{movement_of};
-ghost use Rattle.aes3_pcm.specs.Formats.{narrowed};
-ghost use Rattle.aes3_runs.specs.BlockRuns.{decided_blocks, written_stream};
-ghost use Rattle.aes3_runs.specs.ReportRuns.{counts_of};
+ghost use Rattle.aes3_forms_samples.specs.Formats.{narrowed};
+ghost use Rattle.aes3_lock_runs.specs.BlockRuns.{decided_blocks, written_stream};
+ghost use Rattle.aes3_lock_runs.specs.ReportRuns.{counts_of};
 ghost use Rattle.aes3_engine.specs.ValidSamples.{IsAllValid, silenced, valid_block_samples};
 ghost use Rattle.aes3_engine.specs.ValidSamples.{valid_samples};
 
 use crate::samples::put_narrowed;
 use aes3_block::{Block, Frame, GatheredCells, Subframe, samples_of_block};
 use aes3_cell::{Counts, Fault, Form, RunError, Sink, Source};
-use aes3_pcm::SampleFormat;
-use aes3_runs::{BlockWriter, run_blocks};
+use aes3_forms_samples::SampleFormat;
+use aes3_lock_runs::{BlockWriter, run_blocks};
 
 /// A subframe with zero audio where its validity bit is 1.
 fn silenced(subframe: Subframe) -> Subframe

@@ -8,17 +8,17 @@ ghost use Rattle.aes3_level.specs.declared.level.Level.{Level};
 ghost use Rattle.aes3_lock.specs.Reports.{blocks, normal};
 ghost use Rattle.aes3_input.specs.Running.{FrontRan, InputRun, PieceRan, movement_of};
 ghost use Rattle.aes3_frame.specs.Files.{IsBlockFile};
-ghost use Rattle.aes3_words.specs.declared.form.Words.{Words};
-ghost use Rattle.aes3_words.specs.Lists.{own_of};
-ghost use Rattle.aes3_words.specs.Reading.{is_left_out};
+ghost use Rattle.aes3_forms_words.specs.declared.form.Words.{Words};
+ghost use Rattle.aes3_forms_words.specs.Lists.{own_of};
+ghost use Rattle.aes3_forms_words.specs.Reading.{is_left_out};
 ghost use Rattle.aes3_engine.specs.Words.{TakesWords, WordRan, encoded_other, told_words, with_left_out};
 ghost use Rattle.aes3_engine.specs.Words.{words_counts, words_file, words_left_out, words_state};
 
 use crate::encoding::{Encoder, blank_cells, encode};
 use aes3_block::{BLOCK_BYTES, BlockFile, SLOTS};
 use aes3_cell::{Counts, Form, RunError, Sink, Source, put_ending};
+use aes3_forms_words::Words;
 use aes3_input::{Input, convert, feed_fronts};
-use aes3_words::Words;
 
 /// How many octets a word has.
 const WORD_LEN: usize = 4;

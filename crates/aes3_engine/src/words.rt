@@ -3,12 +3,12 @@
 ghost use Rattle.std.specs.Prelude.{◌≡◌, ◌<◌, ◌+◌, ◌^◌};
 ghost use Rattle.aes3_cell.specs.Writes.{Wrote};
 ghost use Rattle.aes3_frame.specs.Files.{block_bytes};
-ghost use Rattle.aes3_words.specs.Lists.{written_of};
+ghost use Rattle.aes3_forms_words.specs.Lists.{written_of};
 ghost use Rattle.aes3_engine.specs.Words.{block_words};
 
 use aes3_block::{Block, bytes_of_block, put_block_file};
 use aes3_cell::{Fault, Sink, write_all};
-use aes3_words::{Words, write_words};
+use aes3_forms_words::{Words, write_words};
 
 /// Writes a block as 1,536 bytes of a block file whose words are in this form, handed on as one
 /// buffer.

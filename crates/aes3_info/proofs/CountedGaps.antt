@@ -8,9 +8,9 @@ use Rattle.aes3_frame.specs.Blocks.{block_len}
 use Rattle.aes3_lock.specs.declared.report.Report.{Report}
 use Rattle.aes3_lock.specs.Reports.{wholes}
 use Rattle.aes3_lock.proofs.Deciding.{block_len_24576}
-use Rattle.aes3_gaps.specs.Gaps.{Entry, reported, lost, cut, full_gaps, full_count, behind_full, rest_gap, gaps}
-use Rattle.aes3_gaps.specs.Gaps.{gaps_before, account_from, reached_from}
-use Rattle.aes3_gaps.proofs.GapLemmas.{account-push}
+use Rattle.aes3_lock_gaps.specs.Gaps.{Entry, reported, lost, cut, full_gaps, full_count, behind_full, rest_gap, gaps}
+use Rattle.aes3_lock_gaps.specs.Gaps.{gaps_before, account_from, reached_from}
+use Rattle.aes3_lock_gaps.proofs.GapLemmas.{account-push}
 use Rattle.aes3_info.specs.declared.gaps.GapFacts.{GapFacts}
 use Rattle.aes3_info.specs.Facts.{both_gaps, cut_cells, gap_facts, is_gap, lost_cells, most_count, total}
 use Rattle.aes3_info.proofs.Counting.{count-join}

@@ -8,15 +8,15 @@ use Rattle.aes3_frame.specs.declared.status.Channel.TheVariants.{First, Second}
 use Rattle.aes3_lock.specs.declared.report.Report.{Report}
 use Rattle.aes3_lock.specs.declared.report.Report.TheVariants.{Whole, Marked, Fault, Unfinished}
 use Rattle.aes3_lock.specs.Reports.{decided, reports, wholes}
-use Rattle.aes3_gaps.specs.Gaps.{account, account_from, behind_report, gaps, gaps_before, reached_from}
-use Rattle.aes3_gaps.proofs.GapLemmas.{reached-push}
+use Rattle.aes3_lock_gaps.specs.Gaps.{account, account_from, behind_report, gaps, gaps_before, reached_from}
+use Rattle.aes3_lock_gaps.proofs.GapLemmas.{reached-push}
 use Rattle.aes3_input.specs.Inputs.{cells_of}
 use Rattle.aes3_input.specs.Taking.{behind, before_end, with_end}
 use Rattle.aes3_input.specs.Driving.{counted_cells}
 use Rattle.aes3_input.proofs.CellRuns.{cells-give}
 use Rattle.aes3_input.proofs.InputRuns.{Gives}
-use Rattle.aes3_runs.specs.ReportRuns.{counts_of, heard_cells}
-use Rattle.aes3_settings.specs.declared.style.Notation.{Notation}
+use Rattle.aes3_lock_runs.specs.ReportRuns.{counts_of, heard_cells}
+use Rattle.aes3_status_text.specs.declared.style.Notation.{Notation}
 use Rattle.aes3_info.specs.declared.facts.Facts.{Facts}
 use Rattle.aes3_info.specs.declared.gaps.GapFacts.{GapFacts}
 use Rattle.aes3_info.specs.Facts.{both_gaps, channel_facts, facts_of, facts_with, gap_facts, report_facts, with_report}

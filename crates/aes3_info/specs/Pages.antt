@@ -4,11 +4,11 @@ use Rattle.std.specs.Prelude.{◌==◌, codes, decimal, if◌then◌else◌}
 use Rattle.hex.specs.Hex.{encode_lower}
 use Rattle.aes3_frame.specs.declared.status.Channel.{Channel}
 use Rattle.aes3_frame.specs.declared.status.Channel.TheVariants.{First, Second}
-use Rattle.aes3_lines.specs.Events.{second_cells, seconds}
-use Rattle.aes3_lines.specs.StatusLines.{channel_digit}
-use Rattle.aes3_settings.specs.StatusTexts.{status_text}
-use Rattle.aes3_settings.specs.declared.style.Notation.{Notation}
-use Rattle.aes3_settings.specs.declared.style.Notation.TheVariants.{Words, Json}
+use Rattle.aes3_text_lines.specs.Events.{second_cells, seconds}
+use Rattle.aes3_text_lines.specs.StatusLines.{channel_digit}
+use Rattle.aes3_status_text.specs.StatusTexts.{status_text}
+use Rattle.aes3_status_text.specs.declared.style.Notation.{Notation}
+use Rattle.aes3_status_text.specs.declared.style.Notation.TheVariants.{Words, Json}
 use Rattle.aes3_info.specs.declared.channel.ChannelFacts.{ChannelFacts}
 use Rattle.aes3_info.specs.declared.facts.Facts.{Facts}
 use Rattle.aes3_info.specs.Facts.{square}

@@ -1,7 +1,7 @@
 //! What is counted of the gaps between whole blocks.
 
 ghost use Rattle.std.specs.Prelude.{◌≡◌, ◌≤◌, ◌^◌, []};
-ghost use Rattle.aes3_gaps.specs.Gaps.{behind_full, full_count, full_gaps, gaps};
+ghost use Rattle.aes3_lock_gaps.specs.Gaps.{behind_full, full_count, full_gaps, gaps};
 ghost use Rattle.aes3_info.specs.Facts.{both_gaps, gap_facts};
 
 use crate::more::more;

@@ -9,7 +9,7 @@ ghost use Rattle.aes3_lock.specs.declared.report.Report.{Report};
 ghost use Rattle.aes3_lock.specs.Following.{report_in};
 ghost use Rattle.aes3_lock.specs.Remains.{place_of};
 ghost use Rattle.aes3_lock.specs.Reports.{wholes};
-ghost use Rattle.aes3_gaps.specs.Gaps.{account_from, behind_report, gaps, gaps_before};
+ghost use Rattle.aes3_lock_gaps.specs.Gaps.{account_from, behind_report, gaps, gaps_before};
 ghost use Rattle.aes3_info.specs.Facts.{facts_of, facts_with, gap_facts, is_whole, most_count, total};
 ghost use Rattle.aes3_info.specs.Infos.{Behind, Inspects, info_counts, info_page, inspecting, no_page};
 ghost use Rattle.aes3_info.specs.Infos.{with_samples};
@@ -23,8 +23,8 @@ use crate::reports::ReportFacts;
 use aes3_block::Channel;
 use aes3_cell::{Counts, Fault, Form, RunError, Sink, Source};
 use aes3_lock::{Ending, Lock};
-use aes3_runs::{Listener, run_cells};
-use aes3_settings::Notation;
+use aes3_lock_runs::{Listener, run_cells};
+use aes3_status_text::Notation;
 
 /// What is known of a recording of which some cells have come.
 #[derive(Drop)]

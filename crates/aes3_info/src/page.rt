@@ -3,8 +3,8 @@
 ghost use Rattle.std.specs.Prelude.{◌≡◌, ◌<◌, ◌≤◌, ◌+◌, ◌*◌, ◌/◌, ◌%◌, ◌^◌, [], ◌++◌, length, codes, decimal};
 ghost use Rattle.hex.specs.Hex.{encode_lower};
 ghost use Rattle.aes3_cell.specs.Writes.{Wrote};
-ghost use Rattle.aes3_lines.specs.Events.{second_cells, seconds};
-ghost use Rattle.aes3_lines.specs.StatusLines.{channel_digit};
+ghost use Rattle.aes3_text_lines.specs.Events.{second_cells, seconds};
+ghost use Rattle.aes3_text_lines.specs.StatusLines.{channel_digit};
 ghost use Rattle.aes3_info.specs.Pages.{answer, block_fields, channel_field, channel_fields, closing, field, field_end};
 ghost use Rattle.aes3_info.specs.Pages.{field_name, full_energy, full_power, gap_fields, head, level_value};
 ghost use Rattle.aes3_info.specs.Pages.{no_level, opening, page, page_rate, rate_value, sample_fields};
@@ -18,7 +18,7 @@ use crate::rate::rate_of;
 use crate::samples::square;
 use aes3_block::Channel;
 use aes3_cell::{Fault, Sink, write_all};
-use aes3_settings::{LINE_LEN, Line, Notation, put_status};
+use aes3_status_text::{LINE_LEN, Line, Notation, put_status};
 
 /// How many bytes the name of a field has at most.
 const NAME_LEN: usize = 12;
@@ -166,7 +166,7 @@ fn second_cells(rate: u32) -> u64
 }
 
 /// Appends how long so many cells take, in seconds, where a second has so many.
-#[tactic(auto, unfolding(aes3_lines::specs::Events::seconds))]
+#[tactic(auto, unfolding(aes3_text_lines::specs::Events::seconds))]
 fn put_seconds(line: &mut Line, cells: u64, second: u64)
     requires some { 0 < second }
     requires few { second < 2 ^ 40 }

@@ -2,7 +2,7 @@
 
 ghost use Rattle.std.specs.Prelude.{◌≡◌, []};
 ghost use Rattle.aes3_lock.specs.Following.{report_in};
-ghost use Rattle.aes3_account.specs.Sums.{is_biphase, is_preamble, is_unclosed};
+ghost use Rattle.aes3_watch.specs.Sums.{is_biphase, is_preamble, is_unclosed};
 ghost use Rattle.aes3_info.specs.Facts.{report_facts, with_report};
 
 use crate::more::more;

@@ -1,14 +1,14 @@
 //! Command lines and what they ask for.
 
-use aes3_arguments::{LineFault, job_of_words, status_of_text};
 use aes3_cell::{Form, RunError};
+use aes3_cli_arguments::{LineFault, job_of_words, status_of_text};
+use aes3_cli_jobs::{Job, ReadWork, StreamWork};
 use aes3_engine::Change;
+use aes3_forms_samples::SampleFormat;
+use aes3_forms_words::Words;
 use aes3_frame::Channel;
-use aes3_job::{Job, ReadWork, StreamWork};
-use aes3_lines::{Detail, Lines, Notation, Style};
-use aes3_pcm::SampleFormat;
 use aes3_status::CarriedBits;
-use aes3_words::Words;
+use aes3_text_lines::{Detail, Lines, Notation, Style};
 use std::alloc::Global;
 
 const TEXT: Form = Form::Text;

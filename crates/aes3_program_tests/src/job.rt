@@ -2,12 +2,12 @@
 
 use crate::bytes::{Bytes, bytes_of};
 use aes3_cell::{Form, MemorySink, MemorySource};
+use aes3_cli_jobs::{Job, Nobody, ReadWork, StreamWork};
 use aes3_engine::Change;
-use aes3_job::{Job, Nobody, ReadWork, StreamWork};
-use aes3_pcm::SampleFormat;
-use aes3_runner::{TypedSettings, finish_job, run_job};
+use aes3_forms_samples::SampleFormat;
+use aes3_forms_words::Words;
+use aes3_program::{TypedSettings, finish_job, run_job};
 use aes3_text::Lines;
-use aes3_words::Words;
 use std::alloc::{AllocError, Global};
 
 const TEXT: Form = Form::Text;

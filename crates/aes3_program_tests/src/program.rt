@@ -1,8 +1,8 @@
 //! Worked command lines, run.
 
 use aes3_cell::{MemorySink, MemorySource, Source};
-use aes3_job::Nobody;
-use aes3_runner::{Unread, run_words, tell_unread};
+use aes3_cli_jobs::Nobody;
+use aes3_program::{Unread, run_words, tell_unread};
 use std::alloc::Global;
 
 /// Words, an input, its output, the line of its refusal and the exit status.

@@ -5,13 +5,13 @@ ghost use Rattle.std.specs.Prelude.{◌<◌};
 
 use crate::bytes::{Bytes, bytes_of};
 use aes3_cell::{FailingSink, FailingSource, Form, MemorySink, MemorySource, RunError, ShortSink};
+use aes3_cli_jobs::{Job, ReadWork, StreamWork};
 use aes3_engine::Change;
-use aes3_job::{Job, ReadWork, StreamWork};
-use aes3_lines::Detail;
-use aes3_pcm::SampleFormat;
-use aes3_runner::run_job;
+use aes3_forms_samples::SampleFormat;
+use aes3_forms_words::Words;
+use aes3_program::run_job;
 use aes3_text::Lines;
-use aes3_words::Words;
+use aes3_text_lines::Detail;
 use std::alloc::{AllocError, Global};
 
 const TEXT: Form = Form::Text;

@@ -5,8 +5,8 @@ use Rattle.std.proofs.Common.{refl, sym, ap, ◌∙◌, arith}
 use Rattle.std.specs.Prelude.{bit_and, ◌==◌, not}
 use Rattle.std.proofs.lemmas.Nat.{and_mask, mod_below, pow-add, pow_pos}
 use Rattle.aes3_level.specs.Words.{level_of, low_cells}
-use Rattle.aes3_recovery.specs.Endings.{level_if}
-use Rattle.aes3_recovery.proofs.WordBits.{low_cells-low-bits}
+use Rattle.aes3_capture_recovery.specs.Endings.{level_if}
+use Rattle.aes3_capture_recovery.proofs.WordBits.{low_cells-low-bits}
 use Rattle.aes3_slot.proofs.Turns.{low_cells-not}
 use Rattle.aes3_spoil.specs.Spoiled.{is_odd, level_turned}
 use Rattle.aes3_spoil.proofs.SpoiledCells.{same-cells, other-cells}

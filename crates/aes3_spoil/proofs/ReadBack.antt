@@ -11,8 +11,8 @@ use Rattle.aes3_cell.specs.declared.form.Form.TheVariants.{Text, Packed}
 use Rattle.aes3_cell.proofs.CellTexts.{cells-join, cells-more, cells-text, text-join, text-more, text-read}
 use Rattle.aes3_cell.proofs.PackedCells.{cells-packs, packed_of-packs}
 use Rattle.aes3_input.specs.Inputs.{IsInput, cells_of}
-use Rattle.aes3_recovery.specs.Endings.{finished, last_line}
-use Rattle.aes3_recovery.proofs.EndBytes.{finished-joined}
+use Rattle.aes3_capture_recovery.specs.Endings.{finished, last_line}
+use Rattle.aes3_capture_recovery.proofs.EndBytes.{finished-joined}
 
 -- text whose cells are these
 abbrev Reads : List ℕ → List Level → Type 0

@@ -9,7 +9,7 @@ use Rattle.aes3_cell.specs.Ends.{Grew, GrewFront}
 use Rattle.aes3_cell.specs.Pending.{begun_cells}
 use Rattle.aes3_cell.specs.Writes.{Wrote}
 use Rattle.aes3_cell.proofs.Growing.{grew-is, front-is}
-use Rattle.aes3_recovery.specs.Endings.{ending_of, level_if}
+use Rattle.aes3_capture_recovery.specs.Endings.{ending_of, level_if}
 use Rattle.aes3_input.specs.Forms.{CellsRan}
 use Rattle.aes3_input.specs.Running.{movement_of}
 use Rattle.aes3_spoil.specs.declared.cells_out.CellsOut.{CellsOut}

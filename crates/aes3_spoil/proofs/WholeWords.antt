@@ -13,8 +13,8 @@ use Rattle.aes3_cell.specs.Writes.{Wrote}
 use Rattle.aes3_cell.specs.Written.{bytes_of}
 use Rattle.aes3_cell.proofs.Growing.{grew-none, grew-is}
 use Rattle.aes3_cell.proofs.WrittenForms.{bytes-append, bytes-nothing}
-use Rattle.aes3_recovery.specs.Endings.{ending_of, finished}
-use Rattle.aes3_recovery.proofs.EndBytes.{finished-joined}
+use Rattle.aes3_capture_recovery.specs.Endings.{ending_of, finished}
+use Rattle.aes3_capture_recovery.proofs.EndBytes.{finished-joined}
 use Rattle.aes3_spoil.specs.Spoiling.{bytes_added, whole_words}
 
 pub length-whole : (c : List Level) → length (whole_words c) ≡ length c / word_len * word_len

@@ -6,7 +6,7 @@ use Rattle.aes3_cell.specs.declared.form.Form.{Form}
 use Rattle.aes3_cell.specs.declared.counts.Counts.{Counts}
 use Rattle.aes3_cell.specs.Pending.{begun_cells}
 use Rattle.aes3_cell.specs.Written.{bytes_of}
-use Rattle.aes3_recovery.specs.Endings.{ending_of, finished}
+use Rattle.aes3_capture_recovery.specs.Endings.{ending_of, finished}
 use Rattle.aes3_input.specs.Inputs.{cells_of}
 use Rattle.aes3_input.specs.Taking.{behind, before_end, with_end}
 use Rattle.aes3_input.proofs.Items.{before-is, before-join}

@@ -3,7 +3,7 @@ use Rattle.std.specs.Prelude.{List, ◌≡◌}
 use Rattle.aes3_level.specs.declared.level.Level.{Level}
 use Rattle.aes3_cell.specs.declared.form.Form.{Form}
 use Rattle.aes3_input.specs.Inputs.{IsInput, cells_of}
-use Rattle.aes3_recovery.specs.Endings.{finished}
+use Rattle.aes3_capture_recovery.specs.Endings.{finished}
 
 -- what is written of any number of cells is an input, and its cells are these
 abbrev pub WrittenCellsAreReadBack : Type 0

@@ -6,7 +6,7 @@ use Rattle.aes3_cell.specs.declared.form.Form.{Form}
 use Rattle.aes3_cell.specs.declared.counts.Counts.{Counts}
 use Rattle.aes3_cell.specs.Pending.{begun_cells}
 use Rattle.aes3_cell.specs.Written.{bytes_of}
-use Rattle.aes3_recovery.specs.Endings.{ending_of}
+use Rattle.aes3_capture_recovery.specs.Endings.{ending_of}
 use Rattle.aes3_input.specs.Inputs.{cells_of}
 use Rattle.aes3_input.specs.Taking.{TakerState, Writing}
 use Rattle.aes3_spoil.specs.declared.cells_out.CellsOut.{CellsOut}

@@ -2,8 +2,8 @@
 
 ghost use Rattle.std.specs.Prelude.{◌≡◌, ◌-◌, ◌/◌, ◌<◌, ◌^◌};
 
+use aes3_capture_recovery::put_last;
 use aes3_cell::{Fault, Form, Sink, put_word};
-use aes3_recovery::put_last;
 
 /// Writes cells in either form, 64 as one buffer once they are whole.
 #[derive(Drop)]
@@ -30,7 +30,7 @@ impl CellsOut {
     ghost use Rattle.aes3_level.specs.Words.{low_cells};
     ghost use Rattle.aes3_cell.specs.Pending.{begun_cells};
     ghost use Rattle.aes3_cell.specs.Writes.{Wrote};
-    ghost use Rattle.aes3_recovery.specs.Endings.{ending_of};
+    ghost use Rattle.aes3_capture_recovery.specs.Endings.{ending_of};
     ghost use Rattle.aes3_spoil.specs.Spoiling.{bytes_added, held};
 
     /// Holds no cell.

@@ -6,7 +6,7 @@ ghost use Rattle.aes3_level.specs.declared.level.Level.{Level};
 ghost use Rattle.aes3_level.specs.Words.{level_of, low_cells};
 ghost use Rattle.aes3_cell.specs.Ends.{Grew, Told};
 ghost use Rattle.aes3_cell.specs.Written.{bytes_of};
-ghost use Rattle.aes3_recovery.specs.Endings.{finished};
+ghost use Rattle.aes3_capture_recovery.specs.Endings.{finished};
 ghost use Rattle.aes3_input.specs.Driving.{CellRun};
 ghost use Rattle.aes3_input.specs.Forms.{CellsRan};
 ghost use Rattle.aes3_input.specs.Inputs.{cells_of};
@@ -18,10 +18,10 @@ ghost use Rattle.aes3_spoil.specs.Spoiling.{whole_words};
 use crate::cells_out::CellsOut;
 use crate::errors::Errors;
 use crate::kinds::ErrorKind;
+use aes3_capture_recovery::bits_of_cells;
 use aes3_cell::{Counts, Fault, Form, RunError, Sink, Source};
 use aes3_input::{Taker, drive};
 use aes3_level::Cells;
-use aes3_recovery::bits_of_cells;
 
 /// Writes the cells that it takes, with errors.
 #[derive(Drop)]

@@ -8,7 +8,7 @@ use Rattle.clap.specs.Walk.{Rule}
 use Rattle.clap.specs.Simple.{App, is_simple, with_rule}
 use Rattle.clap.specs.declared.builder.arg.Arg.{Arg}
 use Rattle.clap.specs.declared.builder.command.Command.{Command}
-use Rattle.aes3_commands.specs.CommandLine.{IsDefinedAs, IsOption}
+use Rattle.aes3_cli.specs.CommandLine.{IsDefinedAs, IsOption}
 use Rattle.aes3_spoil_program.specs.SpoilLine.{line_of, line_with, rule, spoil_line}
 use Rattle.aes3_spoil_program.specs.declared.argument.Argument.{Argument}
 

@@ -6,7 +6,7 @@ use Rattle.clap.specs.Simple.{matches_of}
 use Rattle.clap.specs.Walk.{Text, first_of}
 use Rattle.clap.specs.declared.error.kind.ErrorKind.{ErrorKind}
 use Rattle.clap.specs.declared.error.kind.ErrorKind.TheVariants.{DisplayHelp, DisplayVersion, OutOfMemory}
-use Rattle.aes3_commands.specs.Wording.{EndsWithUsage, usage_end}
+use Rattle.aes3_cli.specs.Wording.{EndsWithUsage, usage_end}
 use Rattle.aes3_spoil.specs.declared.kinds.CellError.{CellError}
 use Rattle.aes3_spoil_program.specs.Asks.{Options, all_errors, errors_in, faults_in, values_by}
 use Rattle.aes3_spoil_program.specs.Named.{name_of}

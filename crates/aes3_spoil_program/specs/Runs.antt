@@ -8,7 +8,7 @@ use Rattle.aes3_cell.specs.declared.refusal.RunError.TheVariants as refusal
 use Rattle.aes3_input.specs.Driving.{CellPromise, CellRun}
 use Rattle.aes3_input.specs.Inputs.{IsInput}
 use Rattle.aes3_input.specs.Running.{Failed, Movement, Quiet}
-use Rattle.aes3_recovery.specs.Endings.{finished}
+use Rattle.aes3_capture_recovery.specs.Endings.{finished}
 use Rattle.aes3_spoil.specs.Spoiled.{spoiled}
 use Rattle.aes3_spoil.specs.Spoiling.{spoil_counts, whole_words}
 use Rattle.aes3_spoil_program.specs.Lines.{not_utf8_text, refusal_line}

@@ -2,7 +2,7 @@
 use Rattle.std.specs.Prelude.{List, [], ◌∷◌, true, codes, map}
 use Rattle.clap.specs.Walk.{Rule}
 use Rattle.clap.specs.Simple.{App, new_shape}
-use Rattle.aes3_commands.specs.CommandLine.{file, packed_in, packed_out, settings_option, text_option}
+use Rattle.aes3_cli.specs.CommandLine.{file, packed_in, packed_out, settings_option, text_option}
 use Rattle.aes3_spoil_program.specs.Named.{name_of}
 use Rattle.aes3_spoil_program.specs.declared.argument.Argument.{Argument}
 use Rattle.aes3_spoil_program.specs.declared.named.NamedError.TheVariants as named

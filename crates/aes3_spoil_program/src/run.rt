@@ -4,7 +4,7 @@ ghost use Rattle.std.specs.Prelude.{◌≡◌, ◌≢◌, ◌<◌, ◌≤◌, �
 ghost use Rattle.aes3_cell.specs.Ends.{Grew, Told};
 ghost use Rattle.aes3_input.specs.Inputs.{cells_of};
 ghost use Rattle.aes3_input.specs.Running.{movement_of};
-ghost use Rattle.aes3_recovery.specs.Endings.{finished};
+ghost use Rattle.aes3_capture_recovery.specs.Endings.{finished};
 ghost use Rattle.aes3_spoil.specs.Spoiled.{spoiled};
 ghost use Rattle.aes3_spoil_program.specs.Runs.{FaultRan, Flushed, IsDone, JobRan, LineRan, UnreadReported};
 

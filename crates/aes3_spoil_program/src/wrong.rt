@@ -7,7 +7,7 @@ use crate::argument::value_name;
 use crate::help::USAGE;
 use crate::line::LineFault;
 use crate::named::NamedError;
-use aes3_commands::wording::add_usage;
+use aes3_cli::wording::add_usage;
 use std::alloc::{AllocError, Global};
 
 /// What is wrong with the values of options.

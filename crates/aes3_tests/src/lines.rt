@@ -1,7 +1,6 @@
 //! Lines as they are printed.
 
 use crate::status::{status_of, with_byte};
-use aes3_account::line_of_gap;
 use aes3_block::{Block, Channel};
 use aes3_cell::{Level, MemorySink};
 use aes3_lock::{Report, Why};
@@ -11,6 +10,7 @@ use aes3_text::{
     Detail, consumer_setting, line_of_mark, line_of_report, line_of_status, line_of_status_with,
     professional_setting, text_of_detail,
 };
+use aes3_watch::line_of_gap;
 use std::alloc::Global;
 
 /// Whether a report is told in this line.

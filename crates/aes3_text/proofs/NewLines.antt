@@ -7,8 +7,8 @@ use Rattle.std.proofs.lemmas.List.{drop-drop, get_or-drop}
 use Rattle.aes3_frame.specs.declared.status.Channel.{Channel}
 use Rattle.aes3_frame.specs.declared.status.Channel.TheVariants.{First, Second}
 use Rattle.aes3_frame.specs.Statuses.{status_of}
-use Rattle.aes3_runs.specs.BlockRuns.{numbered}
-use Rattle.aes3_lines.specs.StatusLines.{status_line}
+use Rattle.aes3_lock_runs.specs.BlockRuns.{numbered}
+use Rattle.aes3_text_lines.specs.StatusLines.{status_line}
 use Rattle.aes3_text.specs.Runs.{block_changes, change_line, change_lines, changes_from, channel_line, channel_lines}
 use Rattle.aes3_text.specs.Runs.{status_in, status_lines}
 use Rattle.aes3_text.specs.ChangeLaws.{line_at, new_line_at}

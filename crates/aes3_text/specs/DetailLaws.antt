@@ -3,9 +3,9 @@ use Rattle.std.specs.Prelude.{ℕ, List, [], ◌∷◌, ◌++◌, Bool, ◌≡�
 use Rattle.aes3_frame.specs.declared.status.Channel.{Channel}
 use Rattle.aes3_lock.specs.declared.report.Report.{Report}
 use Rattle.aes3_lock.specs.Reports.{wholes}
-use Rattle.aes3_settings.specs.declared.detail.Detail.{Detail}
-use Rattle.aes3_settings.specs.declared.detail.Detail.TheVariants.{Plain}
-use Rattle.aes3_lines.specs.StatusLines.{detail_text}
+use Rattle.aes3_status_text.specs.declared.detail.Detail.{Detail}
+use Rattle.aes3_status_text.specs.declared.detail.Detail.TheVariants.{Plain}
+use Rattle.aes3_text_lines.specs.StatusLines.{detail_text}
 use Rattle.aes3_text.specs.Runs.{change_details, change_lines, channel_line, detail_line, detail_lines, status_lines}
 
 -- with no detail the lines of reports are those of their blocks, and so are those of changes

@@ -6,15 +6,15 @@ ghost use Rattle.aes3_lock.specs.Reports.{decided, reports};
 ghost use Rattle.aes3_input.specs.Driving.{CellRun};
 ghost use Rattle.aes3_input.specs.Inputs.{cells_of};
 ghost use Rattle.aes3_input.specs.Running.{movement_of};
-ghost use Rattle.aes3_runs.specs.ReportRuns.{counts_of, report_writing};
-ghost use Rattle.aes3_reports.specs.Lines.{told_line};
-ghost use Rattle.aes3_reports.specs.Lines.{report_lines};
+ghost use Rattle.aes3_lock_runs.specs.ReportRuns.{counts_of, report_writing};
+ghost use Rattle.aes3_text_reports.specs.Lines.{told_line};
+ghost use Rattle.aes3_text_reports.specs.Lines.{report_lines};
 
 use aes3_cell::{Counts, Fault, Form, RunError, Sink, Source};
-use aes3_lines::Lines;
 use aes3_lock::{Ending, Lock};
-use aes3_reports::tell_ending;
-use aes3_runs::{Reporter, run_reports};
+use aes3_lock_runs::{Reporter, run_reports};
+use aes3_text_lines::Lines;
+use aes3_text_reports::tell_ending;
 
 /// Writes the line of each report that gets one.
 #[derive(Drop)]

@@ -12,10 +12,10 @@ mod showing;
 /// A reporter that writes the channel status of blocks.
 mod status_lines;
 
-pub use aes3_lines::{
+pub use aes3_text_lines::{
     Detail, Lines, SettingsFault, add_choices, consumer_setting, line_of_mark, line_of_status,
     line_of_status_with, professional_setting, settings_of_texts, text_of_detail,
 };
-pub use aes3_reports::{line_of_report, scan};
+pub use aes3_text_reports::{line_of_report, scan};
 pub use checking::check;
 pub use showing::{show, show_changes, show_detail};

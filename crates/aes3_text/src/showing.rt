@@ -6,14 +6,14 @@ ghost use Rattle.aes3_lock.specs.Reports.{blocks, decided, reports};
 ghost use Rattle.aes3_input.specs.Driving.{CellRun};
 ghost use Rattle.aes3_input.specs.Inputs.{cells_of};
 ghost use Rattle.aes3_input.specs.Running.{movement_of};
-ghost use Rattle.aes3_runs.specs.BlockRuns.{decided_blocks};
-ghost use Rattle.aes3_runs.specs.ReportRuns.{counts_of};
+ghost use Rattle.aes3_lock_runs.specs.BlockRuns.{decided_blocks};
+ghost use Rattle.aes3_lock_runs.specs.ReportRuns.{counts_of};
 ghost use Rattle.aes3_text.specs.Runs.{change_details, detail_lines, details_from, status_lines};
 
 use crate::status_lines::StatusLines;
 use aes3_cell::{Counts, Form, RunError, Sink, Source};
-use aes3_lines::Detail;
-use aes3_runs::run_reports;
+use aes3_lock_runs::run_reports;
+use aes3_text_lines::Detail;
 
 /// Reads cells, and writes the lines of the blocks: all of them, or those of changes.
 ///

@@ -5,16 +5,16 @@ ghost use Rattle.std.specs.Prelude.{IfOk};
 ghost use Rattle.aes3_cell.specs.Writes.{Wrote};
 ghost use Rattle.aes3_frame.specs.Statuses.{status_of};
 ghost use Rattle.aes3_frame.specs.declared.status.Channel.TheVariants as channel;
-ghost use Rattle.aes3_lines.specs.StatusLines.{detail_text, status_line_with};
+ghost use Rattle.aes3_text_lines.specs.StatusLines.{detail_text, status_line_with};
 ghost use Rattle.aes3_lock.specs.Following.{report_in};
 ghost use Rattle.aes3_lock.specs.Reports.{wholes};
 ghost use Rattle.aes3_text.specs.Runs.{AreLast, report_details, showing, told};
 
 use aes3_block::{Block, Channel};
 use aes3_cell::{Fault, Sink};
-use aes3_lines::{Detail, line_of_status_with, text_of_detail};
 use aes3_lock::{Ending, Lock};
-use aes3_runs::Reporter;
+use aes3_lock_runs::Reporter;
+use aes3_text_lines::{Detail, line_of_status_with, text_of_detail};
 
 /// Where a block stands: its number, of blocks from 0, and the cell at which it begins.
 #[derive(Clone, Copy)]

@@ -4,7 +4,7 @@ ghost use Rattle.std.specs.Prelude.{◌≡◌, ◌+◌, ◌<◌, ◌≤◌, ◌^
 
 use crate::line::is_high;
 use crate::numbers::Numbers;
-use aes3_recovery::Unit;
+use aes3_capture_recovery::Unit;
 use std::alloc::{AllocError, Global};
 
 /// How a line is sampled.

@@ -10,7 +10,7 @@ use crate::line::{
 };
 use crate::numbers::Numbers;
 use crate::runs::{run_capture, run_command, some_of};
-use aes3_recovery::Unit;
+use aes3_capture_recovery::Unit;
 use anyhow::{Result, bail};
 use std::alloc::{AllocError, Global};
 

@@ -5,10 +5,10 @@ ghost use Rattle.std.specs.Prelude.{◌≡◌, ◌+◌, ◌<◌, ◌^◌};
 use crate::digest::Digest;
 use crate::numbers::Numbers;
 use crate::pieces::Pieces;
+use aes3_capture_recovery::{Progress, Recovery, Refusal, Unit, recover};
 use aes3_cell::{BufferedSink, Form, MemorySink, MemorySource};
-use aes3_job::Nobody;
-use aes3_recovery::{Progress, Recovery, Refusal, Unit, recover};
-use aes3_runner::run_words;
+use aes3_cli_jobs::Nobody;
+use aes3_program::run_words;
 use std::alloc::{AllocError, Global};
 
 /// Takes the digest of a run into that of all.

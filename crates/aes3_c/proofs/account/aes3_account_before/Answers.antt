@@ -1,6 +1,6 @@
 use Rattle.std.proofs.Common.{sym, subst, rules}
 use Rattle.aes3_lock.specs.declared.report.Report.{Report}
-use Rattle.aes3_gaps.specs.Told.{ComesNext}
+use Rattle.aes3_lock_gaps.specs.Told.{ComesNext}
 use Rattle.aes3_c.proofs.GapCalls.{ending-told, none-told, report-kept, some-kind, tells-kept, tells-same}
 use Rattle.aes3_c.proofs.account.aes3_account_before.Goals as goal
 

@@ -1,8 +1,8 @@
 use Rattle.std.proofs.Common.{◌∙◌, refl, sym, ap, arith, length, take, length-drop}
 use Rattle.std.proofs.lemmas.List.{take_rest}
-use Rattle.aes3_recovery.specs.Levels.{levels_of_samples}
-use Rattle.aes3_recovery.proofs.SampleLevels.{levels-more, levels-nothing, levels-rest}
-use Rattle.aes3_recovery.proofs.Taking.{took-is, took-join, took-none}
+use Rattle.aes3_capture_recovery.specs.Levels.{levels_of_samples}
+use Rattle.aes3_capture_recovery.proofs.SampleLevels.{levels-more, levels-nothing, levels-rest}
+use Rattle.aes3_capture_recovery.proofs.Taking.{took-is, took-join, took-none}
 use Rattle.aes3_c.proofs.Captures.{ran-over}
 use Rattle.aes3_c.proofs.recovering.recover_all.Goals as goal
 

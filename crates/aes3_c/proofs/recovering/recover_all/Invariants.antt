@@ -1,6 +1,6 @@
 use Rattle.std.proofs.Common.{◌≡◌, ◌-◌, ◌%◌, ◌<◌, ◌≤◌, length, take}
-use Rattle.aes3_recovery.specs.Levels.{bit_of_line, bits_of_sample, levels_of_samples}
-use Rattle.aes3_recovery.specs.Taking.{Took}
+use Rattle.aes3_capture_recovery.specs.Levels.{bit_of_line, bits_of_sample, levels_of_samples}
+use Rattle.aes3_capture_recovery.specs.Taking.{Took}
 use Rattle.aes3_c.proofs.recovering.recover_all.Given as goal
 
 abbrev pub invariant-loop-piece : goal.invariant-loop-piece

@@ -1,8 +1,8 @@
 use Rattle.aes3_lock.specs.Reports.{blocks}
 use Rattle.aes3_input.proofs.InputRuns.{run-wrote}
 use Rattle.aes3_input.proofs.CellRuns.{cells-run}
-use Rattle.aes3_runs.specs.BlockRuns.{decided_blocks}
-use Rattle.aes3_runs.proofs.BlockRuns.{alike-whole, alike-begun, run-back}
+use Rattle.aes3_lock_runs.specs.BlockRuns.{decided_blocks}
+use Rattle.aes3_lock_runs.proofs.BlockRuns.{alike-whole, alike-begun, run-back}
 use Rattle.aes3_engine.specs.Carrying.{all_carried, carried}
 use Rattle.aes3_engine.proofs.carrying.to_bits.Goals as goal
 

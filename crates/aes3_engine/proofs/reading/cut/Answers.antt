@@ -1,8 +1,8 @@
 use Rattle.aes3_lock.specs.Reports.{blocks}
 use Rattle.aes3_input.proofs.InputRuns.{run-wrote}
 use Rattle.aes3_input.proofs.CellRuns.{cells-run}
-use Rattle.aes3_runs.specs.BlockRuns.{begun_stream, cut_blocks, decided_blocks, written_stream}
-use Rattle.aes3_runs.proofs.BlockRuns.{cut-whole, cut-begun}
+use Rattle.aes3_lock_runs.specs.BlockRuns.{begun_stream, cut_blocks, decided_blocks, written_stream}
+use Rattle.aes3_lock_runs.proofs.BlockRuns.{cut-whole, cut-begun}
 use Rattle.aes3_engine.proofs.reading.cut.Goals as goal
 
 pub returns-clause-run : goal.returns-clause-run

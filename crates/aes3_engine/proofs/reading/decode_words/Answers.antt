@@ -1,8 +1,8 @@
 use Rattle.std.proofs.Common.{rules}
 use Rattle.aes3_lock.specs.Reports.{blocks}
 use Rattle.aes3_input.proofs.CellRuns.{cells-run}
-use Rattle.aes3_runs.specs.BlockRuns.{decided_blocks}
-use Rattle.aes3_runs.proofs.BlockRuns.{alike-whole, alike-begun, run-back}
+use Rattle.aes3_lock_runs.specs.BlockRuns.{decided_blocks}
+use Rattle.aes3_lock_runs.proofs.BlockRuns.{alike-whole, alike-begun, run-back}
 use Rattle.aes3_engine.specs.Words.{block_words, words_file}
 use Rattle.aes3_engine.proofs.reading.decode_words.Goals as goal
 

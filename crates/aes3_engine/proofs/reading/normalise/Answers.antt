@@ -3,9 +3,9 @@ use Rattle.aes3_lock.specs.Reports.{normal}
 use Rattle.aes3_input.proofs.InputRuns.{run-wrote, run-input, run-answer, run-fits, run-owed, run-cause, run-sink_quiet}
 use Rattle.aes3_input.proofs.InputRuns.{run-refused, run-front, run-few}
 use Rattle.aes3_input.proofs.CellRuns.{cells-run, no-cell-cause}
-use Rattle.aes3_runs.specs.BlockRuns.{begun_stream, decided_blocks}
-use Rattle.aes3_runs.proofs.BlockRuns.{normal-whole, normal-begun, run-piece, run-damaged, run-left, run-lost, tells}
-use Rattle.aes3_runs.proofs.BlockRuns.{run-again}
+use Rattle.aes3_lock_runs.specs.BlockRuns.{begun_stream, decided_blocks}
+use Rattle.aes3_lock_runs.proofs.BlockRuns.{normal-whole, normal-begun, run-piece, run-damaged, run-left, run-lost, tells}
+use Rattle.aes3_lock_runs.proofs.BlockRuns.{run-again}
 use Rattle.aes3_engine.proofs.reading.normalise.Goals as goal
 
 pub returns-clause-run : goal.returns-clause-run

@@ -1,9 +1,9 @@
 use Rattle.aes3_frame.specs.Samples.{block_samples, samples}
-use Rattle.aes3_pcm.specs.Formats.{narrowed}
+use Rattle.aes3_forms_samples.specs.Formats.{narrowed}
 use Rattle.aes3_lock.specs.Reports.{blocks}
 use Rattle.aes3_input.proofs.InputRuns.{run-wrote}
 use Rattle.aes3_input.proofs.CellRuns.{cells-run}
-use Rattle.aes3_runs.specs.BlockRuns.{decided_blocks}
+use Rattle.aes3_lock_runs.specs.BlockRuns.{decided_blocks}
 use Rattle.aes3_engine.proofs.PcmRuns.{block-whole, narrowed-alike, narrowed-back, narrowed-begun, narrowed-normal}
 use Rattle.aes3_engine.proofs.PcmRuns.{narrowed-whole}
 use Rattle.aes3_engine.proofs.samples.to_pcm.Goals as goal

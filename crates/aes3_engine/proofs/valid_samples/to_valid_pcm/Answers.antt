@@ -1,8 +1,8 @@
-use Rattle.aes3_pcm.specs.Formats.{narrowed}
+use Rattle.aes3_forms_samples.specs.Formats.{narrowed}
 use Rattle.aes3_lock.specs.Reports.{blocks}
 use Rattle.aes3_input.proofs.InputRuns.{run-wrote}
 use Rattle.aes3_input.proofs.CellRuns.{cells-run}
-use Rattle.aes3_runs.specs.BlockRuns.{decided_blocks}
+use Rattle.aes3_lock_runs.specs.BlockRuns.{decided_blocks}
 use Rattle.aes3_engine.specs.ValidSamples.{valid_block_samples, valid_samples}
 use Rattle.aes3_engine.proofs.PcmRuns.{narrowed-back, narrowed-begun, narrowed-whole, valid-whole}
 use Rattle.aes3_engine.proofs.ValidSamples.{run-all-valid}

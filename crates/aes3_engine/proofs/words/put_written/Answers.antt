@@ -1,6 +1,6 @@
 use Rattle.std.proofs.Common.{ap, ◌∙◌}
 use Rattle.aes3_cell.proofs.Writing.{wrote-is}
-use Rattle.aes3_words.specs.Lists.{written_of}
+use Rattle.aes3_forms_words.specs.Lists.{written_of}
 use Rattle.aes3_engine.proofs.words.put_written.Goals as goal
 
 pub returns : goal.returns

@@ -1,7 +1,7 @@
 use Rattle.std.proofs.Common.{◌≡◌, rules}
 use Rattle.std.proofs.lemmas.Result.{err_from_is_err_and}
 use Rattle.aes3_cell.specs.Written.{bytes_of}
-use Rattle.aes3_recovery.specs.Endings.{finished}
+use Rattle.aes3_capture_recovery.specs.Endings.{finished}
 use Rattle.aes3_input.proofs.InputRuns.{run-told}
 use Rattle.aes3_input.proofs.CellRuns.{drove-ok, drove-err}
 use Rattle.aes3_spoil.specs.Spoiled.{spoiled}

@@ -1,5 +1,5 @@
 use Rattle.std.proofs.Common.{take}
-use Rattle.aes3_commands.specs.CommandLine.{IsDefinedAs}
+use Rattle.aes3_cli.specs.CommandLine.{IsDefinedAs}
 use Rattle.aes3_spoil_program.specs.SpoilLine.{line_with}
 use Rattle.aes3_spoil_program.proofs.line.command_line.Given as goal
 

@@ -3,8 +3,8 @@ use Rattle.std.proofs.lemmas.Result.{err_from_is_err_and}
 use Rattle.aes3_lock.specs.Reports.{decided, reports}
 use Rattle.aes3_input.proofs.InputRuns.{run-wrote}
 use Rattle.aes3_input.proofs.CellRuns.{cells-run}
-use Rattle.aes3_runs.proofs.ReportRuns.{told-err, told-ok}
-use Rattle.aes3_reports.specs.Lines.{report_lines, told_line}
+use Rattle.aes3_lock_runs.proofs.ReportRuns.{told-err, told-ok}
+use Rattle.aes3_text_reports.specs.Lines.{report_lines, told_line}
 use Rattle.aes3_text.proofs.RunLines.{check-whole, check-begun}
 use Rattle.aes3_text.proofs.checking.check.Goals as goal
 

@@ -2,7 +2,7 @@ use Rattle.aes3_lock.specs.Reports.{blocks}
 use Rattle.aes3_input.proofs.InputRuns.{run-wrote}
 use Rattle.aes3_input.proofs.CellRuns.{cells-run}
 use Rattle.aes3_lock.specs.Reports.{decided}
-use Rattle.aes3_runs.specs.BlockRuns.{decided_blocks}
+use Rattle.aes3_lock_runs.specs.BlockRuns.{decided_blocks}
 use Rattle.aes3_text.specs.Runs.{status_lines}
 use Rattle.aes3_text.proofs.StatusChanges.{plain-lines, plain-whole}
 use Rattle.aes3_text.proofs.showing.show.Goals as goal

@@ -5,7 +5,7 @@ use Rattle.aes3_cell.proofs.Writing.{wrote-is}
 use Rattle.aes3_lock.specs.Following.{HeldBlock, report_in}
 use Rattle.aes3_lock.specs.Reports.{decided}
 use Rattle.aes3_lock.proofs.Tallies.{few-decided}
-use Rattle.aes3_runs.proofs.Listening.{end-none, end-one}
+use Rattle.aes3_lock_runs.proofs.Listening.{end-none, end-one}
 use Rattle.aes3_engine.specs.MendSteps.{IsMendedOf}
 use Rattle.aes3_engine.proofs.MendedSteps.{bytes-given, end-bytes, few-marked, next-mended, no-end-bytes}
 use Rattle.aes3_engine.proofs.mended.MendedBlocksListener.end.Goals as goal

@@ -5,7 +5,7 @@ use Rattle.aes3_cell.proofs.Writing.{wrote-is}
 use Rattle.aes3_lock.specs.Following.{HeldBlock, report_in}
 use Rattle.aes3_lock.specs.Reports.{decided}
 use Rattle.aes3_lock.proofs.Tallies.{few-decided}
-use Rattle.aes3_runs.proofs.Listening.{told-none, told-one}
+use Rattle.aes3_lock_runs.proofs.Listening.{told-none, told-one}
 use Rattle.aes3_engine.specs.MendSteps.{IsMendedOf, mend_writing}
 use Rattle.aes3_engine.proofs.MendedSteps.{bytes-given, few-marked, mended-later, next-mended, quiet-bytes, told-bytes}
 use Rattle.aes3_engine.proofs.mended.MendedBlocksListener.hear.Goals as goal

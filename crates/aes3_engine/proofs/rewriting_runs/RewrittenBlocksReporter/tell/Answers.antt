@@ -2,8 +2,8 @@ use Rattle.std.proofs.Common.{◌∙◌}
 use Rattle.aes3_cell.specs.Written.{ending}
 use Rattle.aes3_cell.proofs.Writing.{ok-always, wrote-is}
 use Rattle.aes3_lock.specs.Following.{report_in}
-use Rattle.aes3_runs.specs.BlockRuns.{report_bytes}
-use Rattle.aes3_runs.proofs.ReportLemmas.{adds-is}
+use Rattle.aes3_lock_runs.specs.BlockRuns.{report_bytes}
+use Rattle.aes3_lock_runs.proofs.ReportLemmas.{adds-is}
 use Rattle.aes3_engine.specs.Rewriting.{rewritten_block}
 use Rattle.aes3_engine.proofs.RewritingRuns.{same-bytes}
 use Rattle.aes3_engine.proofs.rewriting_runs.RewrittenBlocksReporter.tell.Goals as goal

@@ -2,7 +2,7 @@ use Rattle.std.proofs.Common.{◌≡◌, ◌-◌, ◌%◌, ◌++◌, ℕ, length
 use Rattle.std.proofs.Common.{length-append}
 use Rattle.std.proofs.lemmas.List.{length-take-le, length-replicate}
 use Rattle.aes3_cell.proofs.Growing.{grew-is, front-is}
-use Rattle.aes3_pcm.specs.Formats.{block_len, frame_len}
+use Rattle.aes3_forms_samples.specs.Formats.{block_len, frame_len}
 use Rattle.aes3_engine.proofs.PcmWords.{block-room}
 use Rattle.aes3_engine.proofs.SampleReads.{end-none, end-tail, end-part, end-refused, fill-front, block-made}
 use Rattle.aes3_engine.proofs.sampling.SampleInputInputChange.finish.Goals as goal

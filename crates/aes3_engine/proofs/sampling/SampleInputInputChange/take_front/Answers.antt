@@ -5,7 +5,7 @@ use Rattle.std.proofs.lemmas.List.{length-take-le, get_or-take, take-append-drop
 use Rattle.std.proofs.lemmas.Slice.{take-put_mid}
 use Rattle.aes3_cell.proofs.Growing.{grew-none, grew-is, front-is}
 use Rattle.aes3_files.specs.Sound.{begins_sound}
-use Rattle.aes3_pcm.specs.Formats.{block_len}
+use Rattle.aes3_forms_samples.specs.Formats.{block_len}
 use Rattle.aes3_engine.proofs.PcmWords.{block-room}
 use Rattle.aes3_engine.proofs.SampleReads.{made-short, front-fed, front-header, front-part, front-stopped, block-made}
 use Rattle.aes3_engine.proofs.sampling.SampleInputInputChange.take_front.Goals as goal

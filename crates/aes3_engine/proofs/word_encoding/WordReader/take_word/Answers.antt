@@ -1,8 +1,8 @@
 use Rattle.std.proofs.Common.{◌∙◌, ◌-◌, ◌++◌, [], refl, sym, ap, length}
 use Rattle.std.proofs.Common.{length-append, arith, rules, Ok}
-use Rattle.aes3_words.specs.Forms.{own_word}
-use Rattle.aes3_words.specs.Lists.{each_word, own_of}
-use Rattle.aes3_words.proofs.Ahead.{length-own-le, next-left, next-own}
+use Rattle.aes3_forms_words.specs.Forms.{own_word}
+use Rattle.aes3_forms_words.specs.Lists.{each_word, own_of}
+use Rattle.aes3_forms_words.proofs.Ahead.{length-own-le, next-left, next-own}
 use Rattle.aes3_input.specs.Running.{movement_of}
 use Rattle.aes3_input.proofs.Feeding.{fed-none}
 use Rattle.aes3_engine.specs.Encoding.{Encodes, encoding}

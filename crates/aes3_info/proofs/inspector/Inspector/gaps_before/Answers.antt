@@ -1,5 +1,5 @@
 use Rattle.std.proofs.Common.{◌∙◌, ap, ltb}
-use Rattle.aes3_gaps.specs.Gaps.{gaps}
+use Rattle.aes3_lock_gaps.specs.Gaps.{gaps}
 use Rattle.aes3_info.specs.Facts.{gap_facts}
 use Rattle.aes3_info.proofs.Counting.{whole-found}
 use Rattle.aes3_info.proofs.inspector.Inspector.gaps_before.Goals as goal

@@ -2,8 +2,8 @@ use Rattle.std.proofs.Common.{◌++◌, ◌∷◌, ◌∙◌, [], ap, append-nil
 use Rattle.aes3_cell.proofs.Writing.{ok-always, wrote-is}
 use Rattle.aes3_lock.specs.Following.{report_in}
 use Rattle.aes3_lock.specs.Reports.{decided}
-use Rattle.aes3_runs.proofs.Listening.{end-none, end-one}
-use Rattle.aes3_account.proofs.Accounts.{near-last}
+use Rattle.aes3_lock_runs.proofs.Listening.{end-none, end-one}
+use Rattle.aes3_watch.proofs.Accounts.{near-last}
 use Rattle.aes3_info.specs.Pages.{page}
 use Rattle.aes3_info.proofs.Inspecting.{all-facts, end-page}
 use Rattle.aes3_info.proofs.inspector.InspectorListener.end.Goals as goal

@@ -2,8 +2,8 @@ use Rattle.std.proofs.Common.{refl, sym, arith}
 use Rattle.aes3_cell.proofs.Growing.{grew-is, grew-none}
 use Rattle.aes3_lock.specs.Following.{report_in}
 use Rattle.aes3_lock.specs.Reports.{decided}
-use Rattle.aes3_runs.proofs.Listening.{told-none, told-one}
-use Rattle.aes3_account.proofs.Accounts.{near-new}
+use Rattle.aes3_lock_runs.proofs.Listening.{told-none, told-one}
+use Rattle.aes3_watch.proofs.Accounts.{near-new}
 use Rattle.aes3_info.proofs.Inspecting.{none-behind}
 use Rattle.aes3_info.proofs.inspector.InspectorListener.hear.Goals as goal
 

@@ -3,7 +3,7 @@ use Rattle.std.specs.Prelude.{bit_or}
 use Rattle.aes3_level.specs.Words.{low_cells}
 use Rattle.aes3_level.proofs.WordCells.{length-low_cells}
 use Rattle.aes3_cell.specs.Pending.{begun_cells}
-use Rattle.aes3_recovery.proofs.WordBits.{cells-fit, fit-bound, cells-split, split-bound}
+use Rattle.aes3_capture_recovery.proofs.WordBits.{cells-fit, fit-bound, cells-split, split-bound}
 use Rattle.aes3_spoil.proofs.WholeWords.{begun-few, begun-word, if-ok, wrote-none, wrote-word}
 use Rattle.aes3_spoil.proofs.cells_out.CellsOut.put.Goals as goal
 

@@ -1,7 +1,7 @@
 use Rattle.std.proofs.Common.{◌%◌, sym, ◌∙◌, ap, arith, replicate, [], ◌∷◌, cond}
 use Rattle.std.specs.Prelude.{not}
 use Rattle.aes3_level.specs.Words.{level_of, low_cells}
-use Rattle.aes3_recovery.specs.Endings.{level_if}
+use Rattle.aes3_capture_recovery.specs.Endings.{level_if}
 use Rattle.aes3_spoil.specs.Errors.{errors_at}
 use Rattle.aes3_spoil.specs.declared.kinds.ErrorKind.TheVariants.{Changed}
 use Rattle.aes3_spoil.proofs.Taking.{inverted-one, one-cell, one-stands, took, turned-one}

@@ -1,7 +1,7 @@
 use Rattle.std.proofs.Common.{[], refl}
 use Rattle.aes3_cell.proofs.Growing.{grew-is, grew-none}
-use Rattle.aes3_runs.proofs.ReportLemmas.{ends-is}
-use Rattle.aes3_reports.specs.Lines.{told_line}
+use Rattle.aes3_lock_runs.proofs.ReportLemmas.{ends-is}
+use Rattle.aes3_text_reports.specs.Lines.{told_line}
 use Rattle.aes3_text.proofs.checking.ReportLinesReporter.finish.Goals as goal
 
 pub returns : goal.returns

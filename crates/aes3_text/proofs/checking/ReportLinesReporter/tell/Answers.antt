@@ -2,9 +2,9 @@ use Rattle.std.proofs.Common.{[], ◌∙◌}
 use Rattle.aes3_slot.specs.ReadWords.{read_words}
 use Rattle.aes3_cell.proofs.Writing.{wrote-is}
 use Rattle.aes3_lock.specs.Following.{report_in}
-use Rattle.aes3_runs.proofs.ReportLemmas.{adds-is}
-use Rattle.aes3_reports.specs.Lines.{told_line}
-use Rattle.aes3_reports.proofs.EndingLines.{ending-told}
+use Rattle.aes3_lock_runs.proofs.ReportLemmas.{adds-is}
+use Rattle.aes3_text_reports.specs.Lines.{told_line}
+use Rattle.aes3_text_reports.proofs.EndingLines.{ending-told}
 use Rattle.aes3_text.proofs.checking.ReportLinesReporter.tell.Goals as goal
 
 pub returns-clause-wrote : goal.returns-clause-wrote

@@ -1,6 +1,0 @@
-use Rattle.aes3_gaps.proofs.BegunAccounts.{account-stands}
-use Rattle.aes3_account_laws.proofs.Covering.{begun-covers, accounted-soon}
-use Rattle.aes3_account_laws.proofs.account_is_in_time.Goals as goal
-
-pub returns : goal.returns
-returns c = record { time = λ d. (begun-covers d, accounted-soon d); stands = account-stands }

@@ -1,5 +1,0 @@
-use Rattle.aes3_account_laws.proofs.LockedLines.{blocks-follow}
-use Rattle.aes3_account_laws.proofs.blocks_follow_or_are_told.Goals as goal
-
-pub returns : goal.returns
-returns c = blocks-follow

@@ -1,5 +1,0 @@
-use Rattle.aes3_account_laws.proofs.FewEvents.{cells-few, events-few}
-use Rattle.aes3_account_laws.proofs.events_are_few.Goals as goal
-
-pub returns : goal.returns
-returns c = record { blocks = events-few; cells = cells-few }

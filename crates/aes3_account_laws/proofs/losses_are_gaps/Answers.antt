@@ -1,5 +1,0 @@
-use Rattle.aes3_account_laws.proofs.WatchedGaps.{losses-are-gaps}
-use Rattle.aes3_account_laws.proofs.losses_are_gaps.Goals as goal
-
-pub returns : goal.returns
-returns c = losses-are-gaps

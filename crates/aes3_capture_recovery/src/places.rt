@@ -1,0 +1,169 @@
+//! The places of edges among the levels of many samples, found before the edges are followed.
+
+ghost use Rattle.std.specs.Prelude.{ℕ, List, ◌≡◌, ◌+◌, ◌-◌, ◌*◌, ◌%◌, ◌<◌, ◌≤◌, ◌^◌, ◌∷◌, ◌++◌, [], drop, length, take};
+ghost use Rattle.std.specs.List.{flat_map};
+ghost use Rattle.aes3_level.specs.Words.{word_cells};
+ghost use Rattle.aes3_capture_recovery.specs.Endings.{level_if};
+ghost use Rattle.aes3_capture_recovery.specs.Turns.{Put, gaps, last_place, set_bits, turns};
+
+use aes3_capture::TRACKED;
+
+/// How many words of 64 levels are taken at once.
+pub const WORDS: usize = 64;
+
+/// How many edges lie among their levels at most.
+const EDGES: usize = 64 * WORDS;
+
+/// Where the first word begins: places count from so far before it that the edge before it has a place too.
+pub(crate) const BEGIN: u32 = 128;
+
+/// The places of edges, in samples, and the runs of samples between them.
+#[derive(Drop)]
+pub struct Places {
+    /// The first is that of the edge before the words; behind the last stand others that count for nothing.
+    places: [u32; EDGES + 65],
+    /// How many samples lie between each place and the next.
+    runs: [u32; EDGES],
+    ghost many: { length runs ≡ 4096 },
+}
+
+impl Places {
+    /// No places.
+    pub fn new() -> Self {
+        Places {
+            places: [0; EDGES + 65],
+            runs: [0; EDGES],
+        }
+    }
+
+    /// Finds the edges of words, where the line has this level before them and an edge lies so many samples before the
+    /// first; answers how many there are. `sparse` says that few words have more than two, which costs less then.
+    pub fn find(&mut self, words: &[u64], high: bool, waiting: u32, sparse: bool) -> usize
+        requires few { length words.now ≤ 64 }
+        requires near { waiting ≤ 128 }
+        ensures most { result ≤ 64 * length words.now }
+        ensures places { take (result + 1) self.new.places ≡ (128 - waiting)
+            ∷ turns (level_if high) 128 (flat_map word_cells words.now) }
+        ensures runs { self.new.runs ≡ self.old.runs }
+    {
+        self.places[0] = BEGIN - waiting;
+        let mut before = u64::from(high);
+        let mut count = 0;
+        for i in 0..words.len() {
+            let word = words[i];
+            let changes = word ^ (word << 1 | before);
+            let base = BEGIN + 64 * i as u32;
+            count = put_places(&mut self.places, count + 1, base, changes, sparse) - 1;
+            before = word >> 63;
+        }
+        count
+    }
+
+    /// Tells how many samples lie between each of so many edges and the one before it; answers the longest of these runs.
+    pub fn measure(&mut self, count: usize) -> u32
+        requires few { count ≤ 4096 }
+        ensures runs { (first : ℕ) (more : List ℕ) → take (count + 1) self.old.places ≡ first ∷ more
+            → take count self.new.runs ≡ gaps first more }
+        ensures places { self.new.places ≡ self.old.places }
+    {
+        let mut longest = 0;
+        for i in 0..count {
+            let run = self.places[i + 1].saturating_sub(self.places[i]);
+            self.runs[i] = run;
+            longest = longest.max(run);
+        }
+        longest
+    }
+
+    /// How many samples of so many words lie behind the last of so many edges.
+    pub fn behind(&self, count: usize, words: usize) -> u32
+        requires few { count ≤ 4096 }
+        requires many { words ≤ 64 }
+        ensures { (first : ℕ) (more : List ℕ) → take (count + 1) self.now.places ≡ first ∷ more
+            → result ≡ (128 + 64 * words) - last_place first more }
+    {
+        (BEGIN + 64 * words as u32).saturating_sub(self.places[count])
+    }
+
+    /// The run that edge number `at` ends.
+    pub fn run(&self, at: usize) -> u32
+        requires within { at < 4096 }
+        ensures { take 1 (drop at self.now.runs) ≡ result ∷ [] }
+    {
+        self.runs[at]
+    }
+
+    /// The runs of the edges from number `at` on.
+    pub fn runs(&self, at: usize, count: usize) -> &[u32]
+        requires ordered { at ≤ count }
+        requires few { count ≤ 4096 }
+        ensures { result.now ≡ take (count - at) (drop at self.now.runs) }
+    {
+        &self.runs[at..count]
+    }
+
+    /// The place of the edge before number `at`, and those of 32 edges from it on.
+    pub fn near(&self, at: usize) -> &[u32]
+        requires within { at < 4096 }
+        ensures { length result.now ≡ 33 }
+    {
+        &self.places[at..at + TRACKED + 1]
+    }
+}
+
+/// Puts the places of a word's bits that are set, the lowest first; answers how many places there are then.
+///
+/// Four are put at once, or two of a sparse word, since how many there are can't be foreseen; what is put after the last counts for
+/// nothing.
+#[inline(always)]
+fn put_places(places: &mut [u32], from: usize, base: u32, bits: u64, sparse: bool) -> usize
+    requires room { from + 66 ≤ length places.old }
+    requires base_bound { base + 64 < 2 ^ 32 }
+    ensures written { take result places.new ≡ take from places.old ++ set_bits 64 base bits }
+    ensures least { from ≤ result }
+    ensures most { result ≤ from + 64 }
+    ensures length { length places.new ≡ length places.old }
+{
+    let count = bits.count_ones() as usize;
+    let (mut rest, mut at) = put_first(places, from, base, bits, sparse);
+    while at < count {
+        rest = put_some(places, from + at, base, rest, 4);
+        at += 4;
+    }
+    from + count
+}
+
+/// Puts the places of the two or four lowest bits that are set; answers the others, and how many places it put.
+#[inline(always)]
+fn put_first(places: &mut [u32], at: usize, base: u32, bits: u64, sparse: bool) -> (u64, usize)
+    requires room { at + 4 ≤ length places.old }
+    requires base_bound { base + 64 < 2 ^ 32 }
+    ensures put { (wanted : List ℕ) → Put wanted base places.old at bits
+        → Put wanted base places.new (at + result.1) result.0 }
+    ensures even { result.1 % 2 ≡ 0 }
+    ensures most { result.1 ≤ 4 }
+    ensures length { length places.new ≡ length places.old }
+{
+    if sparse {
+        (put_some(places, at, base, bits, 2), 2)
+    } else {
+        (put_some(places, at, base, bits, 4), 4)
+    }
+}
+
+/// Puts the places of so many of the lowest bits that are set, and answers the others.
+#[inline(always)]
+fn put_some(places: &mut [u32], at: usize, base: u32, bits: u64, count: usize) -> u64
+    requires room { at + count ≤ length places.old }
+    requires base_bound { base + 64 < 2 ^ 32 }
+    ensures put { (wanted : List ℕ) → Put wanted base places.old at bits
+        → Put wanted base places.new (at + count) result }
+    ensures length { length places.new ≡ length places.old }
+{
+    let mut rest = bits;
+    for i in 0..count {
+        places[at + i] = base + rest.trailing_zeros();
+        rest &= rest.wrapping_sub(1);
+    }
+    rest
+}

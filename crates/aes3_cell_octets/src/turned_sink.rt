@@ -1,0 +1,97 @@
+//! Octets of cells whose first cell stands in the lowest bit, as they are written.
+
+ghost use Rattle.std.specs.Prelude.{◌≡◌, ◌+◌, ◌<◌, ◌≤◌, ◌^◌, length, map};
+ghost use Rattle.std.specs.Prelude.{min, take, IfOk, OnErr};
+ghost use Rattle.std.specs.Option.{is_some};
+ghost use Rattle.aes3_cell.specs.Ends.{Grew};
+ghost use Rattle.aes3_cell_octets.specs.Octets.{turned};
+ghost use Rattle.aes3_cell_octets.specs.Told.{all_turned};
+
+use crate::turning::turn;
+use aes3_cell::{Fault, Sink};
+
+/// How many octets are turned and handed on at once, at most.
+const PIECE_LEN: usize = 65_536;
+
+fn blank_piece() -> [u8; PIECE_LEN]
+    ensures { length result ≡ PIECE_LEN }
+{
+    [0; PIECE_LEN]
+}
+
+/// Puts the first octets into the front of a piece, turned, and says how many these are.
+fn fill_turned(octets: &[u8], piece: &mut [u8]) -> usize
+    ensures len { length piece.new ≡ length piece.old }
+    ensures count { result ≡ min (length octets.now) (length piece.new) }
+    ensures octets { take result piece.new ≡ map turned (take result octets.now) }
+{
+    let n = octets.len().min(piece.len());
+    piece[..n].copy_from_slice(&octets[..n]);
+    turn(&mut piece[..n]);
+    n
+}
+
+/// Hands octets to the sink behind it, with the bits of each turned.
+///
+/// Whole octets of cells are packed with the first cell of each octet in the lowest bit then: the
+/// octet that counts is turned too, but it is 0.
+#[derive(Drop)]
+pub struct TurnedSink<T: Drop> {
+    sink: T,
+}
+
+impl<T: Sink + Drop> TurnedSink<T> {
+    /// Hands octets to this sink, turned.
+    pub fn new(sink: T) -> Self
+        ensures { result.sink ≡ sink }
+    {
+        TurnedSink { sink }
+    }
+
+    /// The sink behind it, which has all that this one took.
+    pub fn into_sink(self) -> T
+        ensures { result ≡ self.sink }
+    {
+        self.sink
+    }
+}
+
+impl<T: Sink + Drop> Sink for TurnedSink<T> {
+    ghost taken = { λ s. all_turned (T.taken s.sink) };
+
+    ghost passed = { λ s. all_turned (T.passed s.sink) };
+
+    ghost failed = { λ s. T.failed s.sink };
+
+    /// Hands the first octets on, turned, and says how many the sink took.
+    fn write(&mut self, buf: &[u8]) -> Result<usize, Fault>
+        requires room { T.failed self.old.sink + 1 < 2 ^ 64 }
+        ensures bound { IfOk result (λ n. n ≤ length buf.now) }
+        ensures some { IfOk result (λ n. 0 < length buf.now → 0 < n) }
+        ensures bytes { IfOk result (λ n. Grew (all_turned (T.taken self.old.sink))
+            (all_turned (T.taken self.new.sink)) (take n buf.now)) }
+        ensures count { IfOk result (λ _. T.failed self.new.sink ≡ T.failed self.old.sink) }
+        ensures err { OnErr result ((T.failed self.new.sink ≡ T.failed self.old.sink + 1)
+            × (all_turned (T.taken self.new.sink) ≡ all_turned (T.taken self.old.sink))) }
+        ensures tells { is_some (all_turned (T.taken self.new.sink))
+            ≡ is_some (all_turned (T.taken self.old.sink)) }
+        ensures handed { IfOk result (λ n. Grew (T.taken self.old.sink) (T.taken self.new.sink)
+            (map turned (take n buf.now))) }
+    {
+        let mut piece = blank_piece();
+        let n = fill_turned(buf, &mut piece);
+        self.sink.write(&piece[..n])
+    }
+
+    fn flush(&mut self) -> Result<(), Fault> {
+        self.sink.flush()
+    }
+
+    fn failures(&self) -> u64 {
+        self.sink.failures()
+    }
+
+    fn takes_much(&self) -> bool {
+        self.sink.takes_much()
+    }
+}

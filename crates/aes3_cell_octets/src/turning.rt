@@ -1,0 +1,41 @@
+//! The bits of octets in the opposite order, eight octets at once.
+
+ghost use Rattle.std.specs.Prelude.{◌≡◌, ◌≤◌, length, map};
+ghost use Rattle.aes3_cell_octets.specs.Octets.{turned};
+
+use aes3_cell::octets_of_word;
+
+/// How many octets are turned at once.
+const EIGHT: usize = 8;
+
+/// Turns the bits of each octet: the lowest becomes the highest.
+pub(crate) fn turn(octets: &mut [u8])
+    ensures { octets.new ≡ map turned octets.old }
+{
+    let eights = octets.len() / EIGHT;
+    for i in 0..eights {
+        turn_few(&mut octets[EIGHT * i..EIGHT * i + EIGHT]);
+    }
+    turn_few(&mut octets[EIGHT * eights..]);
+}
+
+/// Turns the bits of at most eight octets.
+#[inline(always)]
+fn turn_few(octets: &mut [u8])
+    requires { length octets.old ≤ EIGHT }
+    ensures { octets.new ≡ map turned octets.old }
+{
+    let n = octets.len();
+    let mut eight = [0; EIGHT];
+    eight[..n].copy_from_slice(octets);
+    octets.copy_from_slice(&turned_eight(&eight)[..n]);
+}
+
+/// The octets with the bits of each turned: in a word cells stand with the earliest in the lowest
+/// bit, and in the octets of that word with the earliest in the highest.
+#[inline(always)]
+fn turned_eight(octets: &[u8; EIGHT]) -> [u8; EIGHT]
+    ensures { result ≡ map turned octets.now }
+{
+    octets_of_word(u64::from_le_bytes(*octets))
+}

@@ -1,0 +1,111 @@
+//! What the first samples of a capture tell where no line is found in it.
+
+use crate::search::{is_line, unit_of};
+use aes3_capture_recovery::Unit;
+use std::alloc::{AllocError, Global};
+
+/// How many samples to an edge a line has at least: no fewer than a cell, and an edge comes in each
+/// cell at most.
+const FEWEST_SAMPLES_AN_EDGE: u64 = 2;
+
+/// What the first samples of a capture tell of one of their bits.
+#[derive(Clone, Copy)]
+pub struct Look {
+    unit: Unit,
+    samples: u64,
+    /// How many edges the bit has, and the lowest bit with one.
+    edges: u64,
+    toggling: Option<u8>,
+    /// The bit in which a line lies where a sample has the other number of octets.
+    other_unit: Option<u8>,
+}
+
+impl Look {
+    /// What these octets tell of the bit. Where another unit could help, it is searched for a line.
+    pub fn of(alloc: Global, first: &[u8], unit: Unit, searches: bool) -> Self {
+        let octets = unit.len();
+        let mut look = Look {
+            unit,
+            samples: (first.len() / octets) as u64,
+            edges: edges_of(first, unit),
+            toggling: None,
+            other_unit: None,
+        };
+        for bit in 0..if octets == 1 { 8 } else { 16 } {
+            if look.toggling.is_none() && edges_of(first, unit_of(octets, bit)) > 0 {
+                look.toggling = Some(bit);
+            }
+        }
+        if searches {
+            look.other_unit = other_unit_bit(alloc, first, octets);
+        }
+        look
+    }
+
+    /// Why no line was found, for people, up to a colon.
+    ///
+    /// # Errors
+    /// Memory was refused.
+    pub fn why(&self, alloc: Global) -> Result<String, AllocError> {
+        let bit = bit_of(self.unit);
+        let samples = self.samples;
+        match (self.edges, self.toggling, self.other_unit) {
+            (_, _, Some(other)) => {
+                let octets = if self.unit.len() == 1 { 2 } else { 1 };
+                format!(in alloc; "with --unit {octets} a line is in bit {other}")
+            }
+            (0, None, _) => format!(in alloc; "no bit toggles in the first {samples} samples"),
+            (0, Some(toggling), _) => {
+                format!(in alloc;
+                    "bit {bit} does not toggle in the first {samples} samples, bit {toggling} does"
+                )
+            }
+            (edges, _, _) if samples / edges < FEWEST_SAMPLES_AN_EDGE => {
+                format!(in alloc;
+                    "bit {bit} toggles {edges} times in {samples} samples, too often for a line"
+                )
+            }
+            (edges, _, _) => {
+                format!(in alloc;
+                    "bit {bit} toggles {edges} times in the first {samples} samples, but as no line does"
+                )
+            }
+        }
+    }
+}
+
+/// The number of the bit.
+fn bit_of(unit: Unit) -> u8 {
+    match unit {
+        Unit::Octets(bit) | Unit::Pairs(bit) => bit,
+    }
+}
+
+/// How many edges the samples have in this bit.
+fn edges_of(samples: &[u8], unit: Unit) -> u64 {
+    let (len, at, bit) = match unit {
+        Unit::Octets(bit) => (1, 0, bit & 7),
+        Unit::Pairs(bit) => (2, usize::from(bit >> 3 & 1), bit & 7),
+    };
+    let mut edges: u64 = 0;
+    let mut before = None;
+    for octet in samples.iter().skip(at).step_by(len) {
+        let level = *octet >> bit & 1;
+        if before.is_some_and(|before| before != level) {
+            edges = edges.saturating_add(1);
+        }
+        before = Some(level);
+    }
+    edges
+}
+
+/// The lowest bit with a line where a sample has the other number of octets than this.
+fn other_unit_bit(alloc: Global, first: &[u8], octets: usize) -> Option<u8> {
+    let other = if octets == 1 { 2 } else { 1 };
+    for bit in 0..if other == 1 { 8 } else { 16 } {
+        if is_line(alloc, first, unit_of(other, bit), None) {
+            return Some(bit);
+        }
+    }
+    None
+}

@@ -1,0 +1,53 @@
+//! What to do with a file that is no capture.
+
+use aes3_capture_recovery::Unit;
+use aes3_files::{FileKind, are_packed, are_turned};
+
+/// How many of the first octets are looked at.
+pub const FIRST_LEN: usize = 512;
+
+/// What a file that begins so is, and what to do with it, where it is no capture of a line.
+pub fn advice_on_other(first: &[u8], unit: Unit) -> Option<&'static str> {
+    match FileKind::of(first) {
+        FileKind::Sound(_) => Some(
+            "this is a sound file: `sox FILE -t s32 -c 2 - | aes3 from-pcm` takes its samples",
+        ),
+        FileKind::ValueChanges => Some(
+            "this is a value change dump: `sigrok-cli -I vcd:downsample=10 -i FILE -O binary | aes3-cells` makes cells of it, at a time scale of 1 ns",
+        ),
+        FileKind::Session => Some(
+            "a session of sigrok begins so: `sigrok-cli -i FILE -O binary | aes3-cells` makes cells of it",
+        ),
+        FileKind::Compressed => Some("this file is compressed: take it apart first"),
+        FileKind::Executable => Some("this is a program"),
+        FileKind::CellText if first.contains(&b'\n') => {
+            Some("these are cells as text already: `aes3 check FILE` reads them")
+        }
+        FileKind::OtherText if first.contains(&b'\n') => Some(
+            "this is text, and may be a table (CSV) of a logic analyser: export its samples as octets",
+        ),
+        _ if are_packed(first) && has_single_sample(first, unit) => {
+            Some("these are packed cells already: `aes3 check --packed-in FILE` reads them")
+        }
+        _ if are_turned(first) && has_single_sample(first, unit) => Some(
+            "these are packed cells already: `aes3 check --packed-in --lsb-first FILE` reads them",
+        ),
+        _ => None,
+    }
+}
+
+/// Whether a level lasts one sample alone, as it never does where a cell has two.
+fn has_single_sample(first: &[u8], unit: Unit) -> bool {
+    let Unit::Octets(bit) = unit else {
+        return false;
+    };
+    for octets in first.windows(3) {
+        let middle = octets[1] >> (bit & 7);
+        if ((octets[0] >> (bit & 7)) ^ middle) & 1 == 1
+            && ((octets[2] >> (bit & 7)) ^ middle) & 1 == 1
+        {
+            return true;
+        }
+    }
+    false
+}

@@ -1,0 +1,365 @@
+//! The options and values that commands take, each with the line that help tells of it.
+
+ghost use Rattle.aes3_cli.specs.CommandLine.{IsOption, flag, number, rule, settings_option};
+ghost use Rattle.aes3_cli.specs.CommandLine.{file_name, named_option, number_option, text_option, word};
+
+use clap::builder::ValueParser;
+use clap::{Arg, ArgAction};
+use std::alloc::Global;
+
+/// How many frames a second a line has at most, by `--rate`.
+const MOST_FRAMES: u64 = 1_000_000;
+
+/// After how many cells sums are told at most, by `--every`: so many bytes an input has at most.
+const MOST_CELLS: u64 = 1 << 40;
+
+/// After how many seconds they are told at most, by `--every-seconds`: an hour.
+const MOST_SECONDS: u64 = 3_600;
+
+/// An option or a value that a command takes.
+#[derive(Clone, Copy)]
+pub(crate) enum Argument {
+    /// `--packed-in`: the cells that are read are packed.
+    PackedIn,
+    /// `--raw-in`: they are raw octets.
+    RawIn,
+    /// `--packed-out`: the cells that are written are packed.
+    PackedOut,
+    /// `--lsb-first`: the first of eight packed cells stands in the lowest bit.
+    LsbFirst,
+    /// `--faults` of `check`.
+    Faults,
+    /// `--gaps` of `check`.
+    Gaps,
+    /// `--changes` of `show`.
+    Changes,
+    /// `--at` of `show`.
+    At,
+    /// `--more` of `show`.
+    More,
+    /// `--names` of `show`.
+    Names,
+    /// `--json` of `watch`.
+    Json,
+    /// `--rate HZ` of `watch`.
+    Rate,
+    /// `--every CELLS` of `watch`.
+    Every,
+    /// `--every-seconds N` of `watch`.
+    EverySeconds,
+    /// The number of the first block of `cut`.
+    From,
+    /// How many blocks `cut` takes.
+    Count,
+    /// `--status1 HEX48`: the status of channel 1.
+    Status1,
+    /// `--status2 HEX48`: the status of channel 2.
+    Status2,
+    /// `--preset consumer|professional`: the usual status of a use.
+    Preset,
+    /// `--rate HZ` of `from-pcm`: the sampling frequency that the status tells.
+    SampleRate,
+    /// `--set NAME=WORD`: a field of both channels.
+    Set,
+    /// `--set1 NAME=WORD`: a field of channel 1.
+    Set1,
+    /// `--set2 NAME=WORD`: a field of channel 2.
+    Set2,
+    /// `--mend-check`: check bytes are made anew.
+    MendCheck,
+    /// `--valid1 0|1`: the validity bit of channel 1.
+    Valid1,
+    /// `--valid2 0|1`: the validity bit of channel 2.
+    Valid2,
+    /// `--clear-user1`: the user bits of channel 1 become 0.
+    ClearUser1,
+    /// `--clear-user2`: the user bits of channel 2 become 0.
+    ClearUser2,
+    /// `--valid` of `to-pcm`.
+    Valid,
+    /// `--fill zero|hold` of `to-pcm`.
+    Fill,
+    /// `--marked` of `to-pcm`.
+    Marked,
+    /// `--exact` of `from-pcm`.
+    Exact,
+    /// `--exact` of `to-pcm`.
+    ExactSamples,
+    /// `--exact` of `rewrite`.
+    ExactSettings,
+    /// `--pcm s32|s24|s24in32|s16`: the form of samples.
+    Pcm,
+    /// `--words own|alsa|am824`: the form of the words of a block file.
+    Words,
+    /// Which bits `to-bits` writes.
+    Bits,
+    /// Of which channel it writes them.
+    Channel,
+    /// The name of the file that is read in place of standard input.
+    File,
+}
+
+impl Argument {
+    /// Its definition, with its line of help.
+    pub(crate) fn define<'a>(self, alloc: Global) -> Arg<'a>
+        ensures { IsOption (rule self) result }
+    {
+        match self {
+            Argument::PackedIn => flag(alloc, "packed-in", "Read packed cells, eight an octet"),
+            Argument::RawIn => flag(
+                alloc,
+                "raw-in",
+                "Read packed cells with no last octet that counts",
+            ),
+            Argument::PackedOut => flag(alloc, "packed-out", "Write packed cells, eight an octet"),
+            Argument::LsbFirst => flag(
+                alloc,
+                "lsb-first",
+                "Packed cells have the first of eight in the lowest bit",
+            ),
+            Argument::Faults => flag(alloc, "faults", "Leave the whole blocks out"),
+            Argument::Gaps => flag(alloc, "gaps", "Tell and count cells in no whole block"),
+            Argument::Changes => flag(alloc, "changes", "Leave out what is as in the block before"),
+            Argument::At => flag(alloc, "at", "Tell the cell at which each block begins"),
+            Argument::More => flag(
+                alloc,
+                "more",
+                "Tell how many V and U bits are 1, and that cell",
+            ),
+            Argument::Names => flag(
+                alloc,
+                "names",
+                "Tell the words of codes that are printed as numbers",
+            ),
+            Argument::Json => flag(alloc, "json", "Write JSON objects in place of words"),
+            Argument::Rate => number_option(
+                alloc,
+                "rate",
+                "HZ",
+                MOST_FRAMES,
+                "Tell times, where a second has HZ frames",
+            ),
+            Argument::Every => number_option(
+                alloc,
+                "every",
+                "CELLS",
+                MOST_CELLS,
+                "Tell sums after each CELLS cells",
+            ),
+            Argument::EverySeconds => number_option(
+                alloc,
+                "every-seconds",
+                "N",
+                MOST_SECONDS,
+                "Tell sums after each N seconds, by --rate",
+            ),
+            Argument::From => number(
+                alloc,
+                "FROM",
+                0,
+                u64::MAX,
+                "The number of the first block, from 0 on",
+            ),
+            Argument::Count => number(alloc, "COUNT", 0, u64::MAX, "How many blocks"),
+            Argument::Status1 => text(
+                alloc,
+                "status1",
+                "HEX48",
+                "The status of channel 1, in hexadecimal",
+            ),
+            Argument::Status2 => text(
+                alloc,
+                "status2",
+                "HEX48",
+                "The status of channel 2, in hexadecimal",
+            ),
+            Argument::Preset => text(
+                alloc,
+                "preset",
+                "consumer|professional",
+                "Begin with the usual status of this use",
+            ),
+            Argument::SampleRate => named_text(
+                alloc,
+                "hz",
+                "rate",
+                "HZ",
+                "The sampling frequency that the status tells, as 48000 or 48k",
+            ),
+            Argument::Set => settings(
+                alloc,
+                "set",
+                "A field of both channels as `show` prints it; may be repeated",
+            ),
+            Argument::Set1 => settings(
+                alloc,
+                "set1",
+                "A field of channel 1 as `show` prints it; may be repeated",
+            ),
+            Argument::Set2 => settings(
+                alloc,
+                "set2",
+                "A field of channel 2 as `show` prints it; may be repeated",
+            ),
+            Argument::MendCheck => flag(
+                alloc,
+                "mend-check",
+                "Write the check byte that professional status asks for",
+            ),
+            Argument::Valid1 => bit(
+                alloc,
+                "valid1",
+                "The validity bit of channel 1: 0 says that samples can be taken as they are",
+            ),
+            Argument::Valid2 => bit(
+                alloc,
+                "valid2",
+                "The validity bit of channel 2: 0 says that samples can be taken as they are",
+            ),
+            Argument::ClearUser1 => flag(alloc, "clear-user1", "Make the user bits of channel 1 0"),
+            Argument::ClearUser2 => flag(alloc, "clear-user2", "Make the user bits of channel 2 0"),
+            Argument::Valid => flag(
+                alloc,
+                "valid",
+                "Write zero for a sample whose validity bit is 1",
+            ),
+            Argument::Fill => text(
+                alloc,
+                "fill",
+                "zero|hold",
+                "Keep time: fill what no whole block gives with zeros, or with the last frame",
+            ),
+            Argument::Marked => flag(
+                alloc,
+                "marked",
+                "With --fill: give blocks with wrong parity too, and fill those subframes",
+            ),
+            Argument::Exact => flag(
+                alloc,
+                "exact",
+                "Refuse samples of more than 24 bits, and settings that no block takes",
+            ),
+            Argument::ExactSamples => flag(alloc, "exact", "Refuse blocks that would lose bits"),
+            Argument::ExactSettings => flag(
+                alloc,
+                "exact",
+                "Refuse blocks that leave out what --set, --set1 or --set2 sets",
+            ),
+            Argument::Pcm => text(
+                alloc,
+                "pcm",
+                "s32|s24|s24in32|s16",
+                "The samples are of 32 bits, of 24 in 3 or 4 bytes, or of 16",
+            ),
+            Argument::Words => text(
+                alloc,
+                "words",
+                "own|alsa|am824",
+                "The words of the block file are ours, ALSA's or those of AM824",
+            ),
+            Argument::Bits => word(alloc, "BITS", "Which bits: `user`, `validity` or `status`"),
+            Argument::Channel => number(alloc, "CHANNEL", 1, 2, "Of which channel: 1 or 2"),
+            Argument::File => file_name(
+                alloc,
+                "FILE",
+                "What to read, standard input where it is `-` or left out",
+            ),
+        }
+    }
+}
+
+/// The flag `--name`.
+fn flag<'a>(alloc: Global, name: &'a str, help: &'a str) -> Arg<'a>
+    ensures { IsOption (flag name.now) result }
+{
+    Arg::new(alloc, name)
+        .long(name)
+        .action(ArgAction::SetTrue)
+        .help(help)
+}
+
+/// The option `--name` with a text, as help calls it.
+fn text<'a>(alloc: Global, name: &'a str, value: &'a str, help: &'a str) -> Arg<'a>
+    ensures { IsOption (text_option name.now) result }
+{
+    Arg::new(alloc, name)
+        .long(name)
+        .value_name(value)
+        .help(help)
+}
+
+/// The option `--name` with a text, as help calls it, whose values are found by `id`.
+fn named_text<'a>(
+    alloc: Global,
+    id: &'a str,
+    name: &'a str,
+    value: &'a str,
+    help: &'a str,
+) -> Arg<'a>
+    ensures { IsOption (named_option id.now name.now) result }
+{
+    Arg::new(alloc, id).long(name).value_name(value).help(help)
+}
+
+/// The option `--name` with a setting, which may stand more than once.
+fn settings<'a>(alloc: Global, name: &'a str, help: &'a str) -> Arg<'a>
+    ensures { IsOption (settings_option name.now) result }
+{
+    Arg::new(alloc, name)
+        .long(name)
+        .value_name("NAME=WORD")
+        .action(ArgAction::Append)
+        .help(help)
+}
+
+/// A number from `least` to `most` that has to stand at its place among the words.
+fn number<'a>(alloc: Global, name: &'a str, least: u64, most: u64, help: &'a str) -> Arg<'a>
+    ensures { IsOption (number name.now least most) result }
+{
+    Arg::new(alloc, name)
+        .required(true)
+        .value_parser(ValueParser::unsigned(least, most))
+        .help(help)
+}
+
+/// A word that has to stand at its place among the words.
+fn word<'a>(alloc: Global, name: &'a str, help: &'a str) -> Arg<'a>
+    ensures { IsOption (word name.now) result }
+{
+    Arg::new(alloc, name).required(true).help(help)
+}
+
+/// The option `--name` with a number from 1 to `most`, which help calls `value`.
+fn number_option<'a>(
+    alloc: Global,
+    name: &'a str,
+    value: &'a str,
+    most: u64,
+    help: &'a str,
+) -> Arg<'a>
+    ensures { IsOption (number_option name.now 1 most) result }
+{
+    Arg::new(alloc, name)
+        .long(name)
+        .value_name(value)
+        .value_parser(ValueParser::unsigned(1, most))
+        .help(help)
+}
+
+/// The option `--name` with a bit.
+fn bit<'a>(alloc: Global, name: &'a str, help: &'a str) -> Arg<'a>
+    ensures { IsOption (number_option name.now 0 1) result }
+{
+    Arg::new(alloc, name)
+        .long(name)
+        .value_name("0|1")
+        .value_parser(ValueParser::unsigned(0, 1))
+        .help(help)
+}
+
+/// A file name that may stand at its place among the words.
+fn file_name<'a>(alloc: Global, name: &'a str, help: &'a str) -> Arg<'a>
+    ensures { IsOption (file_name name.now) result }
+{
+    Arg::new(alloc, name).help(help)
+}

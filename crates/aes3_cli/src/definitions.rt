@@ -1,0 +1,217 @@
+//! The program's command line, as definitions for `clap`.
+
+ghost use Rattle.std.specs.Prelude.{◌≡◌, IfOk, map};
+ghost use Rattle.aes3_cli.specs.CommandLine.{IsDefinedAs, app_with, command, command_line};
+ghost use Rattle.aes3_cli.specs.CommandLine.{program, rule, shape};
+
+use crate::argument::Argument;
+use crate::help::{self, Texts};
+use clap::Command;
+use std::alloc::{AllocError, Global};
+
+/// A command by its name.
+#[derive(Clone, Copy)]
+pub(crate) enum Name {
+    /// `encode`
+    Encode,
+    /// `decode`
+    Decode,
+    /// `normal`
+    Normal,
+    /// `check`
+    Check,
+    /// `watch`
+    Watch,
+    /// `info`
+    Info,
+    /// `show`
+    Show,
+    /// `scan`
+    Scan,
+    /// `cut`
+    Cut,
+    /// `rewrite`
+    Rewrite,
+    /// `to-pcm`
+    ToPcm,
+    /// `from-pcm`
+    FromPcm,
+    /// `to-bits`
+    ToBits,
+}
+
+/// The commands, in the order in which help lists them.
+const NAMES: [Name; 13] = [
+    Name::Encode,
+    Name::Decode,
+    Name::Normal,
+    Name::Check,
+    Name::Watch,
+    Name::Info,
+    Name::Show,
+    Name::Scan,
+    Name::Cut,
+    Name::Rewrite,
+    Name::ToPcm,
+    Name::FromPcm,
+    Name::ToBits,
+];
+
+/// The program's command line.
+///
+/// # Errors
+/// Memory was refused.
+pub fn command_line<'a>(alloc: Global) -> Result<Command<'a>, AllocError>
+    ensures { IfOk result (IsDefinedAs command_line) }
+{
+    let mut line = program(alloc)?;
+    for name in NAMES.iter() {
+        line = line.subcommand(name.define(alloc)?)?;
+    }
+    Ok(line)
+}
+
+/// The program with no command yet.
+fn program<'a>(alloc: Global) -> Result<Command<'a>, AllocError>
+    ensures { IfOk result (IsDefinedAs program) }
+{
+    Command::new(alloc, "aes3")
+        .about(help::PROGRAM.about)
+        .override_usage(help::PROGRAM.usage)
+        .after_help(help::PROGRAM.more)
+        .no_binary_name(true)
+        .version(help::VERSION)
+        .disable_help_subcommand(true)
+        .subcommand_required(true)
+        .bin_name("aes3")
+}
+
+impl Name {
+    /// The command's definition, with its help.
+    pub(crate) fn define<'a>(self, alloc: Global) -> Result<Command<'a>, AllocError>
+        ensures { IfOk result (IsDefinedAs (app_with (shape self))) }
+    {
+        command(alloc, self.word(), self.texts(), self.arguments())
+    }
+
+    /// The word that it is.
+    fn word<'a>(self) -> &'a str
+        ensures { result.now ≡ (shape self).name }
+    {
+        match self {
+            Name::Encode => "encode",
+            Name::Decode => "decode",
+            Name::Normal => "normal",
+            Name::Check => "check",
+            Name::Watch => "watch",
+            Name::Info => "info",
+            Name::Show => "show",
+            Name::Scan => "scan",
+            Name::Cut => "cut",
+            Name::Rewrite => "rewrite",
+            Name::ToPcm => "to-pcm",
+            Name::FromPcm => "from-pcm",
+            Name::ToBits => "to-bits",
+        }
+    }
+
+    /// Its texts.
+    fn texts<'a>(self) -> &'a Texts<'a> {
+        match self {
+            Name::Encode => &help::ENCODE,
+            Name::Decode => &help::DECODE,
+            Name::Normal => &help::NORMAL,
+            Name::Check => &help::CHECK,
+            Name::Watch => &help::WATCH,
+            Name::Info => &help::INFO,
+            Name::Show => &help::SHOW,
+            Name::Scan => &help::SCAN,
+            Name::Cut => &help::CUT,
+            Name::Rewrite => &help::REWRITE,
+            Name::ToPcm => &help::TO_PCM,
+            Name::FromPcm => &help::FROM_PCM,
+            Name::ToBits => &help::TO_BITS,
+        }
+    }
+
+    /// The options and values that it takes, in the order in which help lists them.
+    fn arguments(self) -> &'static [Argument]
+        ensures { map rule result.now ≡ (shape self).rules }
+    {
+        use Argument::*;
+        match self {
+            Name::Encode => &[PackedOut, LsbFirst, Words],
+            Name::Decode => &[PackedIn, RawIn, LsbFirst, Words, File],
+            Name::Normal => &[PackedIn, RawIn, PackedOut, LsbFirst, File],
+            Name::Check => &[PackedIn, RawIn, LsbFirst, Faults, Gaps, File],
+            Name::Watch => &[
+                PackedIn,
+                RawIn,
+                LsbFirst,
+                Json,
+                Rate,
+                Every,
+                EverySeconds,
+                File,
+            ],
+            Name::Info => &[PackedIn, RawIn, LsbFirst, Json, File],
+            Name::Show => &[PackedIn, RawIn, LsbFirst, Changes, At, More, Names, File],
+            Name::Scan => &[PackedIn, RawIn, LsbFirst, File],
+            Name::Cut => &[PackedIn, RawIn, PackedOut, LsbFirst, From, Count],
+            Name::Rewrite => &[
+                PackedIn,
+                RawIn,
+                PackedOut,
+                LsbFirst,
+                Status1,
+                Status2,
+                Preset,
+                Set,
+                Set1,
+                Set2,
+                MendCheck,
+                Valid1,
+                Valid2,
+                ClearUser1,
+                ClearUser2,
+                ExactSettings,
+                File,
+            ],
+            Name::ToPcm => &[
+                PackedIn,
+                RawIn,
+                LsbFirst,
+                Pcm,
+                Valid,
+                Fill,
+                Marked,
+                ExactSamples,
+                File,
+            ],
+            Name::FromPcm => &[
+                Status1, Status2, Preset, SampleRate, Set, Set1, Set2, MendCheck, Exact, Pcm,
+                Words, File,
+            ],
+            Name::ToBits => &[PackedIn, RawIn, LsbFirst, Bits, Channel, File],
+        }
+    }
+}
+
+/// A command that takes these arguments, with its texts.
+fn command<'a>(
+    alloc: Global,
+    name: &'a str,
+    texts: &Texts<'a>,
+    arguments: &[Argument],
+) -> Result<Command<'a>, AllocError>
+    ensures { IfOk result (IsDefinedAs (app_with (command name.now (map rule arguments.now)))) }
+{
+    let mut command = Command::new(alloc, name)
+        .about(texts.about)
+        .override_usage(texts.usage)
+        .after_help(texts.more);
+    for argument in arguments.iter() {
+        command = command.arg(argument.define(alloc))?;
+    }
+    Ok(command)
+}

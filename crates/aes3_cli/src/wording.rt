@@ -1,0 +1,118 @@
+//! What is told of words that are no command line.
+
+ghost use Rattle.std.specs.Prelude.{◌≡◌, ◌++◌, IfOk};
+ghost use Rattle.aes3_cli.specs.Wording.{EndsWithUsage, usage_end, usage_of};
+
+use crate::help;
+use std::alloc::{AllocError, Global};
+
+/// What stands in a text of `clap` before the usage, before where to find help, and before the tip
+/// that a word can be passed as a value, which it is for no command here.
+const ENDS: [&str; 3] = [
+    "\n\nUsage: ",
+    "\n\nFor more information, try",
+    "\n  tip: to pass '",
+];
+
+/// How a text of `clap` begins that says why a value is not taken, and what stands before the reason.
+const INVALID: &str = "error: invalid value '";
+
+const REASON: &str = "': ";
+
+/// What each value is that `clap` reads as a number, by how it calls that.
+const NUMBERS: [(&str, &str); 7] = [
+    ("<FROM>", "it is the number of a block, from 0 on"),
+    ("<COUNT>", "it is a number of blocks, from 0 on"),
+    ("<CHANNEL>", "it is 1 or 2"),
+    (
+        "<HZ>",
+        "it is a number of frames a second, from 1 to 1,000,000",
+    ),
+    ("<CELLS>", "it is a number of cells, from 1 to 2^40"),
+    ("<N>", "it is a number of seconds, from 1 to 3,600"),
+    ("<0|1>", "it is 0 or 1"),
+];
+
+/// How the command of this name is called; where there is none, how the program is.
+pub fn usage_of(name: &str) -> &'static str
+    ensures { result.now ≡ usage_of name.now }
+{
+    match name {
+        "encode" => help::ENCODE.usage,
+        "decode" => help::DECODE.usage,
+        "normal" => help::NORMAL.usage,
+        "check" => help::CHECK.usage,
+        "watch" => help::WATCH.usage,
+        "info" => help::INFO.usage,
+        "show" => help::SHOW.usage,
+        "scan" => help::SCAN.usage,
+        "cut" => help::CUT.usage,
+        "rewrite" => help::REWRITE.usage,
+        "to-pcm" => help::TO_PCM.usage,
+        "from-pcm" => help::FROM_PCM.usage,
+        "to-bits" => help::TO_BITS.usage,
+        _ => help::PROGRAM.usage,
+    }
+}
+
+/// Appends how a command is called, and where to find more.
+///
+/// # Errors
+/// Memory was refused.
+#[tactic(auto, unfolding(crate::specs::Wording::usage_end))]
+pub fn add_usage(text: &mut String, usage: &str) -> Result<(), AllocError>
+    ensures { IfOk result (λ _. text.new.bytes.items
+        ≡ text.old.bytes.items ++ usage_end usage.now) }
+{
+    text.push_str("\n\nUsage: ")?;
+    text.push_str(usage)?;
+    text.push_str("\n\nFor more information, try '--help'.\n")
+}
+
+/// What is told where `clap` tells this of words that it doesn't take: the same with what a number
+/// has to be in place of why it could not be read, without a tip how to pass a word as a value, and
+/// with the usage of the command, which `clap` leaves out of some texts.
+///
+/// # Errors
+/// Memory was refused.
+pub fn own_text(alloc: Global, text: &str, usage: &str) -> Result<String, AllocError>
+    ensures { IfOk result (λ own. EndsWithUsage usage.now own.bytes.items) }
+{
+    let mut own = String::new(alloc);
+    add_wrong(&mut own, wrong_of(text))?;
+    add_usage(&mut own, usage)?;
+    Ok(own)
+}
+
+/// What a text of `clap` says is wrong, without what stands behind that.
+fn wrong_of(text: &str) -> &str {
+    let mut wrong = text;
+    for end in ENDS {
+        if let Some((before, _)) = wrong.rsplit_once(end) {
+            wrong = before;
+        }
+    }
+    wrong.trim_end()
+}
+
+/// Appends what is wrong, with what a number has to be in place of why it could not be read.
+fn add_wrong(own: &mut String, wrong: &str) -> Result<(), AllocError> {
+    match wrong.rsplit_once(REASON) {
+        Some((front, reason)) if wrong.starts_with(INVALID) => {
+            own.push_str(front)?;
+            own.push_str(REASON)?;
+            own.push_str(number_of(front).unwrap_or(reason))
+        }
+        _ => own.push_str(wrong),
+    }
+}
+
+/// What the number has to be that a text calls so at its end.
+fn number_of(text: &str) -> Option<&'static str> {
+    for (name, is) in NUMBERS {
+        if text.ends_with(name) {
+            return Some(is);
+        }
+    }
+    None
+}

@@ -1,0 +1,236 @@
+//! What is wrong with options that the command takes each by itself.
+
+ghost use Rattle.std.specs.Prelude.{◌≡◌, IfOk};
+ghost use Rattle.aes3_cli_arguments.specs.Jobs.{AreTaken, TellsMisuse, has_no_cells_packed, has_no_rate};
+ghost use Rattle.aes3_cli_arguments.specs.Jobs.{has_two_forms, has_two_periods, has_unknown_bits, misuse_by};
+ghost use Rattle.aes3_cli_arguments.specs.Jobs.{fills_valid_samples, has_exact_and_others, has_two_details};
+ghost use Rattle.aes3_cli_arguments.specs.Jobs.{has_marked_unfilled};
+ghost use Rattle.aes3_cli_arguments.specs.Jobs.{misuse_line, misuse_text, options_of};
+
+use crate::carried::bits_of_text;
+use crate::format::has_unknown_format;
+use crate::frequency::has_unknown_rate;
+use crate::job::LineFault;
+use crate::preset::has_unknown_preset;
+use crate::samples::{fill, has_unknown_filling};
+use crate::style::rate;
+use crate::value::{flag, number_if_given};
+use crate::words::has_unknown_words;
+use aes3_cell::RunError;
+use aes3_cli::wording::{add_usage, usage_of};
+use clap::ArgMatches;
+use std::alloc::{AllocError, Global};
+
+/// What is wrong with options that the command takes each by itself.
+#[derive(Clone, Copy)]
+pub(crate) enum Misuse {
+    /// `--raw-in` beside `--packed-in`.
+    TwoForms,
+    /// `--lsb-first` where no cells are packed.
+    NoCellsPacked,
+    /// `--every` beside `--every-seconds`.
+    TwoPeriods,
+    /// `--every-seconds` without `--rate`.
+    NoRate,
+    /// `to-bits` of bits that there are none of.
+    UnknownBits,
+    /// `--fill` with what there is none of.
+    UnknownFilling,
+    /// `--fill` beside `--valid`.
+    FillsValidSamples,
+    /// `--marked` without `--fill`.
+    MarkedUnfilled,
+    /// `--exact` beside `--valid` or `--fill`.
+    ExactAndOthers,
+    /// `--names` beside `--at` or `--more`.
+    TwoDetails,
+    /// `--words` of a form that there is none of.
+    UnknownWords,
+    /// `--pcm` of a form that there is none of.
+    UnknownFormat,
+    /// `--preset` of a use that there is none of.
+    UnknownPreset,
+    /// `--rate` of `from-pcm` with a frequency that no status tells.
+    UnknownRate,
+}
+
+/// What is wrong with the options, the first of it where there is more.
+pub(crate) fn misuse_of_options(options: &ArgMatches<'_>) -> Option<Misuse>
+    requires { AreTaken (options_of options.now) }
+    ensures { result ≡ misuse_by (options_of options.now) }
+{
+    if has_two_forms(options) {
+        Some(Misuse::TwoForms)
+    } else if has_no_cells_packed(options) {
+        Some(Misuse::NoCellsPacked)
+    } else if has_two_periods(options) {
+        Some(Misuse::TwoPeriods)
+    } else if has_no_rate(options) {
+        Some(Misuse::NoRate)
+    } else if has_unknown_bits(options) {
+        Some(Misuse::UnknownBits)
+    } else if has_unknown_filling(options) {
+        Some(Misuse::UnknownFilling)
+    } else if fills_valid_samples(options) {
+        Some(Misuse::FillsValidSamples)
+    } else if has_marked_unfilled(options) {
+        Some(Misuse::MarkedUnfilled)
+    } else if has_exact_and_others(options) {
+        Some(Misuse::ExactAndOthers)
+    } else if has_two_details(options) {
+        Some(Misuse::TwoDetails)
+    } else if has_unknown_words(options) {
+        Some(Misuse::UnknownWords)
+    } else if has_unknown_format(options) {
+        Some(Misuse::UnknownFormat)
+    } else if has_unknown_preset(options) {
+        Some(Misuse::UnknownPreset)
+    } else if has_unknown_rate(options) {
+        Some(Misuse::UnknownRate)
+    } else {
+        None
+    }
+}
+
+/// Whether the cells that are read have two forms.
+fn has_two_forms(options: &ArgMatches<'_>) -> bool
+    requires { AreTaken (options_of options.now) }
+    ensures { result ≡ has_two_forms (options_of options.now) }
+{
+    flag(options, "raw-in") && flag(options, "packed-in")
+}
+
+/// Whether the first of eight packed cells has a place and no cells are packed.
+fn has_no_cells_packed(options: &ArgMatches<'_>) -> bool
+    requires { AreTaken (options_of options.now) }
+    ensures { result ≡ has_no_cells_packed (options_of options.now) }
+{
+    flag(options, "lsb-first")
+        && !flag(options, "raw-in")
+        && !flag(options, "packed-in")
+        && !flag(options, "packed-out")
+}
+
+/// Whether sums are told after cells and after seconds.
+fn has_two_periods(options: &ArgMatches<'_>) -> bool
+    requires { AreTaken (options_of options.now) }
+    ensures { result ≡ has_two_periods (options_of options.now) }
+{
+    number_if_given(options, "every").is_some()
+        && number_if_given(options, "every-seconds").is_some()
+}
+
+/// Whether they are told after seconds of which nothing says how many cells one has.
+fn has_no_rate(options: &ArgMatches<'_>) -> bool
+    requires { AreTaken (options_of options.now) }
+    ensures { result ≡ has_no_rate (options_of options.now) }
+{
+    number_if_given(options, "every-seconds").is_some() && rate(options).is_none()
+}
+
+/// Whether bits are named that there are none of.
+fn has_unknown_bits(options: &ArgMatches<'_>) -> bool
+    ensures { result ≡ has_unknown_bits (options_of options.now) }
+{
+    let Some(text) = options.get_str("BITS") else {
+        return false;
+    };
+    bits_of_text(text).is_none()
+}
+
+/// Whether time is to be filled between samples of which some are silenced.
+fn fills_valid_samples(options: &ArgMatches<'_>) -> bool
+    requires { AreTaken (options_of options.now) }
+    ensures { result ≡ fills_valid_samples (options_of options.now) }
+{
+    fill(options).is_some() && flag(options, "valid")
+}
+
+/// Whether marked blocks are to be given, and nothing says what fills them.
+fn has_marked_unfilled(options: &ArgMatches<'_>) -> bool
+    requires { AreTaken (options_of options.now) }
+    ensures { result ≡ has_marked_unfilled (options_of options.now) }
+{
+    flag(options, "marked") && fill(options).is_none()
+}
+
+/// Whether samples are to be given as they are, and others in the place of some.
+fn has_exact_and_others(options: &ArgMatches<'_>) -> bool
+    requires { AreTaken (options_of options.now) }
+    ensures { result ≡ has_exact_and_others (options_of options.now) }
+{
+    flag(options, "exact") && (fill(options).is_some() || flag(options, "valid"))
+}
+
+/// Whether words of codes are to stand behind a line, and the place of its block too.
+fn has_two_details(options: &ArgMatches<'_>) -> bool
+    requires { AreTaken (options_of options.now) }
+    ensures { result ≡ has_two_details (options_of options.now) }
+{
+    flag(options, "names") && (flag(options, "at") || flag(options, "more"))
+}
+
+/// What is told of it, where the options are those of the command of this name.
+pub(crate) fn misuse_fault(alloc: Global, name: &str, misuse: Misuse) -> LineFault
+    ensures { TellsMisuse name.now misuse result }
+{
+    match told_misuse(alloc, usage_of(name), misuse) {
+        Ok(text) => LineFault::Usage { text },
+        Err(_) => LineFault::Refused(RunError::Memory),
+    }
+}
+
+/// The text that tells of it, as `clap` tells of words that it doesn't take; `usage` says how the
+/// command is called.
+fn told_misuse(alloc: Global, usage: &str, misuse: Misuse) -> Result<String, AllocError>
+    ensures { IfOk result (λ text. text.bytes.items ≡ misuse_text usage.now misuse) }
+{
+    let mut text = String::new(alloc);
+    text.push_str(misuse_line(misuse))?;
+    add_usage(&mut text, usage)?;
+    Ok(text)
+}
+
+/// The line that says what is wrong.
+fn misuse_line(misuse: Misuse) -> &'static str
+    ensures { result.now ≡ misuse_line misuse }
+{
+    match misuse {
+        Misuse::TwoForms => "error: the argument '--raw-in' cannot be used with '--packed-in'",
+        Misuse::NoCellsPacked => {
+            "error: the argument '--lsb-first' needs '--packed-in', '--raw-in' or '--packed-out'"
+        }
+        Misuse::TwoPeriods => {
+            "error: the argument '--every <CELLS>' cannot be used with '--every-seconds <N>'"
+        }
+        Misuse::NoRate => "error: the argument '--every-seconds <N>' needs '--rate <HZ>'",
+        Misuse::UnknownBits => {
+            "error: invalid value for '<BITS>': it is 'user', 'validity' or 'status'"
+        }
+        Misuse::UnknownFilling => {
+            "error: invalid value for '--fill <zero|hold>': it is 'zero' or 'hold'"
+        }
+        Misuse::FillsValidSamples => {
+            "error: the argument '--fill <zero|hold>' cannot be used with '--valid'"
+        }
+        Misuse::MarkedUnfilled => "error: the argument '--marked' needs '--fill <zero|hold>'",
+        Misuse::ExactAndOthers => {
+            "error: the argument '--exact' cannot be used with '--valid' or '--fill <zero|hold>'"
+        }
+        Misuse::TwoDetails => {
+            "error: the argument '--names' cannot be used with '--at' or '--more'"
+        }
+        Misuse::UnknownWords => {
+            "error: invalid value for '--words <own|alsa|am824>': it is 'own', 'alsa' or 'am824'"
+        }
+        Misuse::UnknownPreset => {
+            "error: invalid value for '--preset <consumer|professional>': it is 'consumer' or 'professional'"
+        }
+        Misuse::UnknownRate => {
+            "error: invalid value for '--rate <HZ>': a status tells 22050, 24000, 32000, 44100, 48000, 88200, 96000, 176400, 192000 or 768000, also as 48k"
+        }
+        Misuse::UnknownFormat => {
+            "error: invalid value for '--pcm <s32|s24|s24in32|s16>': it is 's32', 's24', 's24in32' or 's16'"
+        }
+    }
+}

@@ -1,0 +1,104 @@
+//! The status that a channel begins with.
+
+ghost use Rattle.std.specs.Prelude.{◌≡◌};
+ghost use Rattle.aes3_cli_arguments.specs.Jobs.{has_unknown_preset, options_of, or_other, preset_by, preset_in};
+ghost use Rattle.aes3_cli_arguments.specs.Jobs.{begun_with, unknown_status_for};
+
+use aes3_status::{Settings, set_fields};
+use clap::ArgMatches;
+
+/// The usual status for consumer use (IEC 60958-3): linear PCM, no copyright asserted, no sampling
+/// frequency indicated, words of 24 bits.
+const CONSUMER: [u8; 24] = [
+    0x04, 0, 0, 0x01, 0x0B, 0, 0, 0, 0, 0, 0, 0, 0, 0, 0, 0, 0, 0, 0, 0, 0, 0, 0, 0,
+];
+
+/// The usual status for professional use (AES3-2), without its check byte: linear PCM, no emphasis,
+/// two channels, words of 24 bits in which the auxiliary bits are audio.
+const PROFESSIONAL: [u8; 24] = [
+    0x05, 0x08, 0x2C, 0, 0, 0, 0, 0, 0, 0, 0, 0, 0, 0, 0, 0, 0, 0, 0, 0, 0, 0, 0, 0,
+];
+
+/// The status of samples that nothing is known of (IEC 60958-3): consumer use, no copyright asserted,
+/// no sampling frequency indicated, words of 24 bits at most.
+const UNKNOWN: [u8; 24] = [
+    0x04, 0, 0, 0x01, 0x01, 0, 0, 0, 0, 0, 0, 0, 0, 0, 0, 0, 0, 0, 0, 0, 0, 0, 0, 0,
+];
+
+/// The status that a channel begins with where neither a text nor a preset gives one.
+#[derive(Clone, Copy)]
+pub enum Beginning {
+    /// That of each block.
+    OfEachBlock,
+    /// One that claims nothing.
+    Unclaimed,
+}
+
+impl Beginning {
+    /// The status, where this is set of it.
+    pub(crate) fn status(self, settings: &Option<Settings>) -> Option<[u8; 24]>
+        ensures { result ≡ begun_with self settings.now }
+    {
+        match self {
+            Beginning::OfEachBlock => None,
+            Beginning::Unclaimed => Some(unknown_status_for(settings)),
+        }
+    }
+}
+
+/// The status of samples that nothing is known of, where this is set of it. If that makes the use
+/// professional, all bytes are 0 before, since those for consumer use mean something else then.
+fn unknown_status_for(settings: &Option<Settings>) -> [u8; 24]
+    ensures { result ≡ unknown_status_for settings.now }
+{
+    match settings {
+        Some(settings) => {
+            let mut status = UNKNOWN;
+            set_fields(&mut status, settings);
+            if status[0] % 2 == 1 { [0; 24] } else { UNKNOWN }
+        }
+        None => UNKNOWN,
+    }
+}
+
+/// The status that a channel begins with where no text gives one: that of the preset, or `other`
+/// where none is named.
+pub(crate) fn preset_or(options: &ArgMatches<'_>, other: Option<[u8; 24]>) -> Option<[u8; 24]>
+    ensures { result ≡ or_other other (preset_by (options_of options.now)) }
+{
+    match preset(options) {
+        Some(status) => Some(status),
+        None => other,
+    }
+}
+
+/// The status of the preset that the options name.
+pub(crate) fn preset(options: &ArgMatches<'_>) -> Option<[u8; 24]>
+    ensures { result ≡ preset_by (options_of options.now) }
+{
+    let Some(text) = options.get_str("preset") else {
+        return None;
+    };
+    preset_of_text(text)
+}
+
+/// Whether a preset is named that there is none of.
+pub(crate) fn has_unknown_preset(options: &ArgMatches<'_>) -> bool
+    ensures { result ≡ has_unknown_preset (options_of options.now) }
+{
+    let Some(text) = options.get_str("preset") else {
+        return false;
+    };
+    preset_of_text(text).is_none()
+}
+
+/// The status of the preset of this name.
+fn preset_of_text(text: &str) -> Option<[u8; 24]>
+    ensures { result ≡ preset_in text.now }
+{
+    match text {
+        "consumer" => Some(CONSUMER),
+        "professional" => Some(PROFESSIONAL),
+        _ => None,
+    }
+}

@@ -1,0 +1,50 @@
+//! Settings as they were typed.
+
+ghost use Rattle.std.specs.Prelude.{◌≡◌, IfOk, map};
+ghost use Rattle.aes3_cli_arguments.specs.Jobs.{AreTyped, options_of, texts_for};
+
+use crate::frequency::rate_setting;
+use aes3_status_text::TypedSettings;
+use clap::ArgMatches;
+use std::alloc::{AllocError, Global};
+
+/// The texts that set fields of the channel that has this option, in the order in which they do:
+/// those for both channels, those of its own option, and the one that the sampling frequency stands
+/// for.
+///
+/// # Errors
+/// Memory was refused.
+pub(crate) fn texts_for<'a>(
+    alloc: Global,
+    options: &ArgMatches<'a>,
+    name: &str,
+) -> Result<Vec<&'a str>, AllocError>
+    ensures { IfOk result (λ texts. map (λ text. text.now) texts.items
+        ≡ texts_for (options_of options.now) name.now) }
+{
+    let both = options.get_strs("set").unwrap_or(&[]);
+    let own = options.get_strs(name).unwrap_or(&[]);
+    let mut texts = Vec::new(alloc);
+    texts.extend_from_slice(both)?;
+    texts.extend_from_slice(own)?;
+    match rate_setting(options) {
+        Some(rate) => texts.push(rate)?,
+        None => {}
+    }
+    Ok(texts)
+}
+
+/// The settings that the options type, for each channel.
+///
+/// # Errors
+/// Memory was refused.
+pub(crate) fn typed<'a>(
+    alloc: Global,
+    options: &ArgMatches<'a>,
+) -> Result<TypedSettings<'a>, AllocError>
+    ensures { IfOk result (AreTyped (options_of options.now)) }
+{
+    let first = texts_for(alloc, options, "set1")?;
+    let second = texts_for(alloc, options, "set2")?;
+    Ok(TypedSettings::new(first.as_slice(), second.as_slice()))
+}

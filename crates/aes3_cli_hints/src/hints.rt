@@ -1,0 +1,408 @@
+//! Sentences for whoever sits at a terminal.
+
+ghost use Rattle.std.specs.Prelude.{◌≡◌, ◌<◌, ◌≤◌, ◌||◌, IfSome, IsFalse, IsTrue, None, Some, length, not};
+ghost use Rattle.aes3_cell.specs.Ends.{Grew};
+ghost use Rattle.aes3_cell.specs.Refusals.{number_of};
+ghost use Rattle.aes3_cli_arguments.specs.Explained.{advice_of};
+ghost use Rattle.aes3_cli_hints.specs.Sentences.{Explained, ExplainedBy, greeting, is_told, reads_hint};
+ghost use Rattle.aes3_cli_hints.specs.Sentences.{writes_hint};
+ghost use Rattle.aes3_cli_jobs.specs.Hearing.{Hearing};
+
+use crate::looks::{advice_by_looks, advice_on_taken};
+use crate::watched::{Position, Watched};
+use aes3_cell::{RunError, Sink, Source, write_all};
+use aes3_cli_arguments::{CommandLine, LineFault, advice, status_of_text};
+use aes3_cli_jobs::{Job, Observer};
+use aes3_cli_progress::{Course, Progress, Unit};
+use aes3_files::FileKind;
+use std::alloc::Global;
+use std::cell::Cell;
+use std::io::IsTerminal;
+use std::time::Clock;
+
+/// Which of the standard streams are terminals.
+#[derive(Clone, Copy)]
+pub struct Terminals {
+    pub input: bool,
+    pub output: bool,
+    pub errors: bool,
+}
+
+impl Terminals {
+    /// As the machine says.
+    pub fn new(rt: &HostRuntime) -> Self {
+        Terminals {
+            input: rt.stdin().is_terminal(),
+            output: rt.stdout().is_terminal(),
+            errors: rt.stderr().is_terminal(),
+        }
+    }
+}
+
+/// Tells on standard error, where it is a terminal, what the program waits for and what a refusal
+/// means; and where it is none, but the words name a file, what that looks like. Once that has failed
+/// it tells nothing more.
+#[derive(Drop)]
+pub struct Hints<T: Drop> {
+    alloc: Global,
+    sink: T,
+    terminals: Terminals,
+    names_file: bool,
+    job: Option<Job>,
+    refusal: Option<RunError>,
+}
+
+impl<T: Sink + Drop> Hints<T> {
+    /// Hints for these streams, told to `sink`, which is standard error.
+    pub fn new(alloc: Global, sink: T, terminals: Terminals) -> Self
+        ensures sink { result.sink ≡ sink }
+        ensures terminals { result.terminals ≡ terminals }
+        ensures job { result.job ≡ None }
+        ensures refusal { result.refusal ≡ None }
+    {
+        Hints {
+            alloc,
+            sink,
+            terminals,
+            names_file: false,
+            job: None,
+            refusal: None,
+        }
+    }
+
+    /// Takes it that a file is read in place of standard input.
+    pub fn reads_file(&mut self)
+        ensures sink { self.new.sink ≡ self.old.sink }
+        ensures input { IsFalse self.new.terminals.input }
+        ensures errors { self.new.terminals.errors ≡ self.old.terminals.errors }
+        ensures job { self.new.job ≡ self.old.job }
+        ensures refusal { self.new.refusal ≡ self.old.refusal }
+    {
+        self.terminals.input = false;
+        self.names_file = true;
+    }
+
+    /// Watches this source for them, where there is a person to tell or a file is named.
+    pub fn watch<S: Source + Drop>(&self, source: S) -> Watched<S>
+        ensures { result.source ≡ source }
+    {
+        let is_on = self.terminals.errors || self.names_file;
+        Watched::new(self.alloc, source, is_on, self.terminals.errors)
+    }
+
+    /// Tells to `sink`, which is standard error, how far this source has been read, where there is a
+    /// person to tell and it is a file; `len` is how many bytes that has, and `line` what reads it.
+    /// Whether a line of progress stands there is in `shown`.
+    pub fn follow<'a, C: Clock + Drop, S: Source + Drop, E: Sink + Drop>(
+        &self,
+        clock: C,
+        source: S,
+        sink: E,
+        shown: &'a Cell<bool>,
+        len: Option<u64>,
+        line: &Result<CommandLine<'_>, LineFault>,
+    ) -> Progress<'a, C, S, E>
+        ensures source { result.source ≡ source }
+        ensures sink { result.sink ≡ sink }
+        ensures no_terminal { IsFalse self.now.terminals.errors → result.course ≡ None }
+        ensures no_file { len ≡ None → result.course ≡ None }
+    {
+        let course = match (self.terminals.errors, len, line) {
+            (true, Some(len), Ok(line)) => Course::new(&clock, len, unit_of(&line.job)),
+            _ => None,
+        };
+        Progress::new(self.alloc, clock, source, sink, shown, course)
+    }
+
+    /// Says in a sentence what was refused of these words or their input, if anything was, and what
+    /// to do; or that the input looks like another kind than it was taken for. Where it is a file,
+    /// this is its name. Where standard error is no terminal it says only what the input looks like.
+    pub fn explain<S: Source + Drop>(
+        &mut self,
+        words: &[&str],
+        file: Option<&str>,
+        source: &Watched<S>,
+    )
+        ensures silent { IsFalse (self.old.terminals.errors || self.old.names_file)
+            → T.taken self.new.sink ≡ T.taken self.old.sink }
+        ensures told { IsTrue self.old.terminals.errors → T.failed self.new.sink ≡ 0
+            → IfSome self.old.refusal (λ error. Explained error (T.taken self.old.sink)
+            (T.taken self.new.sink)) }
+        ensures job { self.new.job ≡ self.old.job }
+    {
+        if !self.terminals.errors {
+            self.tell_looks(words, source);
+            return;
+        }
+        match (self.refusal, file) {
+            (Some(RunError::Read), Some(name)) => {
+                self.tell_refusal(RunError::Read, Some(Place::File(name)), Some(UNREAD));
+            }
+            (Some(error), _) => {
+                let looks = FileKind::of(source.first());
+                let told = advice_by_looks(error, self.job, source.head(), source.first());
+                self.tell_refusal(error, place_of(error, words, source, looks), told);
+            }
+            (None, _) => self.tell_looks(words, source),
+        }
+    }
+
+    /// Says what was refused where the words could not be read.
+    pub fn explain_unread(&mut self)
+        ensures silent { IsFalse self.old.terminals.errors
+            → T.taken self.new.sink ≡ T.taken self.old.sink }
+        ensures told { IsTrue self.old.terminals.errors → T.failed self.new.sink ≡ 0
+            → IfSome self.old.refusal (λ error. ExplainedBy (advice_of (number_of error))
+            (T.taken self.old.sink) (T.taken self.new.sink)) }
+    {
+        if let Some(error) = self.refusal {
+            self.tell_advice(error, None, advice(error.number()));
+        }
+    }
+
+    /// Tells what was refused, where, and what to do: this, if it is known, or what is always told
+    /// of this refusal.
+    fn tell_refusal(
+        &mut self,
+        error: RunError,
+        place: Option<Place<'_>>,
+        told: Option<&'static str>,
+    )
+        requires { IfSome told (λ told. IsTrue (is_told told.now)) }
+        ensures silent { IsFalse self.old.terminals.errors
+            → T.taken self.new.sink ≡ T.taken self.old.sink }
+        ensures told { IsTrue self.old.terminals.errors → T.failed self.new.sink ≡ 0
+            → Explained error (T.taken self.old.sink) (T.taken self.new.sink) }
+        ensures job { self.new.job ≡ self.old.job }
+    {
+        match told {
+            Some(told) => self.tell_advice(error, place, told),
+            None => self.tell_advice(error, place, advice(error.number())),
+        }
+    }
+
+    /// Tells what was refused, where, and this advice. Where memory is refused it tells the advice
+    /// alone.
+    fn tell_advice(&mut self, error: RunError, place: Option<Place<'_>>, advice: &str)
+        ensures silent { IsFalse self.old.terminals.errors
+            → T.taken self.new.sink ≡ T.taken self.old.sink }
+        ensures told { IsTrue self.old.terminals.errors → T.failed self.new.sink ≡ 0
+            → ExplainedBy advice.now (T.taken self.old.sink) (T.taken self.new.sink) }
+        ensures job { self.new.job ≡ self.old.job }
+    {
+        let what = refused_text(self.alloc, error, place).unwrap_or(String::new(self.alloc));
+        self.tell("aes3: ");
+        self.tell(&what);
+        self.tell(advice);
+        self.tell("\n");
+    }
+
+    /// Tells what the input looks like, if that is another kind than it was taken for.
+    fn tell_looks<S: Source + Drop>(&mut self, words: &[&str], source: &Watched<S>)
+        ensures silent { IsFalse (self.old.terminals.errors || self.old.names_file)
+            → T.taken self.new.sink ≡ T.taken self.old.sink }
+        ensures job { self.new.job ≡ self.old.job }
+    {
+        if let Some(told) = looks_of(self.refusal, self.job, words, source) {
+            self.hint("aes3: ");
+            self.hint(told);
+            self.hint("\n");
+        }
+    }
+
+    /// Tells a text, where standard error is a terminal or a file is named.
+    fn hint(&mut self, text: &str)
+        ensures silent { IsFalse (self.old.terminals.errors || self.old.names_file)
+            → T.taken self.new.sink ≡ T.taken self.old.sink }
+        ensures terminals { self.new.terminals ≡ self.old.terminals }
+        ensures named { self.new.names_file ≡ self.old.names_file }
+        ensures job { self.new.job ≡ self.old.job }
+    {
+        if (self.terminals.errors || self.names_file) && self.sink.failures() == 0 {
+            let _ = write_all(&mut self.sink, text.as_bytes());
+        }
+    }
+
+    /// Tells a text, where standard error is a terminal.
+    fn tell(&mut self, text: &str)
+        ensures silent { IsFalse self.old.terminals.errors
+            → T.taken self.new.sink ≡ T.taken self.old.sink }
+        ensures told { T.failed self.new.sink ≡ 0 → IsTrue self.old.terminals.errors
+            → Grew (T.taken self.old.sink) (T.taken self.new.sink) text.now }
+        ensures failed { T.failed self.old.sink ≤ T.failed self.new.sink }
+        ensures terminals { self.new.terminals ≡ self.old.terminals }
+        ensures named { self.new.names_file ≡ self.old.names_file }
+        ensures job { self.new.job ≡ self.old.job }
+        ensures refusal { self.new.refusal ≡ self.old.refusal }
+    {
+        if self.terminals.errors && self.sink.failures() == 0 {
+            let _ = write_all(&mut self.sink, text.as_bytes());
+        }
+    }
+}
+
+/// What to do where a file can't be read.
+const UNREAD: &str = "is there such a file, may you read it, and is it no folder?";
+
+/// What was refused, and where. Where memory for it is refused there is none.
+fn refused_text(alloc: Global, error: RunError, place: Option<Place<'_>>) -> Option<String> {
+    let text = match place {
+        Some(Place::Byte(Position { line, column })) => {
+            format!(in alloc; "{error} (line {line}, column {column}): ")
+        }
+        Some(Place::Option(name)) | Some(Place::File(name)) => {
+            format!(in alloc; "{error} ({name}): ")
+        }
+        Some(Place::SoundFile) => return Some(String::new(alloc)),
+        None => format!(in alloc; "{error}: "),
+    };
+    text.ok()
+}
+
+/// What to do with an input that looks like another kind than it was taken for, which was refused so
+/// or taken.
+fn looks_of<S: Source + Drop>(
+    refusal: Option<RunError>,
+    job: Option<Job>,
+    words: &[&str],
+    source: &Watched<S>,
+) -> Option<&'static str> {
+    match (refusal, job) {
+        (Some(error), _) => advice_by_looks(error, job, source.head(), source.first()),
+        (None, Some(job)) => advice_on_taken(&job, words, source.head(), source.first()),
+        (None, None) => None,
+    }
+}
+
+/// Where a refusal stands, as a person looks for it.
+#[derive(Clone, Copy)]
+enum Place<'a> {
+    /// A byte of cell text.
+    Byte(Position),
+    /// An option of the command line.
+    Option(&'static str),
+    /// The file of this name.
+    File(&'a str),
+    /// The input as a whole, a sound file: where in it the first sample is no matter.
+    SoundFile,
+}
+
+/// Where to look for what was refused.
+fn place_of<S: Source + Drop>(
+    error: RunError,
+    words: &[&str],
+    source: &Watched<S>,
+    looks: FileKind,
+) -> Option<Place<'static>> {
+    match error {
+        RunError::BadSample { .. } if matches!(looks, FileKind::Sound(_)) => Some(Place::SoundFile),
+        RunError::BadCell { at } => Some(Place::Byte(source.position(at)?)),
+        RunError::BadStatusText => Some(Place::Option(bad_status_option(words)?)),
+        _ => None,
+    }
+}
+
+/// The option that stands among the words with a text that is no channel status.
+fn bad_status_option(words: &[&str]) -> Option<&'static str> {
+    if has_bad_status(words, "--status1") {
+        Some("--status1")
+    } else if has_bad_status(words, "--status2") {
+        Some("--status2")
+    } else {
+        None
+    }
+}
+
+/// Whether the option stands among the words with a text that is no channel status.
+fn has_bad_status(words: &[&str], name: &str) -> bool {
+    for at in 0..words.len() {
+        match text_of_option(words, at, name) {
+            Some(text) if status_of_text(text).is_none() => return true,
+            _ => {}
+        }
+    }
+    false
+}
+
+/// The text of the option, where the word of this number is it: the rest of that word or the next.
+fn text_of_option<'a>(words: &[&'a str], at: usize, name: &str) -> Option<&'a str>
+    requires { at < length words.now }
+{
+    match words[at].strip_prefix(name)? {
+        "" => words.get(at + 1).copied(),
+        rest => rest.strip_prefix("="),
+    }
+}
+
+/// What makes a block of the job's input.
+fn unit_of(job: &Job) -> Unit {
+    match job.block_len() {
+        Some(len) => Unit::Bytes(len),
+        None => Unit::Cells,
+    }
+}
+
+/// What is told before a job where standard input is a terminal, or isn't.
+fn reads_hint(is_terminal: bool) -> &'static str
+    ensures { result.now ≡ reads_hint is_terminal }
+{
+    if is_terminal {
+        "aes3: reads from the terminal up to Ctrl-D; a file by < FILE\n"
+    } else {
+        ""
+    }
+}
+
+/// What is told before this job where standard output is a terminal, or isn't.
+fn writes_hint(is_terminal: bool, job: &Job) -> &'static str
+    ensures { result.now ≡ writes_hint is_terminal job.now }
+{
+    if is_terminal && job.writes_packed() {
+        "aes3: writes packed cells to the terminal; to a file by > FILE\n"
+    } else {
+        ""
+    }
+}
+
+impl<T: Sink + Drop> Observer for Hints<T> {
+    ghost told = { λ h. T.taken h.sink };
+
+    ghost is_silent = { λ h. not (h.terminals.errors || h.names_file) };
+
+    ghost heard = { λ h hearing. (h.job ≡ hearing.job) × (h.refusal ≡ hearing.refusal)
+        × (h.terminals.errors ≡ hearing.terminal) };
+
+    fn begins(&mut self, job: &Job)
+        ensures silent { IsTrue (not (self.old.terminals.errors || self.old.names_file))
+            → T.taken self.new.sink ≡ T.taken self.old.sink }
+        ensures same { not (self.new.terminals.errors || self.new.names_file)
+            ≡ not (self.old.terminals.errors || self.old.names_file) }
+        ensures no_terminal { IsFalse self.old.terminals.errors
+            → T.taken self.new.sink ≡ T.taken self.old.sink }
+        ensures told { IsTrue self.old.terminals.errors → T.failed self.new.sink ≡ 0
+            → Grew (T.taken self.old.sink) (T.taken self.new.sink)
+            (greeting self.old.terminals job.now) }
+        ensures job { self.new.job ≡ Some job.now }
+        ensures heard { (hearing : Hearing) → (self.old.job ≡ hearing.job)
+            × (self.old.refusal ≡ hearing.refusal) × (self.old.terminals.errors ≡ hearing.terminal)
+            → (self.new.job ≡ Some job.now) × (self.new.refusal ≡ hearing.refusal)
+            × (self.new.terminals.errors ≡ hearing.terminal) }
+    {
+        self.job = Some(*job);
+        self.tell(reads_hint(self.terminals.input));
+        self.tell(writes_hint(self.terminals.output, job));
+    }
+
+    fn refused(&mut self, error: RunError)
+        ensures told { T.taken self.new.sink ≡ T.taken self.old.sink }
+        ensures same { not (self.new.terminals.errors || self.new.names_file)
+            ≡ not (self.old.terminals.errors || self.old.names_file) }
+        ensures refusal { self.new.refusal ≡ Some error }
+        ensures heard { (hearing : Hearing) → (self.old.job ≡ hearing.job)
+            × (self.old.refusal ≡ hearing.refusal) × (self.old.terminals.errors ≡ hearing.terminal)
+            → (self.new.job ≡ hearing.job) × (self.new.refusal ≡ Some error)
+            × (self.new.terminals.errors ≡ hearing.terminal) }
+    {
+        self.refusal = Some(error);
+    }
+}

@@ -1,0 +1,197 @@
+//! What to do about an input, by what its first octets look like.
+
+ghost use Rattle.std.specs.Prelude.{IfSome, IsTrue};
+ghost use Rattle.aes3_cli_hints.specs.Sentences.{is_told};
+
+use crate::watched::HEAD_LEN;
+use crate::widths::advice_on_width;
+use aes3_cell::{Form, RunError};
+use aes3_cli_jobs::{Job, ReadWork};
+use aes3_files::{FileKind, SoundFile, are_packed, are_turned};
+use aes3_forms_samples::SampleFormat;
+
+/// What to do with a sound file.
+fn advice_on_sound(sound: SoundFile) -> &'static str
+    ensures { IsTrue (is_told result.now) }
+{
+    match sound {
+        SoundFile::Wave =>
+            "this is a WAV file: `sox FILE -t s32 -c 2 - | aes3 from-pcm` takes its samples",
+        SoundFile::Aiff =>
+            "this is an AIFF file: `sox FILE -t s32 -c 2 - | aes3 from-pcm` takes its samples",
+        SoundFile::Wave64 =>
+            "this is a Wave64 file: `sox FILE -t s32 -c 2 - | aes3 from-pcm` takes its samples",
+        SoundFile::Flac =>
+            "this is a FLAC file: `sox FILE -t s32 -c 2 - | aes3 from-pcm` takes its samples",
+        SoundFile::CoreAudio =>
+            "this is a CAF file: `sox FILE -t s32 -c 2 - | aes3 from-pcm` takes its samples",
+        SoundFile::Ogg =>
+            "this is an Ogg file: `sox FILE -t s32 -c 2 - | aes3 from-pcm` takes its samples",
+        SoundFile::Mp3 =>
+            "this is an MP3 file: `sox FILE -t s32 -c 2 - | aes3 from-pcm` takes its samples",
+        SoundFile::Sun =>
+            "this is an AU file: `sox FILE -t s32 -c 2 - | aes3 from-pcm` takes its samples",
+        SoundFile::Mpeg4 => {
+            "this is an MPEG-4 file: `ffmpeg -i FILE -ac 2 -f s32le - | aes3 from-pcm` takes its samples"
+        }
+    }
+}
+
+/// What to do about this refusal of an input that begins so, if its looks tell.
+pub(crate) fn advice_by_looks(
+    error: RunError,
+    job: Option<Job>,
+    head: &[u8],
+    first: &[u8],
+) -> Option<&'static str>
+    ensures { IfSome result (λ told. IsTrue (is_told told.now)) }
+{
+    if is_of_ends(error) {
+        return None;
+    }
+    let looks = FileKind::of(first);
+    match format_of_odd_length(error, job, looks) {
+        Some(format) => advice_on_width(format, head),
+        None => advice_on_kind(error, looks, first),
+    }
+}
+
+/// The form of samples that end inside a frame, if they look like samples.
+fn format_of_odd_length(
+    error: RunError,
+    job: Option<Job>,
+    looks: FileKind,
+) -> Option<SampleFormat> {
+    match (error, looks) {
+        (RunError::BadLength { .. }, FileKind::Octets | FileKind::BlockFile) => format_of(job?),
+        _ => None,
+    }
+}
+
+/// The form of the samples that the job reads.
+fn format_of(job: Job) -> Option<SampleFormat> {
+    match job {
+        Job::FromPcm { format, .. } => Some(format),
+        _ => None,
+    }
+}
+
+/// What to do about this refusal of an input of this kind, if that tells.
+fn advice_on_kind(error: RunError, looks: FileKind, first: &[u8]) -> Option<&'static str>
+    ensures { IfSome result (λ told. IsTrue (is_told told.now)) }
+{
+    match looks {
+        FileKind::Sound(sound) => Some(advice_on_sound(sound)),
+        FileKind::Octets => advice_on_octets(error, first),
+        _ => advice_on_other(error, looks),
+    }
+}
+
+/// What to do about this refusal of octets of no other kind, if they look like packed cells.
+fn advice_on_octets(error: RunError, first: &[u8]) -> Option<&'static str>
+    ensures { IfSome result (λ told. IsTrue (is_told told.now)) }
+{
+    match error {
+        RunError::BadCell { .. } if are_turned(first) => {
+            Some("these look like packed cells: try `--packed-in --lsb-first`")
+        }
+        RunError::BadCell { .. } => Some("these look like packed cells: try `--packed-in`"),
+        RunError::BadPadding { .. } if are_packed(first) => {
+            Some("these cells have no last octet that counts: try `--raw-in`")
+        }
+        RunError::BadCode { .. } | RunError::BadParity { .. } if are_packed(first) => Some(
+            "these look like packed cells: `aes3 decode --packed-in` makes a block file of them",
+        ),
+        _ => None,
+    }
+}
+
+/// Whether it is none of the input's octets.
+fn is_of_ends(error: RunError) -> bool {
+    matches!(
+        error,
+        RunError::Read | RunError::Write | RunError::Memory | RunError::TooLong
+    )
+}
+
+/// The same of an input that is no sound file.
+fn advice_on_other(error: RunError, looks: FileKind) -> Option<&'static str>
+    ensures { IfSome result (λ told. IsTrue (is_told told.now)) }
+{
+    let is_of_text = matches!(error, RunError::BadCell { .. });
+    let is_of_samples = matches!(error, RunError::BadSample { .. });
+    match (error, looks) {
+        (_, FileKind::ValueChanges) => Some(
+            "this is a value change dump: `sigrok-cli -I vcd:downsample=10 -i FILE -O binary | aes3-cells` makes cells of it, at a time scale of 1 ns",
+        ),
+        (_, FileKind::Executable) => Some("this is a program"),
+        (_, FileKind::Session) => Some(
+            "a session of sigrok begins so: `sigrok-cli -i FILE -O binary | aes3-cells` makes cells of it",
+        ),
+        (_, FileKind::Samples) if !is_of_samples => {
+            Some(
+                "these look like samples of a logic analyser: `aes3-cells < FILE` makes cells of them",
+            )
+        }
+        (_, FileKind::Compressed) => Some("this file is compressed: take it apart first"),
+        (_, FileKind::BlockFile) if is_of_text => {
+            Some("a block file begins so: `aes3 encode` makes cells of it")
+        }
+        (RunError::BadPadding { .. }, FileKind::Empty) => Some("the input is empty"),
+        (RunError::BadPadding { .. }, FileKind::CellText) => {
+            Some("these are cells as text: leave `--packed-in` out")
+        }
+        (
+            RunError::BadCode { .. } | RunError::BadParity { .. } | RunError::BadLength { .. },
+            FileKind::CellText,
+        ) => Some("these are cells as text: `aes3 decode` makes a block file of them"),
+        _ => None,
+    }
+}
+
+/// What to do where the first bytes of an input that a job took look like another kind.
+pub(crate) fn advice_on_taken(
+    job: &Job,
+    words: &[&str],
+    head: &[u8],
+    first: &[u8],
+) -> Option<&'static str> {
+    let looks = FileKind::of(first);
+    match job {
+        Job::Read {
+            input,
+            work: ReadWork::Watch { .. } | ReadWork::WatchSums { .. },
+        } if has_no_cell(*input, words, head) => {
+            Some("no cell came: does the program run that writes the cells?")
+        }
+        Job::FromPcm { format, .. } => match looks {
+            FileKind::CellText => {
+                Some("these are cells as text: `aes3 to-pcm` makes samples of them")
+            }
+            _ => advice_on_width(*format, head),
+        },
+        job if job.reads_packed() => advice_on_packed(words, looks, first),
+        _ => None,
+    }
+}
+
+/// The same of a job that reads packed cells.
+fn advice_on_packed(words: &[&str], looks: FileKind, first: &[u8]) -> Option<&'static str> {
+    match looks {
+        FileKind::CellText => Some("these are cells as text: leave `--raw-in` out"),
+        FileKind::Octets if !words.contains(&"--lsb-first") && are_turned(first) => {
+            Some("the cells look packed with the first in the lowest bit: try `--lsb-first`")
+        }
+        _ => None,
+    }
+}
+
+/// Whether an input in this form has no cell: only separators, or only the octet that counts.
+fn has_no_cell(form: Form, words: &[&str], head: &[u8]) -> bool {
+    match form {
+        Form::Text => {
+            head.len() < HEAD_LEN && !head.iter().any(|byte| matches!(*byte, b'0' | b'1'))
+        }
+        Form::Packed => head.is_empty() || (head.len() == 1 && !words.contains(&"--raw-in")),
+    }
+}

@@ -1,0 +1,51 @@
+//! Observers of a run.
+
+ghost use Rattle.std.specs.Prelude.{◌≡◌, List, ℕ, Option, Bool, Some, ⊤, [], true, IsTrue};
+ghost use Rattle.aes3_cli_jobs.specs.Hearing.{Hearing, with_job, with_refusal};
+
+use crate::job::Job;
+use aes3_cell::RunError;
+
+/// Hears how a run goes on. It has neither the input nor the output, and standard error gets its lines
+/// without it.
+///
+/// The contract speaks of all bytes that it has written (`told`, if they are known), of whether it is one
+/// that writes nothing (`is_silent`), and of what it has heard (`heard`).
+pub trait Observer {
+    ghost told: { Self → Option (List ℕ) };
+
+    ghost is_silent: { Self → Bool };
+
+    ghost heard: { Self → Hearing → Type 0 };
+
+    /// The job is about to run.
+    fn begins(&mut self, job: &Job)
+        ensures silent { IsTrue (is_silent self.old) → told self.new ≡ told self.old }
+        ensures same { is_silent self.new ≡ is_silent self.old }
+        ensures heard { (hearing : Hearing) → heard self.old hearing
+            → heard self.new (with_job job.now hearing) };
+
+    /// The line of this refusal has been written.
+    fn refused(&mut self, error: RunError)
+        ensures told { told self.new ≡ told self.old }
+        ensures same { is_silent self.new ≡ is_silent self.old }
+        ensures heard { (hearing : Hearing) → heard self.old hearing
+            → heard self.new (with_refusal (Some error) hearing) };
+}
+
+/// An observer that looks away.
+#[derive(Clone, Copy)]
+pub struct Nobody;
+
+impl Observer for Nobody {
+    ghost told = { λ _. Some [] };
+
+    ghost is_silent = { λ _. true };
+
+    // It keeps nothing, so whatever was heard is as good as anything else.
+    ghost heard = { λ _ _. ⊤ };
+
+    fn begins(&mut self, _job: &Job) {}
+
+    fn refused(&mut self, _error: RunError) {}
+}

@@ -1,0 +1,101 @@
+//! What is done with the cells that a job reads.
+
+ghost use Rattle.std.specs.Prelude.{◌≡◌};
+ghost use Rattle.aes3_cli_jobs.specs.Forms.{read_finds_faults};
+
+use aes3_forms_samples::SampleFormat;
+use aes3_forms_words::Words;
+use aes3_frame::{Channel, Fill};
+use aes3_status::{CarriedBits, Change};
+use aes3_status_text::{Detail, Lines, Notation, Style};
+
+/// Of which blocks a normal stream is written, and how they are changed.
+#[derive(Clone, Copy, PartialEq, Eq)]
+pub enum StreamWork {
+    /// All blocks.
+    Normal,
+    /// `count` blocks, the first of which has the number `from`.
+    Cut { from: u64, count: u64 },
+    /// All blocks, with other channel status, validity and user bits; where `exact`, up to the first
+    /// block whose status leaves out a setting.
+    Rewrite { change: Change, exact: bool },
+}
+
+/// What is written of cells that is no cells.
+#[derive(Clone, Copy, PartialEq, Eq)]
+pub enum ReadWork {
+    /// A block file, its words in this form.
+    Decode {
+        words: Words,
+    },
+    /// A line for each block and each fault, or for each fault.
+    Check {
+        lines: Lines,
+    },
+    /// The same, and a line for each gap, cells that lie in no whole block.
+    Account {
+        lines: Lines,
+    },
+    /// A line where what is known of a line changes: locked, lost, back, slipped and its end, in
+    /// this style.
+    Watch {
+        style: Style,
+    },
+    /// The same, and a line of what was counted so far for each `every` cells, from 1 to 2^40.
+    WatchSums {
+        style: Style,
+        every: u64,
+    },
+    /// One page about a recording, in this notation.
+    Info {
+        notation: Notation,
+    },
+    /// Two lines of channel status for each block, with this behind them.
+    Show {
+        detail: Detail,
+    },
+    /// Those of them whose status differs from that of the block before.
+    ShowChanges {
+        detail: Detail,
+    },
+    /// A line for each preamble.
+    Scan,
+    /// The samples of blocks, in this form; where `valid`, with zero for those that are not.
+    ToPcm {
+        format: SampleFormat,
+        valid: bool,
+    },
+    /// The samples of blocks, in this form, up to the first that would lose bits.
+    ToExactPcm {
+        format: SampleFormat,
+    },
+    /// The samples of blocks, in this form, with frames between them that fill the time which no
+    /// block gives; where `marked`, of blocks with wrong parity bits too, and these subframes are
+    /// filled.
+    ToFilledPcm {
+        format: SampleFormat,
+        fill: Fill,
+        marked: bool,
+    },
+    /// The bits that the subframes of a channel carry after their audio.
+    ToBits {
+        bits: CarriedBits,
+        channel: Channel,
+    },
+}
+
+impl ReadWork {
+    /// Whether it looks for faults.
+    pub(crate) fn finds_faults(&self) -> bool
+        ensures { result ≡ read_finds_faults self.now }
+    {
+        matches!(
+            self,
+            ReadWork::Check { .. }
+                | ReadWork::Account { .. }
+                | ReadWork::Watch { .. }
+                | ReadWork::WatchSums { .. }
+                | ReadWork::Info { .. }
+        )
+    }
+}

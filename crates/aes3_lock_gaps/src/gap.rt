@@ -1,0 +1,79 @@
+//! A gap, and up to where gaps are due.
+
+ghost use Rattle.std.specs.Prelude.{◌≡◌, ◌-◌, Some, None, false, List, Bool};
+ghost use Rattle.aes3_frame.specs.Blocks.{block_len};
+ghost use Rattle.aes3_lock_gaps.specs.Told.{due_before, report_with};
+
+use aes3_lock::Ending;
+
+/// How many cells a block has (AES3-3).
+pub(crate) const BLOCK_CELLS: u64 = 24_576;
+
+/// A gap: cells in a row that lie in no whole block, 1 to 24,576.
+#[derive(Clone, Copy)]
+pub struct Gap {
+    /// The place of its first cell.
+    pub at: u64,
+    pub cells: u64,
+    /// Whether it counts among the faults; where not, the input is cut there.
+    pub counts: bool,
+}
+
+/// Up to where gaps are due.
+#[derive(Clone, Copy)]
+pub struct Due {
+    /// The place behind the last cell of them.
+    pub to: u64,
+    /// Whether a last gap of fewer cells than a block has counts; `None` where there is none yet.
+    pub short: Option<bool>,
+}
+
+impl Due {
+    /// Before the report of an ending, where a whole block was `found` before it or not: up to a
+    /// whole block, before any other report as many as have a block's length.
+    pub fn before_report(ending: Ending, found: bool) -> Self
+        ensures { (block : List (List Bool)) → result ≡ due_before found (report_with block ending) }
+    {
+        match ending {
+            Ending::Whole { at, .. } => Due {
+                to: at,
+                short: Some(found),
+            },
+            Ending::Marked { at, .. } => Due {
+                to: at,
+                short: None,
+            },
+            Ending::Fault { at, .. } => Due {
+                to: at,
+                short: None,
+            },
+            Ending::Unfinished { at, .. } => Due {
+                to: at,
+                short: None,
+            },
+        }
+    }
+
+    /// Once `seen` cells have come and no report is left to tell: as many as have a block's length
+    /// and a block's length of cells behind them.
+    pub fn passed(seen: u64) -> Self
+        ensures to { result.to ≡ seen - block_len }
+        ensures short { result.short ≡ None }
+    {
+        Due {
+            to: seen.saturating_sub(BLOCK_CELLS),
+            short: None,
+        }
+    }
+
+    /// At the end of `seen` cells, with no report left to tell: all.
+    pub fn end(seen: u64) -> Self
+        ensures to { result.to ≡ seen }
+        ensures short { result.short ≡ Some false }
+    {
+        Due {
+            to: seen,
+            short: Some(false),
+        }
+    }
+}

@@ -1,0 +1,126 @@
+//! Who is told of the reports on cells.
+
+ghost use Rattle.std.specs.Prelude.{◌≡◌, ℕ, ◌+◌, ◌<◌, ◌≤◌, ◌^◌, ◌++◌, List, [], ◌∷◌, length, IfOk};
+ghost use Rattle.aes3_cell.specs.Writes.{Wrote};
+ghost use Rattle.aes3_lock.specs.declared.report.Report.{Report};
+ghost use Rattle.aes3_lock.specs.Following.{report_in};
+ghost use Rattle.aes3_lock.specs.Reports.{decided, reports, wholes};
+ghost use Rattle.aes3_input.specs.Running.{InputRun, movement_of};
+ghost use Rattle.aes3_input.specs.Taking.{Writing};
+ghost use Rattle.aes3_lock_runs.specs.Reporting.{reporting};
+ghost use Rattle.aes3_lock_runs.specs.ReportRuns.{told_reports};
+
+use crate::followed::run_cells;
+use crate::listener::Listener;
+use aes3_cell::{Counts, Fault, Form, RunError, Sink, Source};
+use aes3_lock::{Ending, Lock};
+
+/// Is told of the reports on cells one by one, and writes what it makes of them.
+///
+/// The contract speaks of the reports that it was told (`follows`), and of what reports write
+/// (`writes`). After a fault it follows none.
+pub trait Reporter {
+    ghost follows: { Self → List Report → Type 0 };
+
+    ghost writes: { Self → Writing Report };
+
+    /// Is told of one more report behind `blocks` whole blocks, that of an ending that a lock has
+    /// just answered. What needs no block makes none.
+    ///
+    /// # Errors
+    /// The sink's fault; then it has taken a front of what the report writes.
+    fn tell<T: Sink>(
+        &mut self,
+        sink: &mut T,
+        blocks: u64,
+        lock: &Lock,
+        ending: Ending,
+    ) -> Result<(), Fault>
+        requires room { T.failed sink.old + 1 < 2 ^ 64 }
+        ensures same { IfOk result (λ _. writes self.new ≡ writes self.old) }
+        ensures next { IfOk result (λ _. (r : List Report) → blocks ≡ length (wholes r)
+            → follows self.old r → follows self.new (r ++ report_in lock.now ending ∷ [])) }
+        ensures wrote { (r : List Report) → blocks ≡ length (wholes r) → follows self.old r
+            → Wrote T.taken T.failed sink.old sink.new
+            ((writes self.old).adds r (report_in lock.now ending)) result };
+
+    /// Is told of the end of the reports.
+    ///
+    /// # Errors
+    /// The sink's fault; then it has taken a front of what the end writes.
+    fn finish<T: Sink>(&self, sink: &mut T) -> Result<(), Fault>
+        requires room { T.failed sink.old + 1 < 2 ^ 64 }
+        ensures { (r : List Report) → follows self.now r
+            → Wrote T.taken T.failed sink.old sink.new ((writes self.now).ends r) result };
+}
+
+/// Hears of cells, and tells a reporter of the reports on them.
+#[derive(Drop)]
+struct Reports<R> {
+    reporter: R,
+}
+
+impl<R: Reporter> Listener for Reports<R> {
+    ghost follows = { λ k c. R.follows k.reporter (decided c) };
+
+    ghost writes = { λ k. reporting (R.writes k.reporter) };
+
+    ghost finished = { λ k c. R.follows k.reporter (reports c) };
+
+    #[inline(always)]
+    fn hear<T: Sink>(
+        &mut self,
+        sink: &mut T,
+        lock: &Lock,
+        blocks: u64,
+        ending: Option<Ending>,
+    ) -> Result<(), Fault> {
+        match ending {
+            Some(ending) => self.reporter.tell(sink, blocks, lock, ending),
+            None => Ok(()),
+        }
+    }
+
+    fn end<T: Sink>(
+        &mut self,
+        sink: &mut T,
+        lock: &Lock,
+        blocks: u64,
+        ending: Option<Ending>,
+    ) -> Result<(), Fault> {
+        match ending {
+            Some(ending) => {
+                self.reporter.tell(sink, blocks, lock, ending)?;
+                self.reporter.finish(sink)
+            }
+            None => self.reporter.finish(sink),
+        }
+    }
+}
+
+/// Reads cells, tells the reporter of each report on them at the cell that decides it, and answers
+/// it with what was counted.
+///
+/// # Errors
+/// `BadCell` and `BadPadding` where the input is not in its form, `TooLong` where it has more than
+/// `max_bytes` bytes, `Read` and `Write` where an end failed. Then what the reports decided before
+/// give is written, and after `Write` a front of the output.
+pub fn run_reports<S: Source, T: Sink, R: Reporter + Drop>(
+    source: &mut S,
+    sink: &mut T,
+    max_bytes: u64,
+    input: Form,
+    reporter: R,
+) -> Result<(Counts, R), RunError>
+    requires source_room { S.failed source.old + 1 < 2 ^ 64 }
+    requires sink_room { T.failed sink.old + 1 < 2 ^ 64 }
+    requires limit { max_bytes ≤ 2 ^ 40 }
+    requires start { R.follows reporter [] }
+    ensures ran { InputRun (told_reports input (R.writes reporter) R.follows) max_bytes
+        (S.has_ended source.new) (movement_of S.given S.failed source.old source.new)
+        (movement_of T.taken T.failed sink.old sink.new) result }
+    ensures passed_on { IfOk result (λ _. T.passed sink.new ≡ T.taken sink.new) }
+{
+    let (counts, reports) = run_cells(source, sink, max_bytes, input, Reports { reporter })?;
+    Ok((counts, reports.reporter))
+}

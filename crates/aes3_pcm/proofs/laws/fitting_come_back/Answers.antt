@@ -1,5 +1,0 @@
-use Rattle.aes3_pcm.proofs.Formats.{fitting-back}
-use Rattle.aes3_pcm.proofs.laws.fitting_come_back.Goals as goal
-
-pub returns : goal.returns
-returns c = fitting-back

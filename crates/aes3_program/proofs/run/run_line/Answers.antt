@@ -1,0 +1,15 @@
+use Rattle.aes3_program.specs.Streams.{moved, streams_of}
+use Rattle.aes3_program.proofs.ErrorsToldLemmas.{fault_told, line_told}
+use Rattle.aes3_program.proofs.run.run_line.Goals as goal
+
+pub returns-in-Ok-clause-told : goal.returns-in-Ok-clause-told
+returns-in-Ok-clause-told g c =
+    let ran = c.run_octets in
+    line_told (streams_of g.S.Source c.args.source ran.result.source g.T.Sink c.args.sink ran.result.sink
+    g.E.Sink c.args.errors.now ran.new.errors) ran.result.status c.in-Ok.is ran.ensures.ran
+
+pub returns-in-Err-clause-told : goal.returns-in-Err-clause-told
+returns-in-Err-clause-told g c =
+    let told = c.tell_fault-status in
+    fault_told (moved g.T.Sink c.args.sink told.new.sink) (moved g.E.Sink c.args.errors.now told.new.errors) told.result
+    c.in-Err.is told.ensures.told

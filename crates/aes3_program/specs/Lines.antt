@@ -1,0 +1,47 @@
+-- The lines that tell a refusal, a remark on a job that ended well, and words that can not be read.
+use Rattle.std.specs.Option.{option_map_or}
+use Rattle.std.specs.Prelude.{ℕ, List, [], ◌∷◌, ◌++◌, Option, Some, None, codes, decimal}
+use Rattle.aes3_cell.specs.declared.refusal.RunError.{RunError}
+use Rattle.aes3_cell.specs.declared.refusal.RunError.TheVariants as refusal
+use Rattle.aes3_cell.specs.Refusals.{number_of, place_of}
+use Rattle.aes3_program.specs.declared.outcome.Remark.{Remark}
+use Rattle.aes3_program.specs.declared.outcome.Remark.TheVariants.{Nothing, Filled, LeftOut, Settings, Inexact}
+use Rattle.aes3_program.specs.declared.outcome.Met.{Met}
+use Rattle.aes3_status_text.specs.Untaken.{texts_of, untaken_lines}
+use Rattle.aes3_status_text.specs.declared.typed.TypedSettings.{TypedSettings}
+
+-- ` at <place>`, where the refusal has a place
+abbrev pub place_text : Option ℕ → List ℕ
+place_text None = []
+place_text (Some place) = codes " at " ++ decimal place
+
+-- `aes3: refused <number>`, the place and a line feed
+abbrev pub refusal_line : RunError → List ℕ
+refusal_line error = codes "aes3: refused " ++ decimal (number_of error) ++ place_text (place_of error) ++ 10 ∷ []
+
+-- `aes3: filled <frames> frames`, and `aes3: left out <words> words before the first block`
+abbrev pub filled_line : ℕ → List ℕ
+filled_line frames = codes "aes3: filled " ++ decimal frames ++ codes " frames" ++ 10 ∷ []
+
+abbrev pub left_out_line : ℕ → List ℕ
+left_out_line words = codes "aes3: left out " ++ decimal words ++ codes " words before the first block" ++ 10 ∷ []
+
+-- the lines of the texts typed for a channel that no block took, where there are settings
+abbrev pub met_lines : ℕ → List (List ℕ) → Met → List ℕ
+met_lines channel texts met =
+    option_map_or (λ settings. untaken_lines channel settings met.taken 0 texts) met.settings []
+
+-- what is told of a job that read its input to the end, where its settings were typed so
+abbrev pub remark_line : TypedSettings → Remark → List ℕ
+remark_line typed Nothing = []
+remark_line typed (Filled frames) = filled_line frames
+remark_line typed (LeftOut words) = left_out_line words
+remark_line typed (Settings first second) =
+    met_lines 1 (texts_of typed.first) first ++ met_lines 2 (texts_of typed.second) second
+remark_line typed (Inexact at) = refusal_line (refusal.Inexact at)
+
+-- what is told of words that are not UTF-8
+abbrev pub not_utf8_text : List ℕ
+not_utf8_text = codes "error: the words are not UTF-8"
+    ++ (10 ∷ 10 ∷ codes "Usage: aes3 COMMAND [OPTIONS] < INPUT > OUTPUT")
+    ++ (10 ∷ 10 ∷ codes "For more information, try '--help'.") ++ 10 ∷ []

@@ -1,0 +1,206 @@
+//! A job between a source and a sink.
+
+ghost use Rattle.std.specs.Prelude.{◌≡◌, ◌<◌, ◌≤◌, ◌+◌, ◌^◌, IfOk};
+ghost use Rattle.aes3_input.specs.Running.{movement_of};
+ghost use Rattle.aes3_cli_jobs.specs.declared.job.Job.TheVariants.{Read, Stream};
+ghost use Rattle.aes3_cli_jobs.specs.declared.work.ReadWork.TheVariants.{ToPcm};
+ghost use Rattle.aes3_cli_jobs.specs.declared.work.StreamWork.TheVariants.{Rewrite};
+ghost use Rattle.aes3_program.specs.JobRuns.{RunRan, period, status_by};
+
+use crate::outcome::{Outcome, encoded, exact, filled, plain, rewritten, sampled};
+use aes3_cell::{Counts, Form, RunError, Sink, Source};
+use aes3_cli_jobs::{Job, ReadWork, StreamWork};
+use aes3_engine::{
+    cut, decode_words, encode_words, from_pcm_words, normalise, rewrite, rewrite_exactly, to_bits,
+    to_exact_pcm, to_filled_pcm, to_pcm, to_valid_pcm,
+};
+use aes3_forms_samples::SampleFormat;
+use aes3_info::info;
+use aes3_status::Change;
+use aes3_text::{check, scan, show_changes, show_detail};
+use aes3_watch::{account, watch, watch_sums};
+
+/// How many bytes an input may have.
+const MAX_BYTES: u64 = 1 << 40;
+
+/// The exit status of a run that was not refused.
+pub const DONE: u8 = 0;
+
+/// The exit status of `check`, `watch` and `info` where they found faults.
+pub const FAULTY: u8 = 1;
+
+/// The exit status of a job that ended well.
+pub(crate) fn exit_status(job: &Job, counts: &Counts) -> u8
+    ensures { result ≡ status_by job.now counts.now }
+{
+    if job.finds_faults() && counts.faults > 0 {
+        FAULTY
+    } else {
+        DONE
+    }
+}
+
+/// After how many cells sums are told: 1 at least, and no more than an input may have bytes. What
+/// words ask for is such a number.
+fn period(every: u64) -> u64
+    ensures period { result ≡ period every }
+    ensures some { 0 < result }
+    ensures few { result ≤ 2 ^ 40 }
+{
+    every.max(1).min(MAX_BYTES)
+}
+
+/// Runs `to-pcm`: of all samples, or with zero for those that are not valid.
+fn run_samples<S: Source, T: Sink>(
+    source: &mut S,
+    sink: &mut T,
+    input: Form,
+    format: SampleFormat,
+    valid: bool,
+) -> Result<Outcome, RunError>
+    requires source_room { S.failed source.old + 1 < 2 ^ 64 }
+    requires sink_room { T.failed sink.old + 1 < 2 ^ 64 }
+    ensures ran { RunRan (Read input (ToPcm format valid)) (S.has_ended source.new)
+        (movement_of S.given S.failed source.old source.new)
+        (movement_of T.taken T.failed sink.old sink.new) result }
+    ensures passed_on { IfOk result (λ _. T.passed sink.new ≡ T.taken sink.new) }
+{
+    if valid {
+        plain(to_valid_pcm(source, sink, MAX_BYTES, input, format))
+    } else {
+        plain(to_pcm(source, sink, MAX_BYTES, input, format))
+    }
+}
+
+/// Runs `rewrite`: of all blocks, or up to the first that does not take all settings.
+fn run_change<S: Source, T: Sink>(
+    source: &mut S,
+    sink: &mut T,
+    input: Form,
+    output: Form,
+    change: &Change,
+    exactly: bool,
+) -> Result<Outcome, RunError>
+    requires source_room { S.failed source.old + 1 < 2 ^ 64 }
+    requires sink_room { T.failed sink.old + 1 < 2 ^ 64 }
+    ensures ran { RunRan (Stream input output (Rewrite change.now exactly)) (S.has_ended source.new)
+        (movement_of S.given S.failed source.old source.new)
+        (movement_of T.taken T.failed sink.old sink.new) result }
+    ensures passed_on { IfOk result (λ _. T.passed sink.new ≡ T.taken sink.new) }
+{
+    if exactly {
+        exact(rewrite_exactly(source, sink, MAX_BYTES, input, output, change))
+    } else {
+        rewritten(
+            rewrite(source, sink, MAX_BYTES, input, output, change),
+            change,
+        )
+    }
+}
+
+/// Runs a job that writes the normal stream of blocks of its cells.
+fn run_stream<S: Source, T: Sink>(
+    source: &mut S,
+    sink: &mut T,
+    input: Form,
+    output: Form,
+    work: &StreamWork,
+) -> Result<Outcome, RunError>
+    requires source_room { S.failed source.old + 1 < 2 ^ 64 }
+    requires sink_room { T.failed sink.old + 1 < 2 ^ 64 }
+    ensures ran { RunRan (Stream input output work.now) (S.has_ended source.new)
+        (movement_of S.given S.failed source.old source.new)
+        (movement_of T.taken T.failed sink.old sink.new) result }
+    ensures passed_on { IfOk result (λ _. T.passed sink.new ≡ T.taken sink.new) }
+{
+    match *work {
+        StreamWork::Normal => plain(normalise(source, sink, MAX_BYTES, input, output)),
+        StreamWork::Cut { from, count } => {
+            plain(cut(source, sink, MAX_BYTES, input, output, from, count))
+        }
+        StreamWork::Rewrite { change, exact } => {
+            run_change(source, sink, input, output, &change, exact)
+        }
+    }
+}
+
+/// Runs a job that reads cells, and writes none.
+fn run_read<S: Source, T: Sink>(
+    source: &mut S,
+    sink: &mut T,
+    input: Form,
+    work: &ReadWork,
+) -> Result<Outcome, RunError>
+    requires source_room { S.failed source.old + 1 < 2 ^ 64 }
+    requires sink_room { T.failed sink.old + 1 < 2 ^ 64 }
+    ensures ran { RunRan (Read input work.now) (S.has_ended source.new)
+        (movement_of S.given S.failed source.old source.new)
+        (movement_of T.taken T.failed sink.old sink.new) result }
+    ensures passed_on { IfOk result (λ _. T.passed sink.new ≡ T.taken sink.new) }
+{
+    match *work {
+        ReadWork::Decode { words } => plain(decode_words(source, sink, MAX_BYTES, input, words)),
+        ReadWork::Check { lines } => plain(check(source, sink, MAX_BYTES, input, lines)),
+        ReadWork::Account { lines } => plain(account(source, sink, MAX_BYTES, input, lines)),
+        ReadWork::Watch { style } => plain(watch(source, sink, MAX_BYTES, input, style)),
+        ReadWork::WatchSums { style, every } => {
+            plain(watch_sums(source, sink, MAX_BYTES, input, style, period(every)))
+        }
+        ReadWork::Info { notation } => plain(info(source, sink, MAX_BYTES, input, notation)),
+        ReadWork::Show { detail } => plain(show_detail(source, sink, MAX_BYTES, input, detail)),
+        ReadWork::ShowChanges { detail } => {
+            plain(show_changes(source, sink, MAX_BYTES, input, detail))
+        }
+        ReadWork::Scan => plain(scan(source, sink, MAX_BYTES, input)),
+        ReadWork::ToPcm { format, valid } => run_samples(source, sink, input, format, valid),
+        ReadWork::ToExactPcm { format } => {
+            exact(to_exact_pcm(source, sink, MAX_BYTES, input, format))
+        }
+        ReadWork::ToFilledPcm {
+            format,
+            fill,
+            marked,
+        } => filled(to_filled_pcm(source, sink, MAX_BYTES, input, format, fill, marked)),
+        ReadWork::ToBits { bits, channel } => {
+            plain(to_bits(source, sink, MAX_BYTES, input, bits, channel))
+        }
+    }
+}
+
+/// Runs a job.
+///
+/// # Errors
+/// Those of the call that does the job.
+pub fn run_job<S: Source, T: Sink>(
+    job: &Job,
+    source: &mut S,
+    sink: &mut T,
+) -> Result<Outcome, RunError>
+    requires source_room { S.failed source.old + 1 < 2 ^ 64 }
+    requires sink_room { T.failed sink.old + 1 < 2 ^ 64 }
+    ensures ran { RunRan job.now (S.has_ended source.new)
+        (movement_of S.given S.failed source.old source.new)
+        (movement_of T.taken T.failed sink.old sink.new) result }
+    ensures passed_on { IfOk result (λ _. T.passed sink.new ≡ T.taken sink.new) }
+{
+    match *job {
+        Job::Encode { output, words } => encoded(encode_words(
+            source, sink, MAX_BYTES, output, words,
+        )),
+        Job::Stream {
+            input,
+            output,
+            work,
+        } => run_stream(source, sink, input, output, &work),
+        Job::Read { input, work } => run_read(source, sink, input, &work),
+        Job::FromPcm {
+            format,
+            exact,
+            change,
+            words,
+        } => sampled(
+            from_pcm_words(source, sink, MAX_BYTES, format, exact, &change, words),
+            &change,
+        ),
+    }
+}

@@ -1,0 +1,26 @@
+//! What the program does: a command line's job between a source and a sink, the line of its refusal
+//! and its exit status.
+#![tactic(auto)]
+
+/// The flush behind a job, and its exit status.
+mod finish;
+/// A job done by the run that it asks for.
+mod job_run;
+/// A job whose octets are laid out in other ways.
+mod octets;
+/// What a job answers that read its input to the end.
+mod outcome;
+/// The line of a refusal.
+mod refusal;
+/// What is told of a job that read its input to the end.
+mod remark;
+/// A whole command line.
+mod run;
+
+pub use aes3_status_text::TypedSettings;
+pub use finish::finish_job;
+pub use job_run::{DONE, FAULTY, run_job};
+pub use octets::{Ran, outputs_can_be_turned, run_octets};
+pub use outcome::{Met, Outcome, Remark};
+pub use refusal::{REFUSED, put_refusal, refuse};
+pub use run::{USAGE, Unread, run_line, run_words, tell_unread};

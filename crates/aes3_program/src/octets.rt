@@ -1,0 +1,203 @@
+//! A job between ends whose octets are laid out in other ways than the job reads and writes them.
+
+ghost use Rattle.std.specs.Prelude.{◌≡◌, ◌&&◌, ◌<◌, ◌+◌, ◌^◌, IsTrue, None, Some, true};
+ghost use Rattle.aes3_cli_jobs.specs.Forms.{reads_packed};
+ghost use Rattle.aes3_program.specs.Asides.{AsideOfRun};
+ghost use Rattle.aes3_program.specs.OctetRuns.{BehindRan, OctetsRan, OutputsCanBeTurned, PackedRan, SourceRan};
+ghost use Rattle.aes3_program.specs.Streams.{PassesOn, streams_of};
+
+use crate::finish::{finish_begun, finish_job, refuse_unread};
+use aes3_cell::{Sink, Source};
+use aes3_cell_octets::{RawSource, TurnedSink, TurnedSource, first_octet};
+use aes3_cli_arguments::Octets;
+use aes3_cli_jobs::{Job, Observer};
+use aes3_status_text::TypedSettings;
+
+/// The exit status of a run, and the ends behind it.
+#[derive(Drop)]
+pub struct Ran<S: Drop, T: Drop> {
+    pub status: u8,
+    pub source: S,
+    pub sink: T,
+}
+
+/// Runs a job whose octets are laid out so, as [`finish_job`] does: where the first cell of each
+/// octet stands in the lowest bit, packed cells are turned that it reads, and those that it writes.
+pub fn run_octets<S: Source + Drop, T: Sink + Drop, E: Sink, O: Observer>(
+    octets: Octets,
+    job: &Job,
+    typed: &TypedSettings<'_>,
+    source: S,
+    sink: T,
+    errors: &mut E,
+    observer: &mut O,
+) -> Ran<S, T>
+    requires source_room { S.failed source + 1 < 2 ^ 64 }
+    requires sink_room { T.failed sink + 1 < 2 ^ 64 }
+    requires errors_room { E.failed errors.old + 1 < 2 ^ 64 }
+    ensures ran { OctetsRan octets job.now typed.now (streams_of S.Source source result.source
+        T.Sink sink result.sink E.Sink errors.old errors.new) result.status }
+    ensures passed_on { PassesOn T.Sink sink result.sink }
+    ensures aside { AsideOfRun (Some job.now) E.Sink errors.old errors.new
+        O.Observer observer.old observer.new result.status }
+{
+    if octets.lsb_first && job.writes_packed() {
+        let ran = run_source(
+            octets,
+            job,
+            typed,
+            source,
+            TurnedSink::new(sink),
+            errors,
+            observer,
+        );
+        return Ran {
+            status: ran.status,
+            source: ran.source,
+            sink: ran.sink.into_sink(),
+        };
+    }
+    run_source(octets, job, typed, source, sink, errors, observer)
+}
+
+/// Whether octets that are laid out so are turned before the job reads them.
+fn turns_input(octets: Octets, job: &Job) -> bool
+    ensures { result ≡ octets.lsb_first && reads_packed job.now }
+{
+    octets.lsb_first && job.reads_packed()
+}
+
+/// Runs a job that reads octets laid out so, and writes its output as it is.
+fn run_source<S: Source + Drop, T: Sink + Drop, E: Sink, O: Observer>(
+    octets: Octets,
+    job: &Job,
+    typed: &TypedSettings<'_>,
+    source: S,
+    sink: T,
+    errors: &mut E,
+    observer: &mut O,
+) -> Ran<S, T>
+    requires source_room { S.failed source + 1 < 2 ^ 64 }
+    requires sink_room { T.failed sink + 1 < 2 ^ 64 }
+    requires errors_room { E.failed errors.old + 1 < 2 ^ 64 }
+    ensures ran { SourceRan octets job.now typed.now (streams_of S.Source source result.source
+        T.Sink sink result.sink E.Sink errors.old errors.new) result.status }
+    ensures passed_on { PassesOn T.Sink sink result.sink }
+    ensures aside { AsideOfRun (Some job.now) E.Sink errors.old errors.new
+        O.Observer observer.old observer.new result.status }
+{
+    let is_turned = turns_input(octets, job);
+    if octets.raw_in {
+        let raw = RawSource::new(source);
+        let ran = run_packed(is_turned, job, typed, raw, sink, errors, observer);
+        return Ran {
+            status: ran.status,
+            source: ran.source.into_source(),
+            sink: ran.sink,
+        };
+    }
+    run_packed(is_turned, job, typed, source, sink, errors, observer)
+}
+
+/// Runs a job on packed cells whose octets are turned, or on input as it is.
+fn run_packed<S: Source + Drop, T: Sink + Drop, E: Sink, O: Observer>(
+    is_turned: bool,
+    job: &Job,
+    typed: &TypedSettings<'_>,
+    source: S,
+    sink: T,
+    errors: &mut E,
+    observer: &mut O,
+) -> Ran<S, T>
+    requires source_room { S.failed source + 1 < 2 ^ 64 }
+    requires sink_room { T.failed sink + 1 < 2 ^ 64 }
+    requires errors_room { E.failed errors.old + 1 < 2 ^ 64 }
+    ensures ran { PackedRan is_turned job.now typed.now (streams_of S.Source source result.source
+        T.Sink sink result.sink E.Sink errors.old errors.new) result.status }
+    ensures passed_on { PassesOn T.Sink sink result.sink }
+    ensures aside { AsideOfRun (Some job.now) E.Sink errors.old errors.new
+        O.Observer observer.old observer.new result.status }
+{
+    if is_turned {
+        return run_turned(job, typed, source, sink, errors, observer);
+    }
+    let mut source = source;
+    let mut sink = sink;
+    let status = finish_job(job, typed, &mut source, &mut sink, errors, observer);
+    Ran {
+        status,
+        source,
+        sink,
+    }
+}
+
+/// Runs a job on packed cells with the first of each octet in the lowest bit. The first octet is
+/// read before the job is: where that fails, it is refused as the job would.
+fn run_turned<S: Source + Drop, T: Sink + Drop, E: Sink, O: Observer>(
+    job: &Job,
+    typed: &TypedSettings<'_>,
+    source: S,
+    sink: T,
+    errors: &mut E,
+    observer: &mut O,
+) -> Ran<S, T>
+    requires source_room { S.failed source + 1 < 2 ^ 64 }
+    requires sink_room { T.failed sink + 1 < 2 ^ 64 }
+    requires errors_room { E.failed errors.old + 1 < 2 ^ 64 }
+    ensures ran { PackedRan true job.now typed.now (streams_of S.Source source result.source
+        T.Sink sink result.sink E.Sink errors.old errors.new) result.status }
+    ensures passed_on { PassesOn T.Sink sink result.sink }
+    ensures aside { AsideOfRun (Some job.now) E.Sink errors.old errors.new
+        O.Observer observer.old observer.new result.status }
+{
+    observer.begins(job);
+    let mut source = source;
+    match first_octet(&mut source) {
+        Ok(first) => run_behind(first, job, typed, source, sink, errors, observer),
+        Err(_) => {
+            let mut sink = sink;
+            let status = refuse_unread(&mut sink, errors, observer);
+            Ran {
+                status,
+                source,
+                sink,
+            }
+        }
+    }
+}
+
+/// Runs a job on such cells, of which `first` was read, and of which the observer was told.
+fn run_behind<S: Source + Drop, T: Sink + Drop, E: Sink, O: Observer>(
+    first: Option<u8>,
+    job: &Job,
+    typed: &TypedSettings<'_>,
+    source: S,
+    sink: T,
+    errors: &mut E,
+    observer: &mut O,
+) -> Ran<S, T>
+    requires source_room { S.failed source + 1 < 2 ^ 64 }
+    requires sink_room { T.failed sink + 1 < 2 ^ 64 }
+    requires errors_room { E.failed errors.old + 1 < 2 ^ 64 }
+    requires end { first ≡ None → IsTrue (S.has_ended source) }
+    ensures ran { BehindRan first job.now typed.now (streams_of S.Source source result.source
+        T.Sink sink result.sink E.Sink errors.old errors.new) result.status }
+    ensures passed_on { PassesOn T.Sink sink result.sink }
+    ensures aside { AsideOfRun None E.Sink errors.old errors.new
+        O.Observer observer.old observer.new result.status }
+{
+    let mut turned = TurnedSource::new(source, first);
+    let mut sink = sink;
+    let status = finish_begun(job, typed, &mut turned, &mut sink, errors, observer);
+    Ran {
+        status,
+        source: turned.into_source(),
+        sink,
+    }
+}
+
+/// Packed cells that a job writes can be turned with the octet that counts, since they are whole
+/// octets of them.
+pub fn outputs_can_be_turned()
+    ensures { OutputsCanBeTurned }
+{}

@@ -1,0 +1,173 @@
+//! Everything but the machine's own streams.
+
+ghost use Rattle.std.specs.Prelude.{◌≡◌, ◌<◌, ◌+◌, ◌^◌, IfOk, None, OnErr, map};
+ghost use Rattle.aes3_cell.specs.Ends.{Grew};
+ghost use Rattle.aes3_program.specs.Asides.{AsideOfRun, AsideOfWords, job_of};
+ghost use Rattle.aes3_program.specs.StandardErrors.{ErrorsTold};
+ghost use Rattle.aes3_program.specs.Streams.{HasPassed, PassesOn, moved, streams_of};
+ghost use Rattle.aes3_program.specs.WordRuns.{FaultRan, LineRan, UnreadTold, WordsRan};
+
+use crate::job_run::DONE;
+use crate::octets::{Ran, run_octets};
+use crate::refusal::refuse;
+use aes3_cell::{Fault, RunError, Sink, Source, write_all};
+use aes3_cli_arguments::{CommandLine, LineFault, line_of_words};
+use aes3_cli_jobs::Observer;
+use std::alloc::{AllocError, Global};
+
+/// The exit status of a refused command line.
+pub const USAGE: u8 = 2;
+
+/// What is told of words that are not UTF-8, as `clap` tells of words that it doesn't take.
+const NOT_UTF8: &str = "error: the words are not UTF-8
+
+Usage: aes3 COMMAND [OPTIONS] < INPUT > OUTPUT
+
+For more information, try '--help'.
+";
+
+/// Writes all of a text and flushes it.
+///
+/// # Errors
+/// The sink's fault; then it may have taken a front of the text.
+fn put_text<T: Sink>(text: &str, sink: &mut T) -> Result<(), Fault>
+    requires room { T.failed sink.old + 1 < 2 ^ 64 }
+    ensures text { IfOk result (λ _. Grew (T.taken sink.old) (T.taken sink.new) text.now) }
+    ensures passed_on { IfOk result (λ _. HasPassed T.Sink sink.new) }
+    ensures count { IfOk result (λ _. T.failed sink.new ≡ T.failed sink.old) }
+    ensures err { OnErr result (T.failed sink.new ≡ T.failed sink.old + 1) }
+{
+    write_all(sink, text.as_bytes())?;
+    sink.flush()
+}
+
+/// Tells why words are no job, and answers the exit status.
+fn tell_fault<T: Sink, E: Sink, O: Observer>(
+    fault: LineFault,
+    sink: &mut T,
+    errors: &mut E,
+    observer: &mut O,
+) -> u8
+    requires sink_room { T.failed sink.old + 1 < 2 ^ 64 }
+    requires errors_room { E.failed errors.old + 1 < 2 ^ 64 }
+    ensures told { FaultRan fault (moved T.Sink sink.old sink.new)
+        (moved E.Sink errors.old errors.new) result }
+    ensures passed_on { HasPassed T.Sink sink.old → PassesOn T.Sink sink.old sink.new }
+    ensures aside { AsideOfRun None E.Sink errors.old errors.new
+        O.Observer observer.old observer.new result }
+{
+    match fault {
+        LineFault::Usage { text } => {
+            let _ = put_text(text.as_str(), errors);
+            USAGE
+        }
+        LineFault::Help { text } => match put_text(text.as_str(), sink) {
+            Ok(()) => DONE,
+            Err(_) => refuse(RunError::Write, errors, observer),
+        },
+        LineFault::Refused(error) => refuse(error, errors, observer),
+    }
+}
+
+/// Why the words of a command line could not be read.
+#[derive(Clone, Copy)]
+pub enum Unread {
+    /// They are not UTF-8.
+    NotUtf8,
+    /// Memory was refused.
+    Memory,
+}
+
+impl From<AllocError> for Unread {
+    fn from(_error: AllocError) -> Unread
+        ensures { result ≡ Unread.Memory }
+    {
+        Unread::Memory
+    }
+}
+
+/// Tells why the words could not be read, and answers the exit status.
+pub fn tell_unread<E: Sink, O: Observer>(fault: Unread, errors: &mut E, observer: &mut O) -> u8
+    requires { E.failed errors.old + 1 < 2 ^ 64 }
+    ensures told { UnreadTold fault (moved E.Sink errors.old errors.new) result }
+    ensures aside { AsideOfRun None E.Sink errors.old errors.new
+        O.Observer observer.old observer.new result }
+{
+    match fault {
+        Unread::NotUtf8 => {
+            let _ = put_text(NOT_UTF8, errors);
+            USAGE
+        }
+        Unread::Memory => refuse(RunError::Memory, errors, observer),
+    }
+}
+
+/// Runs what a command line asks for, or tells why it asks for nothing, and answers the exit status:
+/// 0 done, 1 where `check` or `watch` found faults, 2 for a refused command line, 3 for a refusal. The
+/// source is what the line reads. A sink that held nothing before and did not fail has passed on all
+/// that it took, and so have the errors. Refusals are told on `errors`, whose own faults change
+/// nothing. The observer is told how it goes on; one that is silent writes nothing.
+///
+/// All that the errors get is, at status 0 and 1, the remark on the job, or nothing if there is none; at 2
+/// why the words are no command; at 3 the line of the refusal.
+pub fn run_line<S: Source + Drop, T: Sink + Drop, E: Sink, O: Observer>(
+    line: Result<CommandLine<'_>, LineFault>,
+    source: S,
+    sink: T,
+    errors: &mut E,
+    observer: &mut O,
+) -> Ran<S, T>
+    requires source_room { S.failed source + 1 < 2 ^ 64 }
+    requires sink_room { T.failed sink + 1 < 2 ^ 64 }
+    requires errors_room { E.failed errors.old + 1 < 2 ^ 64 }
+    ensures ran { LineRan line.entry (streams_of S.Source source result.source
+        T.Sink sink result.sink E.Sink errors.old errors.new) result.status }
+    ensures told { ErrorsTold line.entry (moved E.Sink errors.old errors.new) result.status }
+    ensures passed_on { HasPassed T.Sink sink → PassesOn T.Sink sink result.sink }
+    ensures aside { AsideOfRun (job_of line.entry) E.Sink errors.old errors.new
+        O.Observer observer.old observer.new result.status }
+{
+    match line {
+        Ok(line) => run_octets(
+            line.octets,
+            &line.job,
+            &line.typed,
+            source,
+            sink,
+            errors,
+            observer,
+        ),
+        Err(fault) => {
+            let mut sink = sink;
+            let status = tell_fault(fault, &mut sink, errors, observer);
+            Ran {
+                status,
+                source,
+                sink,
+            }
+        }
+    }
+}
+
+/// Runs a command line, without the program's name, whose input is the source, as [`run_line`] does.
+pub fn run_words<S: Source + Drop, T: Sink + Drop, E: Sink, O: Observer>(
+    alloc: Global,
+    words: &[&str],
+    source: S,
+    sink: T,
+    errors: &mut E,
+    observer: &mut O,
+) -> Ran<S, T>
+    requires source_room { S.failed source + 1 < 2 ^ 64 }
+    requires sink_room { T.failed sink + 1 < 2 ^ 64 }
+    requires errors_room { E.failed errors.old + 1 < 2 ^ 64 }
+    ensures ran { WordsRan (map (λ word. word.now) words.now)
+        (streams_of S.Source source result.source
+        T.Sink sink result.sink E.Sink errors.old errors.new) result.status }
+    ensures passed_on { HasPassed T.Sink sink → PassesOn T.Sink sink result.sink }
+    ensures aside { AsideOfWords (map (λ word. word.now) words.now)
+        E.Sink errors.old errors.new O.Observer observer.old observer.new result.status }
+{
+    let line = line_of_words(alloc, words);
+    run_line(line, source, sink, errors, observer)
+}

@@ -1,5 +1,0 @@
-use Rattle.std.proofs.Common.{rules}
-use Rattle.aes3_recovery.proofs.queue.put_last.Goals as goal
-
-pub returns-in-Text-2 : goal.returns-in-Text-2
-returns-in-Text-2 g c = search rules

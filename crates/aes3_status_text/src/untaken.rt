@@ -1,0 +1,58 @@
+//! Settings that no block took.
+
+ghost use Rattle.std.specs.Prelude.{◌≡◌, ◌<◌};
+ghost use Rattle.std.specs.Option.{option_map};
+ghost use Rattle.aes3_status_text.specs.Untaken.{has_code, is_taken, remedy, untaken_remedy};
+
+use crate::listed::TEXTS;
+use aes3_status::{Setting, Settings, Taken};
+
+/// Whether a setting has a code for some status.
+fn has_code(setting: &Setting) -> bool
+    ensures { result ≡ has_code setting.now }
+{
+    setting.codes.iter().any(Option::is_some)
+}
+
+/// Whether a status took what text number `at` sets: one of its codes, or, where it has none, the
+/// field of four bytes that it sets.
+fn is_taken(settings: &Settings, taken: &Taken, at: usize) -> bool
+    requires { at < TEXTS }
+    ensures { result ≡ is_taken settings.now taken.now at }
+{
+    if has_code(&settings.codes[2 * at]) || has_code(&settings.codes[2 * at + 1]) {
+        taken.codes[2 * at] || taken.codes[2 * at + 1]
+    } else {
+        taken.wide
+    }
+}
+
+/// What a status lacks that takes nothing of a text, by whether this has a code for professional
+/// and for consumer use. A text with neither sets a field of four bytes, which are for professional
+/// use.
+fn remedy(professional: bool, consumer: bool) -> &'static str
+    ensures { result.now ≡ remedy professional consumer }
+{
+    match (professional, consumer) {
+        (true, true) =>
+            ": before it stands what gives it a code, as greatest=24 or aux=audio for word=24\n",
+        (_, false) => ": it is for professional use, which use=professional before it sets\n",
+        (false, true) => ": it is for consumer use, which use=consumer before it sets\n",
+    }
+}
+
+/// What stands behind text number `at` in the line which says that no status took what it sets;
+/// `None` where one did. Of several texts that set the same field each is taken where a status has a
+/// code for it at its turn.
+pub fn untaken_remedy(settings: &Settings, taken: &Taken, at: usize) -> Option<&'static str>
+    requires { at < TEXTS }
+    ensures { option_map (λ remedy. remedy.now) result ≡ untaken_remedy settings.now taken.now at }
+{
+    if is_taken(settings, taken, at) {
+        return None;
+    }
+    Some(remedy(
+        has_code(&settings.codes[2 * at]),
+        has_code(&settings.codes[2 * at + 1]),
+    ))
+}

@@ -1,0 +1,34 @@
+//! Lines of preambles, of channel status, of events and of sums (AES3-2, AES3-3, IEC 60958-1,
+//! IEC 60958-3).
+#![tactic(auto)]
+
+/// What ends a line.
+mod ending;
+/// Events of a line that is watched, and their lines.
+mod event;
+/// Lines of preambles that are handed on together.
+mod gathered;
+/// The line of a preamble.
+mod mark;
+/// The words of codes that a line of channel status has as numbers.
+mod names;
+/// Bits that are 1.
+mod ones;
+/// The line of a channel status.
+mod status;
+/// Sums of a line that is watched, and their lines.
+mod sum;
+/// A short line, made from its end.
+mod tail;
+
+pub use aes3_status_text::{
+    Detail, Lines, Notation, SettingsFault, Style, add_choices, consumer_setting,
+    professional_setting, settings_of_texts,
+};
+pub use event::{Event, Marking, line_of_event};
+pub use gathered::{GATHERED_LEN, GatheredLines};
+pub use mark::{MARK_LEN, line_of_mark};
+pub use ones::ones_in;
+pub use status::{line_of_status, line_of_status_with, text_of_detail};
+pub use sum::{Figures, Sum, line_of_sum};
+pub use tail::{TAIL_LEN, Tail};

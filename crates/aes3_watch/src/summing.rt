@@ -1,0 +1,513 @@
+//! A line watched, with a sum for each period of it.
+
+ghost use Rattle.std.specs.Prelude.{◌≡◌, ℕ, ◌+◌, ◌*◌, ◌-◌, ◌<◌, ◌≤◌, ◌^◌, ◌++◌, [], List, Some, IfOk, false};
+ghost use Rattle.std.specs.Prelude.{if◌then◌else◌};
+ghost use Rattle.aes3_cell.specs.Ends.{Grew, Told};
+ghost use Rattle.aes3_cell.specs.Writes.{Wrote};
+ghost use Rattle.aes3_frame.specs.Blocks.{block_len};
+ghost use Rattle.aes3_lock.specs.Following.{report_in};
+ghost use Rattle.aes3_lock.specs.Remains.{place_of};
+ghost use Rattle.aes3_input.specs.Driving.{CellRun};
+ghost use Rattle.aes3_input.specs.Inputs.{cells_of};
+ghost use Rattle.aes3_input.specs.Running.{movement_of};
+ghost use Rattle.aes3_lock_gaps.specs.Gaps.{behind_full, full_count};
+ghost use Rattle.aes3_watch.specs.Signals.{signals_of};
+ghost use Rattle.aes3_watch.specs.Watching.{Ended, IsKept, event_lines, loss_events, up_to, watch_counts};
+ghost use Rattle.aes3_watch.specs.Sums.{Sums, begun_sums, change_of, changes_in, end_told, ends_before};
+ghost use Rattle.aes3_text_lines.specs.SumLines.{sum_line};
+ghost use Rattle.aes3_watch.specs.Sums.{go_to, last_sum, more, next_period, no_figures, next_sum, notice_lines};
+ghost use Rattle.aes3_watch.specs.Sums.{on_to, period_told, periods, periods_told, place_behind, report_told};
+ghost use Rattle.aes3_watch.specs.Sums.{sum_lines, summed_by, summing, take_report, all_told, counted_report};
+ghost use Rattle.aes3_watch.specs.Sums.{is_whole, told_to, with_fault, with_lost, with_marked, with_whole};
+
+use crate::signals::Signals;
+use crate::watching::{Watcher, put_events};
+use aes3_cell::{Counts, Fault, Form, RunError, Sink, Source};
+use aes3_lock::{Ending, Lock, Why};
+use aes3_lock_runs::{Listener, run_cells};
+use aes3_text_lines::{Event, Figures, Style, Sum, line_of_sum};
+use arrayvec::ArrayVec;
+
+/// How many cells a block has (AES3-3).
+const BLOCK_CELLS: u64 = 24_576;
+
+/// Nothing is counted.
+fn no_figures() -> Figures
+    ensures { result ≡ no_figures }
+{
+    Figures {
+        whole: 0,
+        marked: 0,
+        fault: 0,
+        preamble: 0,
+        biphase: 0,
+        unclosed: 0,
+        lost: 0,
+        invalid_first: 0,
+        invalid_second: 0,
+        changes: 0,
+    }
+}
+
+/// More of what is counted.
+#[tactic(auto, unfolding(crate::specs::Sums::more))]
+fn more(count: u64, new: u64) -> u64
+    ensures { result ≡ more count new }
+{
+    count.saturating_add(new)
+}
+
+/// Counts cells of gaps.
+fn with_lost(mut figures: Figures, cells: u64) -> Figures
+    ensures { result ≡ with_lost figures cells }
+{
+    figures.lost = more(figures.lost, cells);
+    figures
+}
+
+/// Counts a whole block that says this of its samples, of which so many events tell a change.
+fn with_whole(mut figures: Figures, now: &Signals, changes: u64) -> Figures
+    ensures { result ≡ with_whole figures now.now.first.invalid now.now.second.invalid changes }
+{
+    figures.whole = more(figures.whole, 1);
+    figures.invalid_first = more(figures.invalid_first, now.first.invalid);
+    figures.invalid_second = more(figures.invalid_second, now.second.invalid);
+    figures.changes = more(figures.changes, changes);
+    figures
+}
+
+/// Counts a block of which a subframe has a wrong parity bit.
+fn with_marked(mut figures: Figures) -> Figures
+    ensures { result ≡ with_marked figures }
+{
+    figures.marked = more(figures.marked, 1);
+    figures
+}
+
+/// Counts a fault.
+fn with_fault(mut figures: Figures, why: Why) -> Figures
+    ensures { result ≡ with_fault figures why }
+{
+    let (preamble, biphase, unclosed) = match why {
+        Why::Preamble => (1, 0, 0),
+        Why::Biphase => (0, 1, 0),
+        Why::Unclosed => (0, 0, 1),
+    };
+    figures.fault = more(figures.fault, 1);
+    figures.preamble = more(figures.preamble, preamble);
+    figures.biphase = more(figures.biphase, biphase);
+    figures.unclosed = more(figures.unclosed, unclosed);
+    figures
+}
+
+/// Whether an event tells of a change of what the blocks say of their samples, as a number.
+fn change_of(event: &Event) -> u64
+    ensures change { result ≡ change_of event.now }
+    ensures one { result ≤ 1 }
+{
+    match event {
+        Event::Status { .. } | Event::Validity { .. } => 1,
+        Event::Locked { .. }
+        | Event::Lost { .. }
+        | Event::Back { .. }
+        | Event::Slipped { .. }
+        | Event::End { .. } => 0,
+    }
+}
+
+/// How many events tell of such a change.
+fn changes_in(events: &[Event]) -> u64
+    ensures { result ≡ changes_in events.now }
+{
+    let mut found = 0;
+    for event in events {
+        found += change_of(event);
+    }
+    found
+}
+
+/// Where the candidate of a report begins, that of an ending that a lock has just answered.
+fn place_in(_lock: &Lock, ending: Ending) -> u64
+    ensures { result ≡ place_of (report_in _lock.now ending) }
+{
+    match ending {
+        Ending::Whole { at, .. }
+        | Ending::Marked { at, .. }
+        | Ending::Fault { at, .. }
+        | Ending::Unfinished { at, .. } => at,
+    }
+}
+
+/// What is kept of a line of which sums are told.
+#[derive(Drop)]
+struct Summer {
+    watcher: Watcher,
+    /// How many cells a period has.
+    every: u64,
+    /// The first cell of the open one.
+    from: u64,
+    /// The cells before it are in a whole block or in a gap that is decided.
+    place: u64,
+    /// What is counted in the open period.
+    figures: Figures,
+}
+
+impl Summer {
+    /// No cell has come.
+    fn new(style: Style, every: u64) -> Self
+        requires some { 0 < every }
+        requires few { every ≤ 2 ^ 40 }
+        ensures style { result.watcher.style ≡ style }
+        ensures every { result.every ≡ every }
+        ensures none { Sums result.every (summed_by result.watcher.state result.from result.place
+            result.figures) result.watcher.lasts [] }
+    {
+        Summer {
+            watcher: Watcher::new(style),
+            every,
+            from: 0,
+            place: 0,
+            figures: no_figures(),
+        }
+    }
+
+    /// Counts the gaps of a block's length before cell `to`.
+    fn count_gaps(&mut self, to: u64)
+        ensures watcher { self.new.watcher ≡ self.old.watcher }
+        ensures every { self.new.every ≡ self.old.every }
+        ensures from { self.new.from ≡ self.old.from }
+        ensures place { self.new.place ≡ behind_full self.old.place to }
+        ensures figures { self.new.figures
+            ≡ with_lost self.old.figures (block_len * full_count self.old.place to) }
+    {
+        let cells = to.saturating_sub(self.place) / BLOCK_CELLS * BLOCK_CELLS;
+        self.figures = with_lost(self.figures, cells);
+        self.place += cells;
+    }
+
+    /// Goes on to cell `to` of the open period, before which no whole block begins.
+    ///
+    /// # Errors
+    /// The sink's fault; then it has taken a front of the line of the event.
+    fn go_on<T: Sink>(&mut self, sink: &mut T, to: u64) -> Result<(), Fault>
+        requires room { T.failed sink.old + 1 < 2 ^ 64 }
+        requires few { self.old.watcher.state.losses + 1 < 2 ^ 64 }
+        ensures style { self.new.watcher.style ≡ self.old.watcher.style }
+        ensures lasts { self.new.watcher.lasts ≡ self.old.watcher.lasts }
+        ensures every { self.new.every ≡ self.old.every }
+        ensures few { self.new.watcher.state.losses ≤ self.old.watcher.state.losses + 1 }
+        ensures state { summed_by self.new.watcher.state self.new.from self.new.place self.new.figures
+            ≡ on_to (summed_by self.old.watcher.state self.old.from self.old.place self.old.figures) to }
+        ensures wrote { Wrote T.taken T.failed sink.old sink.new
+            (event_lines self.old.watcher.style (loss_events self.old.watcher.state to)) result }
+    {
+        let mut events = ArrayVec::new();
+        self.watcher.go_on(&mut events, to);
+        self.count_gaps(to);
+        put_events(&self.watcher.style, &events, sink)
+    }
+
+    /// Writes the sum of the open period, which ends before cell `to`.
+    ///
+    /// # Errors
+    /// The sink's fault; then it has taken a front of the line.
+    fn tell<T: Sink>(&self, sink: &mut T, to: u64) -> Result<(), Fault>
+        requires room { T.failed sink.old + 1 < 2 ^ 64 }
+        ensures { Wrote T.taken T.failed sink.old sink.new
+            (sum_line self.now.watcher.style (record {
+              from = self.now.from;
+              to = to;
+              figures = self.now.figures;
+            })) result }
+    {
+        let sum = Sum {
+            from: self.from,
+            to,
+            figures: self.figures,
+        };
+        line_of_sum(&self.watcher.style, &sum, sink)
+    }
+
+    /// Goes on to the end of the open period, writes its sum and opens the next.
+    ///
+    /// # Errors
+    /// The sink's fault; then it has taken a front of the lines.
+    fn end_period<T: Sink>(&mut self, sink: &mut T) -> Result<(), Fault>
+        requires room { T.failed sink.old + 1 < 2 ^ 64 }
+        requires few { self.old.watcher.state.losses + 1 < 2 ^ 64 }
+        requires near { self.old.from + self.old.every < 2 ^ 64 }
+        ensures style { self.new.watcher.style ≡ self.old.watcher.style }
+        ensures lasts { self.new.watcher.lasts ≡ self.old.watcher.lasts }
+        ensures every { self.new.every ≡ self.old.every }
+        ensures state { IfOk result (λ _.
+            summed_by self.new.watcher.state self.new.from self.new.place self.new.figures
+            ≡ next_period self.old.every
+            (summed_by self.old.watcher.state self.old.from self.old.place self.old.figures)) }
+        ensures wrote { Wrote T.taken T.failed sink.old sink.new
+            (notice_lines self.old.watcher.style (period_told self.old.every
+            (summed_by self.old.watcher.state self.old.from self.old.place self.old.figures))) result }
+    {
+        let to = self.from + self.every;
+        self.go_on(sink, to)?;
+        self.tell(sink, to)?;
+        self.from = to;
+        self.figures = no_figures();
+        Ok(())
+    }
+
+    /// Goes on over all ends of periods up to cell `to`, before which no whole block begins.
+    ///
+    /// # Errors
+    /// The sink's fault; then it has taken a front of the lines.
+    fn end_periods<T: Sink>(&mut self, sink: &mut T, to: u64) -> Result<(), Fault>
+        requires room { T.failed sink.old + 1 < 2 ^ 64 }
+        requires few { self.old.watcher.state.losses + 2 < 2 ^ 64 }
+        requires some { 0 < self.old.every }
+        ensures style { self.new.watcher.style ≡ self.old.watcher.style }
+        ensures lasts { self.new.watcher.lasts ≡ self.old.watcher.lasts }
+        ensures every { self.new.every ≡ self.old.every }
+        ensures few { IfOk result (λ _.
+            self.new.watcher.state.losses ≤ self.old.watcher.state.losses + 1) }
+        ensures state { IfOk result (λ _.
+            summed_by self.new.watcher.state self.new.from self.new.place self.new.figures
+            ≡ periods self.old.every (ends_before self.old.every (summed_by self.old.watcher.state
+            self.old.from self.old.place self.old.figures) to)
+            (summed_by self.old.watcher.state self.old.from self.old.place self.old.figures)) }
+        ensures wrote { Wrote T.taken T.failed sink.old sink.new
+            (notice_lines self.old.watcher.style (periods_told self.old.every
+            (ends_before self.old.every (summed_by self.old.watcher.state self.old.from
+            self.old.place self.old.figures) to)
+            (summed_by self.old.watcher.state self.old.from self.old.place self.old.figures))) result }
+    {
+        let ends = to.saturating_sub(self.from) / self.every;
+        'ending: for _told in 0..ends {
+            self.end_period(sink)?;
+        }
+        Ok(())
+    }
+
+    /// Goes on to cell `to`, before which no whole block begins.
+    ///
+    /// # Errors
+    /// The sink's fault; then it has taken a front of the lines.
+    fn go_to<T: Sink>(&mut self, sink: &mut T, to: u64) -> Result<(), Fault>
+        requires room { T.failed sink.old + 1 < 2 ^ 64 }
+        requires few { self.old.watcher.state.losses + 2 < 2 ^ 64 }
+        requires some { 0 < self.old.every }
+        ensures style { self.new.watcher.style ≡ self.old.watcher.style }
+        ensures lasts { self.new.watcher.lasts ≡ self.old.watcher.lasts }
+        ensures every { self.new.every ≡ self.old.every }
+        ensures few { IfOk result (λ _.
+            self.new.watcher.state.losses ≤ self.old.watcher.state.losses + 2) }
+        ensures state { IfOk result (λ _.
+            summed_by self.new.watcher.state self.new.from self.new.place self.new.figures
+            ≡ go_to self.old.every (summed_by self.old.watcher.state self.old.from
+            self.old.place self.old.figures) to) }
+        ensures wrote { Wrote T.taken T.failed sink.old sink.new
+            (notice_lines self.old.watcher.style (told_to self.old.every
+            (summed_by self.old.watcher.state self.old.from self.old.place self.old.figures) to))
+            result }
+    {
+        self.end_periods(sink, to)?;
+        self.go_on(sink, to)?;
+        Ok(())
+    }
+
+    /// Counts a report at the cell that is reached, that of an ending that a lock has just answered,
+    /// of which so many events tell a change; a whole block stood before it or not.
+    fn count_report(&mut self, _lock: &Lock, ending: Ending, found: bool, changes: u64)
+        requires near { place_of (report_in _lock.now ending) ≤ 2 ^ 43 }
+        ensures watcher { self.new.watcher ≡ self.old.watcher }
+        ensures every { self.new.every ≡ self.old.every }
+        ensures from { self.new.from ≡ self.old.from }
+        ensures place { self.new.place ≡ place_behind self.old.place (report_in _lock.now ending) }
+        ensures figures { (now : Signals) → self.old.watcher.state.latest ≡ Some now → self.new.figures
+            ≡ counted_report self.old.figures self.old.place found now changes
+            (report_in _lock.now ending) }
+        ensures others { is_whole (report_in _lock.now ending) ≡ false → (now : Signals)
+            → self.new.figures ≡ counted_report self.old.figures self.old.place found now changes
+            (report_in _lock.now ending) }
+    {
+        match ending {
+            Ending::Whole { at, .. } => {
+                if found {
+                    let cells = at.saturating_sub(self.place);
+                    self.figures = with_lost(self.figures, cells);
+                }
+                if let Some(now) = &self.watcher.state.latest {
+                    self.figures = with_whole(self.figures, now, changes);
+                }
+                self.place = at + BLOCK_CELLS;
+            }
+            Ending::Marked { .. } => self.figures = with_marked(self.figures),
+            Ending::Fault { why, .. } => self.figures = with_fault(self.figures, why),
+            Ending::Unfinished { .. } => {}
+        }
+    }
+
+    /// Goes on to a report, that of an ending that a lock has just answered, and behind it.
+    ///
+    /// # Errors
+    /// The sink's fault; then it has taken a front of the lines.
+    fn take_report<T: Sink>(
+        &mut self,
+        sink: &mut T,
+        lock: &Lock,
+        ending: Ending,
+    ) -> Result<(), Fault>
+        requires room { T.failed sink.old + 1 < 2 ^ 64 }
+        requires few { self.old.watcher.state.losses + 8 < 2 ^ 64 }
+        requires some { 0 < self.old.every }
+        requires near { place_of (report_in lock.now ending) ≤ 2 ^ 43 }
+        requires kept { IsKept self.old.watcher.state.latest self.old.watcher.lasts }
+        ensures style { self.new.watcher.style ≡ self.old.watcher.style }
+        ensures every { self.new.every ≡ self.old.every }
+        ensures few { IfOk result (λ _.
+            self.new.watcher.state.losses ≤ self.old.watcher.state.losses + 4) }
+        ensures kept { IfOk result (λ _. IsKept self.new.watcher.state.latest self.new.watcher.lasts) }
+        ensures state { IfOk result (λ _.
+            summed_by self.new.watcher.state self.new.from self.new.place self.new.figures
+            ≡ next_sum self.old.every (summed_by self.old.watcher.state self.old.from
+            self.old.place self.old.figures) (report_in lock.now ending)) }
+        ensures wrote { Wrote T.taken T.failed sink.old sink.new
+            (notice_lines self.old.watcher.style (report_told self.old.every
+            (summed_by self.old.watcher.state self.old.from self.old.place self.old.figures)
+            (report_in lock.now ending))) result }
+    {
+        self.go_to(sink, place_in(lock, ending))?;
+        let mut events = ArrayVec::new();
+        let found = self.watcher.state.found;
+        self.watcher.take_report(&mut events, lock, ending);
+        self.count_report(lock, ending, found, changes_in(&events));
+        put_events(&self.watcher.style, &events, sink)?;
+        Ok(())
+    }
+
+    /// Writes the sum of the open period at the end of `seen` cells, if it has cells.
+    ///
+    /// # Errors
+    /// The sink's fault; then it has taken a front of the line.
+    fn tell_last<T: Sink>(&self, sink: &mut T, seen: u64) -> Result<(), Fault>
+        requires room { T.failed sink.old + 1 < 2 ^ 64 }
+        ensures { Wrote T.taken T.failed sink.old sink.new
+            (notice_lines self.now.watcher.style (last_sum (summed_by self.now.watcher.state
+            self.now.from self.now.place self.now.figures) seen)) result }
+    {
+        if self.from >= seen {
+            return Ok(());
+        }
+        self.tell(sink, seen)
+    }
+
+    /// Goes on to the end of `seen` cells.
+    ///
+    /// # Errors
+    /// The sink's fault; then it has taken a front of the lines.
+    fn go_to_end<T: Sink>(&mut self, sink: &mut T, seen: u64) -> Result<(), Fault>
+        requires room { T.failed sink.old + 1 < 2 ^ 64 }
+        requires few { self.old.watcher.state.losses + 4 < 2 ^ 64 }
+        requires some { 0 < self.old.every }
+        ensures state { IfOk result (λ _.
+            self.new.watcher.state ≡ up_to self.old.watcher.state seen) }
+        ensures wrote { Wrote T.taken T.failed sink.old sink.new
+            (notice_lines self.old.watcher.style (all_told self.old.every
+            (summed_by self.old.watcher.state self.old.from self.old.place self.old.figures) seen))
+            result }
+    {
+        self.go_to(sink, seen)?;
+        self.tell_last(sink, seen)?;
+        let mut events = ArrayVec::new();
+        self.watcher.go_to_end(&mut events, seen);
+        put_events(&self.watcher.style, &events, sink)?;
+        Ok(())
+    }
+}
+
+impl Listener for Summer {
+    ghost follows = { λ k. Sums k.every (summed_by k.watcher.state k.from k.place k.figures)
+        k.watcher.lasts };
+
+    ghost writes = { λ k. summing k.watcher.style k.every };
+
+    ghost finished = { λ k. Ended k.watcher.state.losses };
+
+    fn hear<T: Sink>(
+        &mut self,
+        sink: &mut T,
+        lock: &Lock,
+        _blocks: u64,
+        ending: Option<Ending>,
+    ) -> Result<(), Fault> {
+        match ending {
+            Some(ending) => {
+                self.take_report(sink, lock, ending)?;
+                self.go_to(sink, lock.seen().saturating_sub(BLOCK_CELLS))
+            }
+            None => self.go_to(sink, lock.seen().saturating_sub(BLOCK_CELLS)),
+        }
+    }
+
+    fn end<T: Sink>(
+        &mut self,
+        sink: &mut T,
+        lock: &Lock,
+        _blocks: u64,
+        ending: Option<Ending>,
+    ) -> Result<(), Fault> {
+        match ending {
+            Some(ending) => {
+                self.take_report(sink, lock, ending)?;
+                self.go_to_end(sink, lock.seen())
+            }
+            None => self.go_to_end(sink, lock.seen()),
+        }
+    }
+}
+
+/// Watches a line as `watch` does, and writes a line of sums for each `every` cells beside the
+/// events: what is decided of the cells from 0 on and before `every`, of the next `every`, and so
+/// on up to the end of the input.
+///
+/// A sum is written as soon as a report behind its period is decided, or a block's length of cells
+/// has come from the end of the period on; the last one, if it has cells, before `end`. A report is
+/// counted where it begins, a gap of a block's length where its last cell lies, and a shorter one
+/// with the whole block that ends it.
+///
+/// # Errors
+/// Those of `check`; then the lines are written that stood before, whatever cells follow, and after
+/// `Write` a front of them.
+pub fn watch_sums<S: Source, T: Sink>(
+    source: &mut S,
+    sink: &mut T,
+    max_bytes: u64,
+    input: Form,
+    style: Style,
+    every: u64,
+) -> Result<Counts, RunError>
+    requires source_room { S.failed source.old + 1 < 2 ^ 64 }
+    requires sink_room { T.failed sink.old + 1 < 2 ^ 64 }
+    requires limit { max_bytes ≤ 2 ^ 40 }
+    requires some { 0 < every }
+    requires few { every ≤ 2 ^ 40 }
+
+    // Where it answers Ok, exactly the lines of the cells are written.
+    ensures lines { IfOk result (λ _. (b : List ℕ)
+        → Told (S.given source.old) (S.given source.new) b
+        → Grew (T.taken sink.old) (T.taken sink.new) (sum_lines style every (cells_of input b))) }
+    // It is a run over cells: Ok is owed, a refusal has its cause, and what stood before it is
+    // written.
+    ensures run { CellRun max_bytes input (record {
+      whole = sum_lines style every;
+      begun = begun_sums style every;
+      counts = watch_counts input;
+    }) (S.has_ended source.new) (movement_of S.given S.failed source.old source.new)
+        (movement_of T.taken T.failed sink.old sink.new) result }
+    ensures passed_on { IfOk result (λ _. T.passed sink.new ≡ T.taken sink.new) }
+{
+    let summer = Summer::new(style, every);
+    let (counts, summer) = run_cells(source, sink, max_bytes, input, summer)?;
+    Ok(Counts {
+        faults: counts.faults + summer.watcher.state.losses,
+        ..counts
+    })
+}
