@@ -1,16 +1,15 @@
 -- A line that was found gives its cells.
-use Rattle.std.proofs.Common.{ℕ, suc, List, [], ◌∷◌, ◌++◌, ◌≡◌, ◌≤◌, ◌+◌, ◌*◌, Option, length, replicate}
+use Rattle.std.proofs.Common.{ℕ, suc, List, [], ◌∷◌, ◌++◌, ◌≡◌, ◌≤◌, ◌+◌, Option, length, replicate}
 use Rattle.std.proofs.Common.{Result, Ok, Err, IfOk, sym, ap, ap₂, ◌∙◌, subst, arith, append_assoc, append-nil, take}
 use Rattle.aes3_level.specs.declared.level.Level.{Level}
 use Rattle.aes3_level.specs.declared.level.Level.TheVariants.{Low, High}
 use Rattle.aes3_level.specs.Cells.{line, other}
 use Rattle.aes3_level.proofs.Runs.{other-other}
 use Rattle.aes3_capture.specs.declared.bounds.Bounds.{Bounds}
-use Rattle.aes3_capture.specs.Captures.{Captures, IsBetween, SpreadsLate}
-use Rattle.aes3_capture.specs.Directions.{IsWider}
+use Rattle.aes3_capture.specs.Captures.{Captures, SpreadsLate}
 use Rattle.aes3_capture.specs.Following.{Follows}
 use Rattle.aes3_capture.proofs.Counts.{captures-late}
-use Rattle.aes3_capture.proofs.Mirror.{Displaced, displaced-by-numbers, placed-wider}
+use Rattle.aes3_capture.proofs.Mirror.{Displaced, displaced-by-numbers}
 use Rattle.aes3_capture_recovery.specs.Beginning.{Awaits, BeginsWith, GivesLine, IsLastingBehind, IsLastingLine, IsLineBehind, KeepsLine}
 use Rattle.aes3_capture_recovery.specs.Finding.{AreCapturedRuns}
 use Rattle.aes3_capture_recovery.specs.LineFollowing.{Gives}

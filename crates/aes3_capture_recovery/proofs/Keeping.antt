@@ -1,18 +1,17 @@
 -- A line whose edges lie near their places stays followed, edge by edge.
-use Rattle.std.proofs.Common.{ℕ, List, [], ◌∷◌, ◌++◌, ◌≡◌, ◌<◌, ◌≤◌, ◌+◌, ◌-◌, ◌*◌, ◌/◌, ◌⊎◌, inl, inr, arith, max, min, zero-add, ◌∙◌, sym, subst}
+use Rattle.std.proofs.Common.{ℕ, List, [], ◌∷◌, ◌≡◌, ◌<◌, ◌≤◌, ◌+◌, ◌-◌, ◌*◌, ◌/◌, inl, inr, arith, max, min, zero-add, ◌∙◌, sym, subst}
 use Rattle.std.specs.Prelude.{nat_le, if◌then◌else◌}
 use Rattle.std.proofs.Math.Nat.{mul-le-mul_left, mul-le-mul_right}
 use Rattle.std.proofs.lemmas.Bool.{cases_lt}
 use Rattle.aes3_capture.specs.declared.bounds.Bounds.{Bounds}
 use Rattle.aes3_capture.specs.declared.follower.Follower.{Follower}
-use Rattle.aes3_capture.specs.Captures.{IsBetween, IsPlaced, IsRun, SpreadsLate, margin, mean_with, wander}
+use Rattle.aes3_capture.specs.Captures.{IsBetween, IsPlaced, IsRun, SpreadsLate, mean_with, wander}
 use Rattle.aes3_capture.specs.Directions.{IsBorne, IsWider}
 use Rattle.aes3_capture.specs.Following.{Counted, Follows, last_cell, middle_of}
 use Rattle.aes3_capture.proofs.Edges.{decided}
 use Rattle.aes3_capture.proofs.Mirror.{placed-wider}
 use Rattle.aes3_capture.proofs.Steps.{longest-cells, other-near, place-moves, place-near, steps-near}
 use Rattle.aes3_capture.proofs.Whole.{counted-counts, passed-passes}
-use Rattle.aes3_capture_recovery.specs.Distances.{distance_at}
 use Rattle.aes3_capture_recovery.specs.Keeping.{AreNear, IsCalm, IsKeepable, IsKept, drift, off_middle}
 use Rattle.aes3_capture_recovery.specs.RecoverySteps.{apart_of, distance_of}
 

@@ -1,18 +1,18 @@
 -- A line that was found is kept, from the last edge of the runs in which it was found on.
-use Rattle.std.proofs.Common.{ℕ, zero, suc, List, [], ◌∷◌, ◌++◌, ◌≡◌, ◌<◌, ◌≤◌, ◌+◌, ◌-◌, ◌*◌, ◌/◌, ◌^◌, Option, Some, None, arith, max}
+use Rattle.std.proofs.Common.{ℕ, zero, suc, List, [], ◌∷◌, ◌++◌, ◌≡◌, ◌<◌, ◌≤◌, ◌+◌, ◌-◌, ◌*◌, ◌/◌, ◌^◌, Option, Some, None, arith}
 use Rattle.std.proofs.Common.{refl, sym, ap, ◌∙◌, subst, append_assoc, take, length, get_or}
 use Rattle.std.proofs.Math.Nat.{mul-le-mul_left, mul-le-mul_right, pow-succ'}
 use Rattle.std.proofs.lemmas.List.{take_at}
 use Rattle.aes3_level.specs.declared.level.Level.{Level}
 use Rattle.aes3_capture.specs.declared.bounds.Bounds.{Bounds}
 use Rattle.aes3_capture.specs.declared.follower.Follower.{Follower}
-use Rattle.aes3_capture.specs.Captures.{IsAbout, IsBetween, SpreadsLate, lateness, mean_with, wander}
+use Rattle.aes3_capture.specs.Captures.{IsAbout, IsBetween, SpreadsLate, mean_with, wander}
 use Rattle.aes3_capture.specs.Directions.{IsBorne, IsWider}
-use Rattle.aes3_capture.specs.Following.{Counted, CountedAll, Follows, middle_of}
+use Rattle.aes3_capture.specs.Following.{Counted, CountedAll, Follows}
 use Rattle.aes3_capture.proofs.Mirror.{Displaced, displaced-by-numbers}
 use Rattle.aes3_capture_recovery.specs.Beginning.{AreFindable, Begun, IsLastingLine}
 use Rattle.aes3_capture_recovery.specs.Finding.{AllowsCells, AreCapturedRuns, FollowsLine, IsLasting, IsPeriodOf}
-use Rattle.aes3_capture_recovery.specs.Keeping.{AreNear, IsKeepable, IsKept, drift, off_middle}
+use Rattle.aes3_capture_recovery.specs.Keeping.{AreNear, IsKeepable, IsKept, drift}
 use Rattle.aes3_capture_recovery.specs.Recovering.{Setting}
 use Rattle.aes3_capture_recovery.specs.declared.recovery.Recovery.{Recovery}
 use Rattle.aes3_capture_recovery.proofs.Found.{spreads-first, spreads-take}

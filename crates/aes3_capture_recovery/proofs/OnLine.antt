@@ -1,7 +1,7 @@
 -- A recovery stays on a line, through the edges of a piece and to its end.
 use Rattle.std.proofs.Common.{ℕ, suc, List, [], ◌∷◌, ◌++◌, ◌≡◌, ◌<◌, ◌≤◌, ◌+◌, ◌-◌, ◌*◌, ◌/◌, ◌^◌, min, map, replicate}
 use Rattle.std.proofs.Common.{refl, sym, ap, ap₂, ◌∙◌, subst, arith, append_assoc}
-use Rattle.std.proofs.Common.{Result, Ok, Err, IfOk}
+use Rattle.std.proofs.Common.{Result, IfOk}
 use Rattle.aes3_level.specs.declared.level.Level.{Level}
 use Rattle.aes3_level.specs.declared.level.Level.TheVariants.{Low, High}
 use Rattle.aes3_level.specs.Cells.{other}
@@ -14,11 +14,10 @@ use Rattle.aes3_capture_recovery.specs.Keeping.{IsKept, IsOnLine, StaysKept, Sta
 use Rattle.aes3_capture_recovery.specs.Recovering.{runs_to_end}
 use Rattle.aes3_capture_recovery.specs.RecoverySteps.{Noted, distance_of}
 use Rattle.aes3_capture_recovery.specs.Runs.{EdgeCame, NoEdgeCame, levels_in}
-use Rattle.aes3_capture_recovery.specs.declared.edges.Edges.{Edges}
 use Rattle.aes3_capture_recovery.specs.declared.edges.Piece.{Piece}
 use Rattle.aes3_capture_recovery.specs.declared.recovery.Recovery.{Recovery}
 use Rattle.aes3_capture_recovery.specs.declared.recovery.State.TheVariants.{Following}
-use Rattle.aes3_capture_recovery.proofs.Keeping.{KeptNext, kept-next, kept-short}
+use Rattle.aes3_capture_recovery.proofs.Keeping.{kept-next, kept-short}
 use Rattle.aes3_capture_recovery.proofs.RunsToEnd.{end-edge, end-same}
 use Rattle.aes3_capture_recovery.proofs.Telling.{ok-const}
 

@@ -1,12 +1,10 @@
 -- A recovery stays on a line, through edges that were found ahead.
-use Rattle.std.proofs.Common.{ℕ, zero, suc, List, [], ◌∷◌, ◌++◌, ◌≡◌, ◌<◌, ◌≤◌, ◌+◌, ◌-◌, ◌*◌, ◌/◌, map, take, drop, length, replicate}
+use Rattle.std.proofs.Common.{ℕ, zero, suc, List, [], ◌∷◌, ◌++◌, ◌≡◌, ◌<◌, ◌≤◌, ◌+◌, ◌-◌, map, take, drop, length}
 use Rattle.std.proofs.Common.{refl, sym, ap, ap₂, ◌∙◌, subst, arith, append_assoc}
-use Rattle.std.proofs.Common.{Bool, true, false, Result, Ok, Err, IfOk, if◌then◌else◌}
 use Rattle.std.proofs.lemmas.List.{drop-take, take-append-drop}
 use Rattle.aes3_level.specs.declared.level.Level.{Level}
 use Rattle.aes3_level.specs.Cells.{after, other}
 use Rattle.aes3_capture.specs.declared.bounds.Bounds.{Bounds}
-use Rattle.aes3_capture.specs.declared.follower.Follower.{Follower}
 use Rattle.aes3_capture.specs.Following.{Tracked, middle_of}
 use Rattle.aes3_capture_recovery.specs.Distances.{distance_at, spread_after}
 use Rattle.aes3_capture_recovery.specs.Endings.{level_if}

@@ -90,10 +90,7 @@ impl LineFollower {
         let mut left = piece;
         while let Some(run) = self.next_edge(&mut left) {
             let high = !self.is_high();
-            match self.tell(sink, high, run) {
-                Ok(()) => {}
-                Err(fault) => return Err(fault),
-            }
+            self.tell(sink, high, run)?;
         }
         self.rest(sink)
     }
@@ -267,10 +264,8 @@ impl LineFollower {
     {
         let mut at = 0;
         while at + TOGETHER <= runs.len() {
-            match self.put_some(sink, high, &runs[at..at + TOGETHER]) {
-                Ok(()) => at += TOGETHER,
-                Err(fault) => return Err(fault),
-            }
+            self.put_some(sink, high, &runs[at..at + TOGETHER])?;
+            at += TOGETHER;
         }
         self.put_some(sink, high, &runs[at..])
     }

@@ -62,10 +62,8 @@ impl CellQueue {
     {
         let mut left = cells;
         while left > FEW {
-            match self.put_few(sink, high, FEW as u32) {
-                Ok(()) => left -= FEW,
-                Err(fault) => return Err(fault),
-            }
+            self.put_few(sink, high, FEW as u32)?;
+            left -= FEW;
         }
         self.put_few(sink, high, left as u32)
     }
@@ -168,10 +166,8 @@ impl CellQueue {
         ensures err_count { OnErr result (T.failed sink.new ≡ T.failed sink.old + 1) }
         ensures cells { Finishes T.taken self.old sink.old sink.new result }
     {
-        match self.pass_on(sink) {
-            Ok(()) => put_last(self.form, self.word, self.len, sink),
-            Err(fault) => Err(fault),
-        }
+        self.pass_on(sink)?;
+        put_last(self.form, self.word, self.len, sink)
     }
 }
 

@@ -301,10 +301,7 @@ impl Recovery {
         let mut piece = Piece::new(levels, len);
         while let Some(run) = self.line.next_edge(&mut piece) {
             let high = !self.line.is_high();
-            match self.edge(sink, high, run) {
-                Ok(()) => {}
-                Err(fault) => return Err(fault),
-            }
+            self.edge(sink, high, run)?;
         }
         self.rest(sink)
     }
@@ -388,15 +385,11 @@ impl Recovery {
         if longest.max(behind) >= BEGIN {
             return Ok(false);
         }
-        match self.follow_edges(sink, high, places, count) {
-            Ok(high) => {
-                self.line.stand(high, behind);
-                let samples = self.figures.samples;
-                self.figures.samples = samples.saturating_add(64 * words.len() as u64);
-                Ok(true)
-            }
-            Err(fault) => Err(fault),
-        }
+        let high = self.follow_edges(sink, high, places, count)?;
+        self.line.stand(high, behind);
+        let samples = self.figures.samples;
+        self.figures.samples = samples.saturating_add(64 * words.len() as u64);
+        Ok(true)
     }
 
     /// Whether the line is followed, and its edges can be found first.
@@ -448,14 +441,9 @@ impl Recovery {
         }
         let all = 64 * words.len() as u32;
         let last = self.last_waiting(words.len() as u32);
-        match self.wait_on(sink, all - last) {
-            Ok(()) => {}
-            Err(fault) => return Err(fault),
-        }
-        match self.wait_on(sink, last) {
-            Ok(()) => Ok(true),
-            Err(fault) => Err(fault),
-        }
+        self.wait_on(sink, all - last)?;
+        self.wait_on(sink, last)?;
+        Ok(true)
     }
 
     /// How many of the next samples wait at the end, if 64 pieces of this length come and no edge: after each piece `rest` tells
@@ -546,14 +534,10 @@ impl Recovery {
         let mut at = 0;
         let mut alone = 0;
         while at < count {
-            match self.take_edges(sink, high, places, at, count, frequency, alone == 0) {
-                Ok(some) => {
-                    at += some;
-                    high = level_behind(high, some);
-                    alone = alone_behind(alone, some);
-                }
-                Err(fault) => return Err(fault),
-            }
+            let some = self.take_edges(sink, high, places, at, count, frequency, alone == 0)?;
+            at += some;
+            high = level_behind(high, some);
+            alone = alone_behind(alone, some);
         }
         Ok(high)
     }
@@ -604,10 +588,8 @@ impl Recovery {
         }
         let run = places.run(at);
         self.line.stand(!high, 1);
-        match self.edge(sink, high, run) {
-            Ok(()) => Ok(1),
-            Err(fault) => Err(fault),
-        }
+        self.edge(sink, high, run)?;
+        Ok(1)
     }
 
     /// Takes edges from number `at` on as long as they are near their places, 32 at most; answers how many.
@@ -657,14 +639,10 @@ impl Recovery {
         if some == 0 || 5 * (self.spread + u64::from(distances.sum)) > low {
             return Ok(0);
         }
-        match self.line.put_runs(sink, high, &cells[..some]) {
-            Ok(()) => {
-                self.line.follow(follower);
-                self.note_all(&distances, some);
-                Ok(some)
-            }
-            Err(fault) => Err(fault),
-        }
+        self.line.put_runs(sink, high, &cells[..some])?;
+        self.line.follow(follower);
+        self.note_all(&distances, some);
+        Ok(some)
     }
 
     /// Notes how far so many edges are from their places, as `note` does of each.
@@ -794,13 +772,9 @@ impl Recovery {
         ensures measured { self.new.figures.measured ≡ self.old.figures.measured }
         ensures keeps { KeepsRuns self.old self.new }
     {
-        match self.line.tell(sink, high, run) {
-            Ok(()) => {
-                self.note();
-                Ok(())
-            }
-            Err(fault) => Err(fault),
-        }
+        self.line.tell(sink, high, run)?;
+        self.note();
+        Ok(())
     }
 
     /// Notes how far the latest edge is from its place. A line is lost where edges are so far from
@@ -898,10 +872,10 @@ impl Recovery {
                 self.figures.misses = self.figures.misses.saturating_add(1);
                 self.release(sink, count)
             }
-            Some(follower) => match self.begin(sink, follower, count) {
-                Ok(()) => self.release(sink, count),
-                Err(fault) => Err(fault),
-            },
+            Some(follower) => {
+                self.begin(sink, follower, count)?;
+                self.release(sink, count)
+            }
         }
     }
 
@@ -983,10 +957,7 @@ impl Recovery {
     {
         let mut high = !self.is_high_before(count);
         for i in 0..count {
-            match self.tell(sink, high, self.runs[i]) {
-                Ok(()) => {}
-                Err(fault) => return Err(fault),
-            }
+            self.tell(sink, high, self.runs[i])?;
             high = !high;
         }
         Ok(())
@@ -1056,10 +1027,8 @@ impl Recovery {
         self.note_dead();
         let count = self.count;
         self.count = 0;
-        match self.release(sink, count) {
-            Ok(()) => self.wait(sink),
-            Err(fault) => Err(fault),
-        }
+        self.release(sink, count)?;
+        self.wait(sink)
     }
 
     /// Notes that a line is dead, and where it died.
@@ -1130,10 +1099,8 @@ impl Recovery {
         ensures stays { (narrow : Bounds) (spread : ℕ) (more : List Level) → IsOnLine narrow spread more self.old
             → IfOk result (λ _. StaysOnLine narrow spread more self.old self.new) }
     {
-        match self.line.pass_on(sink) {
-            Ok(()) => sink.flush(),
-            Err(fault) => Err(fault),
-        }
+        self.line.pass_on(sink)?;
+        sink.flush()
     }
 
     /// Takes the end: a line that is still to be measured is so from what there is of it.
@@ -1163,10 +1130,8 @@ impl Recovery {
     {
         let count = self.count;
         self.count = 0;
-        match self.tell_gathered(sink, count) {
-            Ok(()) => self.end(sink),
-            Err(fault) => Err(fault),
-        }
+        self.tell_gathered(sink, count)?;
+        self.end(sink)
     }
 
     /// Tells the cells of the last runs that were gathered, which are measured where they are many.
@@ -1220,12 +1185,8 @@ impl Recovery {
     {
         let run = self.line.take_waiting();
         let high = self.line.is_high();
-        match self.tell(sink, high, run) {
-            Ok(()) => match self.line.finish(sink) {
-                Ok(()) => sink.flush(),
-                Err(fault) => Err(fault),
-            },
-            Err(fault) => Err(fault),
-        }
+        self.tell(sink, high, run)?;
+        self.line.finish(sink)?;
+        sink.flush()
     }
 }

@@ -1,6 +1,7 @@
 use Rattle.std.proofs.Common.{◌≡◌, ◌+◌, ◌-◌, ◌++◌, ◌∙◌, ap, arith, drop, length, sym, take}
 use Rattle.std.proofs.Math.Seq.{take-add}
 use Rattle.std.proofs.lemmas.List.{length-drop, length-take-le, take-append-drop, take_all}
+use Rattle.std.proofs.lemmas.Result.{err_from_is_err_and}
 use Rattle.aes3_level.specs.Cells.{after, line}
 use Rattle.aes3_level.proofs.Runs.{line-append}
 use Rattle.aes3_capture_recovery.proofs.Queueing.{put-is, puts-chain, puts-is, puts-stop}
@@ -21,19 +22,19 @@ loop-at-preserved g c =
     let sixteen : length part ≡ 16
     = length-take-le (at + 16 - at) (drop at runs) (omega (arith, left, room)) ∙ n in
     record {
-      quiet = c.in-Ok.ensures.count ∙ v.quiet;
+      quiet = c.in_ok-put_some.ensures.count ∙ v.quiet;
       within = room;
       cells = λ before e.
           puts-is (sym (line-more before (take at runs) part (v.after before)) ∙ ap (line before) (sym split))
           (puts-chain c.args.self.now.queue c.loop-at.self.queue c.put_some.new.self.queue c.args.sink.now c.loop-at.sink
-          c.put_some.new.sink _ _ _ (v.cells before e) (put-is c.in-Ok.field-0 (c.in-Ok.ensures.cells before e)));
+          c.put_some.new.sink _ _ _ (v.cells before e) (put-is tt (c.in_ok-put_some.ensures.cells before e)));
       after = λ before. ap (after before) split ∙ after-sixteen-more before (take at runs) part sixteen (v.after before);
-      edges = c.in-Ok.ensures.edges ∙ v.edges;
-      follower = c.in-Ok.ensures.follower ∙ v.follower;
+      edges = c.in_ok-put_some.ensures.edges ∙ v.edges;
+      follower = c.in_ok-put_some.ensures.follower ∙ v.follower;
     }
 
-pub returns-in-Err-clause-cells : goal.returns-in-Err-clause-cells
-returns-in-Err-clause-cells g c = λ before e.
+pub returns-in_err-put_some-clause-cells : goal.returns-in_err-put_some-clause-cells
+returns-in_err-put_some-clause-cells g c = λ before e.
     let v = c.loop-at.invariant in
     let runs = c.args.runs.now in
     let at = c.loop-at.at in
@@ -43,14 +44,14 @@ returns-in-Err-clause-cells g c = λ before e.
     let all : front ++ drop (at + 16) runs ≡ runs
     = ap (λ k. (take at runs ++ take k (drop at runs)) ++ drop (at + 16) runs) n
     ∙ ap (λ x. x ++ drop (at + 16) runs) (sym (take-add at 16 runs)) ∙ take-append-drop (at + 16) runs in
-    puts-is
+    let error = err_from_is_err_and c.from_residual.result c.from_residual.ensures.1 in
+    rw error.1 (puts-is
     (ap (λ x. x ++ line (after before front) (drop (at + 16) runs))
     (sym (line-more before (take at runs) part (v.after before)))
     ∙ sym (line-append before front (drop (at + 16) runs)) ∙ ap (line before) all)
-    (puts-stop c.args.self.now.queue c.put_some.new.self.queue c.args.sink.now c.put_some.new.sink c.in-Err.fault
-    c.in-Err.fault _ _
+    (puts-stop c.args.self.now.queue c.put_some.new.self.queue c.args.sink.now c.put_some.new.sink _ _ _ _
     (puts-chain c.args.self.now.queue c.loop-at.self.queue c.put_some.new.self.queue c.args.sink.now c.loop-at.sink
-    c.put_some.new.sink _ _ _ (v.cells before e) (c.in-Err.ensures.cells before e)))
+    c.put_some.new.sink _ _ _ (v.cells before e) (c.in_err-put_some.ensures.cells before e))))
 
 pub returns-clause-cells : goal.returns-clause-cells
 returns-clause-cells g c = λ before e.

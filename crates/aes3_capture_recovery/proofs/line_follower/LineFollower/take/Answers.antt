@@ -16,12 +16,12 @@ loop-run-preserved g c =
     let old = c.loop-run.self in
     let mid = c.next_edge.new.self in
     record {
-      quiet = c.in-Ok.ensures.count ∙ c.loop-run.invariant.quiet;
+      quiet = c.in_ok-tell.ensures.count ∙ c.loop-run.invariant.quiet;
       followed = λ begun front first before levels w.
-          followed-edge old mid c.tell.new.self c.loop-run.sink c.tell.new.sink c.in-Ok.field-0 begun front first before
+          followed-edge old mid c.tell.new.self c.loop-run.sink c.tell.new.sink tt begun front first before
           (levels ++ levels_in c.args.piece) c.loop-run.left c.next_edge.new.piece c.in-Some.run' c.loop-run.left.few
           c.in-Some.ensures.edge c.next_edge.ensures.follower c.next_edge.ensures.queue
-          (not c.is_high-high.result) (ap not c.is_high-high.ensures) c.in-Ok.ensures.told
+          (not c.is_high-high.result) (ap not c.is_high-high.ensures) c.in_ok-tell.ensures.told
           (c.loop-run.invariant.followed begun front first before levels w);
     }
 

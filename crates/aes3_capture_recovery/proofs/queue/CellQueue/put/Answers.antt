@@ -1,5 +1,6 @@
 use Rattle.std.proofs.Common.{refl, arith, append-nil, ◌∙◌, ap, ◌≡◌, ◌+◌, ◌-◌, ◌++◌, replicate, []}
 use Rattle.std.proofs.lemmas.List.{replicate-append-replicate}
+use Rattle.std.proofs.lemmas.Result.{err_from_is_err_and}
 use Rattle.aes3_capture_recovery.specs.Endings.{level_if}
 use Rattle.aes3_capture_recovery.proofs.Queueing.{waits-puts, puts-is, put-is, puts-chain, puts-stop}
 use Rattle.aes3_capture_recovery.proofs.queue.CellQueue.put.Goals as goal
@@ -22,28 +23,29 @@ loop-left-preserved g c =
     = omega (arith, within, many) in
     record {
       within = omega (arith, within);
-      quiet = c.in-Ok.ensures.count ∙ c.loop-left.invariant.quiet;
+      quiet = c.in_ok-put_few.ensures.count ∙ c.loop-left.invariant.quiet;
       put = puts-is (replicate-append-replicate (c.args.cells - c.loop-left.left) 32 level
           ∙ ap (λ n. replicate n level) sum)
           (puts-chain c.args.self.now c.loop-left.self c.put_few.new.self c.args.sink.now c.loop-left.sink
           c.put_few.new.sink _ _ _
-          c.loop-left.invariant.put (put-is c.in-Ok.field-0 c.in-Ok.ensures.cells));
+          c.loop-left.invariant.put (put-is tt c.in_ok-put_few.ensures.cells));
     }
 
-pub returns-in-Err-clause-cells : goal.returns-in-Err-clause-cells
-returns-in-Err-clause-cells g c =
+pub returns-in_err-put_few-clause-cells : goal.returns-in_err-put_few-clause-cells
+returns-in_err-put_few-clause-cells g c =
     let within = c.loop-left.invariant.within in
     let many = c.loop-left-test.true in
     let level = level_if c.args.high in
     let k = c.args.cells - c.loop-left.left in
     let sum : k + 32 + (c.loop-left.left - 32) ≡ c.args.cells = omega (arith, within, many) in
-    puts-is
+    let error = err_from_is_err_and c.from_residual.result c.from_residual.ensures.1 in
+    rw error.1 (puts-is
     (ap (λ x. x ++ replicate (c.loop-left.left - 32) level) (replicate-append-replicate k 32 level)
     ∙ replicate-append-replicate (k + 32) (c.loop-left.left - 32) level ∙ ap (λ n. replicate n level) sum)
-    (puts-stop c.args.self.now c.put_few.new.self c.args.sink.now c.put_few.new.sink c.in-Err.fault c.in-Err.fault _ _
+    (puts-stop c.args.self.now c.put_few.new.self c.args.sink.now c.put_few.new.sink _ _ _ _
     (puts-chain c.args.self.now c.loop-left.self c.put_few.new.self c.args.sink.now c.loop-left.sink c.put_few.new.sink
     _ _ _
-    c.loop-left.invariant.put c.in-Err.ensures.cells))
+    c.loop-left.invariant.put c.in_err-put_few.ensures.cells)))
 
 pub returns-clause-cells : goal.returns-clause-cells
 returns-clause-cells g c =

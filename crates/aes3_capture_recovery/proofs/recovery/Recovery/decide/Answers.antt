@@ -25,13 +25,13 @@ returns-in-None-clause-told g c = λ setting level done many w turns.
     (λ some. refl) t k.found_is k.known_is k.measured_is)
     (c.release.ensures.told (after level done) (turns ∙ ap other (after-append level done runs)))
 
-pub returns-in-Ok-clause-told : goal.returns-in-Ok-clause-told
-returns-in-Ok-clause-told g c = λ setting level done many w turns.
+pub returns-in_ok-begin-in-Some-clause-told : goal.returns-in_ok-begin-in-Some-clause-told
+returns-in_ok-begin-in-Some-clause-told g c = λ setting level done many w turns.
     let old = c.args.self.now in
     let runs = take c.args.count old.runs in
     let mid = c.begin.new.self in
-    let new = c.release-in-Ok.new.self in
-    let k = c.release-in-Ok.ensures.keeps in
+    let new = c.release-in-Some.new.self in
+    let k = c.release-in-Some.ensures.keeps in
     let begun = c.begin.ensures in
     let u = after level done in
     let within = c.requires.within in
@@ -39,17 +39,17 @@ returns-in-Ok-clause-told g c = λ setting level done many w turns.
     turns ∙ ap other (after-append level done runs) in
     let long : 128 ≤ length runs
     = let all = length-take-le c.args.count old.runs (omega (arith, within)) in omega (arith, all, many) in
-    ok-map c.release-in-Ok.result _ _
-    (λ t. told-measured old mid new c.args.sink.now c.begin.new.sink c.release-in-Ok.new.sink setting level done runs
-    w long c.in-Ok.ensures.again
+    ok-map c.release-in-Some.result _ _
+    (λ t. told-measured old mid new c.args.sink.now c.begin.new.sink c.release-in-Some.new.sink setting level done runs
+    w long c.in_ok-begin-in-Some.ensures.again
     (λ f. subst (λ (x : Follower). Gave g.T.Sink.taken old.line mid.line c.args.sink.now c.begin.new.sink
     (replicate (min (65536 * old.held) (2 ^ 64 - 1) / x.period) u)) (sym begun.follower)
-    (c.in-Ok.ensures.first u f turned))
-    begun.found (subst (λ (l : List ℕ). RunsTold g.T.Sink.taken mid new c.begin.new.sink c.release-in-Ok.new.sink u
+    (c.in_ok-begin-in-Some.ensures.first u f turned))
+    begun.found (subst (λ (l : List ℕ). RunsTold g.T.Sink.taken mid new c.begin.new.sink c.release-in-Some.new.sink u
     (take c.args.count l)) begun.runs t) k.found_is (k.known_is ∙ begun.known)
     (subst (λ (x : Follower). IsMeasured setting.known runs x) (sym begun.follower)
     (subst (λ (k : Option ℕ). IsMeasured k runs c.in-Some.follower) w.known_is c.in-Some.ensures.measured)))
-    (c.release-in-Ok.ensures.told u
+    (c.release-in-Some.ensures.told u
     (subst (λ (l : List ℕ). level_if mid.line.edges.high ≡ other (after u (take c.args.count l)))
     (sym begun.runs) (ap (λ e. level_if e.high) begun.edges ∙ turned)))
 
@@ -57,12 +57,12 @@ pub returns-in-None-clause-begins : goal.returns-in-None-clause-begins
 returns-in-None-clause-begins g c = λ none was is many setting level done w turns.
     absurd (measuring-apart c.args.self.now.state was (sym c.release.ensures.state ∙ is))
 
-pub returns-in-Ok-clause-begins : goal.returns-in-Ok-clause-begins
-returns-in-Ok-clause-begins g c = λ none was is many setting level done w turns.
+pub returns-in_ok-begin-in-Some-clause-begins : goal.returns-in_ok-begin-in-Some-clause-begins
+returns-in_ok-begin-in-Some-clause-begins g c = λ none was is many setting level done w turns.
     let old = c.args.self.now in
     let runs = take c.args.count old.runs in
     let mid = c.begin.new.self in
-    let new = c.release-in-Ok.new.self in
+    let new = c.release-in-Some.new.self in
     let begun = c.begin.ensures in
     let u = after level done in
     let within = c.requires.within in
@@ -70,13 +70,13 @@ returns-in-Ok-clause-begins g c = λ none was is many setting level done w turns
     = let all = length-take-le c.args.count old.runs (omega (arith, within)) in omega (arith, all, many) in
     let turned : level_if old.line.edges.high ≡ other (after u runs) =
     turns ∙ ap other (after-append level done runs) in
-    ok-map c.release-in-Ok.result _ _
-    (λ t. told-begun old mid new c.args.sink.now c.begin.new.sink c.release-in-Ok.new.sink setting level done runs
+    ok-map c.release-in-Some.result _ _
+    (λ t. told-begun old mid new c.args.sink.now c.begin.new.sink c.release-in-Some.new.sink setting level done runs
     w none
     (subst (λ (x : Follower). Gave g.T.Sink.taken old.line mid.line c.args.sink.now c.begin.new.sink
     (replicate (min (65536 * old.held) (2 ^ 64 - 1) / x.period) u)) (sym begun.follower)
-    (c.in-Ok.ensures.first u none turned))
-    begun.found (subst (λ (l : List ℕ). RunsTold g.T.Sink.taken mid new c.begin.new.sink c.release-in-Ok.new.sink u
+    (c.in_ok-begin-in-Some.ensures.first u none turned))
+    begun.found (subst (λ (l : List ℕ). RunsTold g.T.Sink.taken mid new c.begin.new.sink c.release-in-Some.new.sink u
     (take c.args.count l)) begun.runs t)
     (subst (λ (x : Follower). IsFoundIn setting.known runs x) (sym begun.follower)
     (subst (λ (k : Option ℕ). IsFoundIn k runs c.in-Some.follower) w.known_is (record {
@@ -84,8 +84,8 @@ returns-in-Ok-clause-begins g c = λ none was is many setting level done w turns
       measured = c.in-Some.ensures.measured;
       found = λ narrow spread late later place side places cells a allows.
           c.in-Some.ensures.found narrow spread late later place side places cells a allows;
-    }))) (c.release-in-Ok.ensures.distance ∙ begun.fresh))
-    (c.release-in-Ok.ensures.told u
+    }))) (c.release-in-Some.ensures.distance ∙ begun.fresh))
+    (c.release-in-Some.ensures.told u
     (subst (λ (l : List ℕ). level_if mid.line.edges.high ≡ other (after u (take c.args.count l)))
     (sym begun.runs) (ap (λ e. level_if e.high) begun.edges ∙ turned)))
 

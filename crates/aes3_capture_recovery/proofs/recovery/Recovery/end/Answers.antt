@@ -8,8 +8,8 @@ use Rattle.aes3_capture_recovery.proofs.Recovering.{ended-ok}
 use Rattle.aes3_capture_recovery.proofs.Telling.{told-keeps, told-more}
 use Rattle.aes3_capture_recovery.proofs.recovery.Recovery.end.Goals as goal
 
-pub returns-in-Ok-finish-clause-ended : goal.returns-in-Ok-finish-clause-ended
-returns-in-Ok-finish-clause-ended g c = λ setting level done past w turns.
+pub returns-clause-ended : goal.returns-clause-ended
+returns-clause-ended g c = λ setting level done past w turns.
     let old = c.args.self.now in
     let new = c.tell.new.self in
     let k = c.tell.ensures.keeps in
@@ -21,18 +21,18 @@ returns-in-Ok-finish-clause-ended g c = λ setting level done past w turns.
     = told-more _ new c.args.sink.now c.tell.new.sink setting level done past c.take_waiting-run.result []
     (told-keeps (g.T.Sink.taken c.args.sink.now) setting level done past old _ w refl refl refl refl taken.queue
     taken.follower)
-    (c.in-Ok.ensures.told (after level done) high) k.found_is k.known_is k.measured_is in
+    (c.in_ok-tell.ensures.told (after level done) high) k.found_is k.known_is k.measured_is in
     let all : AreTold (g.T.Sink.taken c.tell.new.sink) setting level (done ++ (past + old.line.edges.run) ∷ []) 0 new
     = subst (λ n. AreTold (g.T.Sink.taken c.tell.new.sink) setting level (done ++ (past + n) ∷ []) 0 new)
     taken.all told in
     ended-ok setting level (done ++ (past + old.line.edges.run) ∷ []) new c.tell.new.sink c.finish.new.sink
-    c.in-Ok-finish.field-0 (g.T.Sink.taken c.flush.new.self) c.flush.result all c.in-Ok-finish.ensures.cells
+    tt (g.T.Sink.taken c.flush.new.self) c.flush.result all c.in_ok-finish.ensures.cells
     c.flush.ensures.bytes
 
-pub returns-in-Ok-finish-clause-writes : goal.returns-in-Ok-finish-clause-writes
-returns-in-Ok-finish-clause-writes g c = λ found begun all w.
+pub returns-clause-writes : goal.returns-clause-writes
+returns-clause-writes g c = λ found begun all w.
     let level = other (level_if c.is_high-high.result) in
-    let told = c.in-Ok.ensures.told level (sym (other-other (level_if c.is_high-high.result))) in
+    let told = c.in_ok-tell.ensures.told level (sym (other-other (level_if c.is_high-high.result))) in
     writes-end level c.take_waiting-run.result c.take_waiting-run.new.self c.tell.new.self.line c.args.self.now.line.queue c.args.sink.now c.tell.new.sink
-    c.finish.new.sink c.in-Ok-finish.field-0 (g.T.Sink.taken c.flush.new.self) c.flush.result begun all
-    c.take_waiting-run.ensures.queue (told.found found) c.in-Ok-finish.ensures.cells c.flush.ensures.bytes w
+    c.finish.new.sink tt (g.T.Sink.taken c.flush.new.self) c.flush.result begun all
+    c.take_waiting-run.ensures.queue (told.found found) c.in_ok-finish.ensures.cells c.flush.ensures.bytes w

@@ -31,24 +31,24 @@ loop-at-init g c = record {
 pub loop-at-preserved : goal.loop-at-preserved
 loop-at-preserved g c =
     let v = c.loop-at.invariant in
-    let most = c.in-Ok.ensures.most in
+    let most = c.in_ok-some.ensures.most in
     let below = c.loop-at-test.true in
     let few = c.requires.few in
     let all = c.args.places.now.runs in
-    let some = take c.in-Ok.some (drop c.loop-at.at all) in
+    let some = take c.in_ok-some.some (drop c.loop-at.at all) in
     let until = take c.loop-at.at all in
-    let on : (next : ℕ) → next ≡ c.loop-at.at + c.in-Ok.some → until ++ some ≡ take next all
-    = λ next is. take-on-from all c.loop-at.at c.in-Ok.some next is in
+    let on : (next : ℕ) → next ≡ c.loop-at.at + c.in_ok-some.some → until ++ some ≡ take next all
+    = λ next is. take-on-from all c.loop-at.at c.in_ok-some.some next is in
     let up1 = v.up in
     let up2 = c.take_edges.ensures.up in
     record {
       within = omega (arith, most, below);
-      quiet = c.in-Ok.ensures.count ∙ v.quiet;
+      quiet = c.in_ok-some.ensures.count ∙ v.quiet;
       samples = c.take_edges.ensures.samples ∙ v.samples;
       up = omega (arith, up1, up2);
       level = λ before turns.
           c.level_behind-high.ensures (after before until) some
-          (length-some all c.loop-at.at c.in-Ok.some (omega (arith, most, below, few, c.args.places.now.many)))
+          (length-some all c.loop-at.at c.in_ok-some.some (omega (arith, most, below, few, c.args.places.now.many)))
           (v.level before turns)
           ∙ ap other (sym (after-append before until some)) ∙ ap (λ x. other (after before x)) (on _ (omega arith));
       counted = λ was is same room before turns.
@@ -63,17 +63,17 @@ loop-at-preserved g c =
           c.args.sink.now c.take_edges.new.sink before x) (on _ (omega arith))
           (runs-chain c.args.self.now.line c.loop-at.self.line c.take_edges.new.self.line c.args.sink.now c.loop-at.sink
           c.take_edges.new.sink before until some (v.counted was follows kept room before turns)
-          (c.in-Ok.ensures.counted follows (after before until) (v.level before turns)));
-      none = λ e. let some = c.in-Ok.ensures.some in absurd (omega (arith, e, some));
+          (c.in_ok-some.ensures.counted follows (after before until) (v.level before turns)));
+      none = λ e. let some = c.in_ok-some.ensures.some in absurd (omega (arith, e, some));
       told = λ setting level runs w turns.
           subst (λ (x : List ℕ). StandsBehind (g.T.Sink.taken c.take_edges.new.sink) setting level x c.take_edges.new.self)
-          (take-on runs all c.loop-at.at c.in-Ok.some _ (omega arith))
-          (c.in-Ok.ensures.told setting level (runs ++ until) (v.told setting level runs w turns)
+          (take-on runs all c.loop-at.at c.in_ok-some.some _ (omega arith))
+          (c.in_ok-some.ensures.told setting level (runs ++ until) (v.told setting level runs w turns)
           (v.level (after level runs) turns ∙ ap other (sym (after-append level runs until))));
       stays = λ is narrow spread more k.
           let before = v.stays is narrow spread more k in
           let left = take c.args.count all in
-          let step = c.in-Ok.ensures.stays before.state narrow spread more before.kept in
+          let step = c.in_ok-some.ensures.stays before.state narrow spread more before.kept in
           stays-chain c.args.self.now c.loop-at.self c.take_edges.new.self narrow spread (drop c.loop-at.at left ++ more) _
           before step;
     }

@@ -30,7 +30,7 @@ loop-i-preserved g c =
     let next : take (c.loop-i.i + 1) old.runs ≡ runs ++ run ∷ []
     = take-next old.runs mid.runs c.loop-i.i v.keeps.runs_are (omega (arith, within, below)) in
     record {
-      quiet = c.in-Ok.ensures.count ∙ v.quiet;
+      quiet = c.in_ok-tell.ensures.count ∙ v.quiet;
       state = c.tell.ensures.state ∙ v.state;
       distance = c.tell.ensures.distance ∙ v.distance;
       keeps = keeps-chain old mid c.tell.new.self v.keeps c.tell.ensures.keeps;
@@ -40,12 +40,12 @@ loop-i-preserved g c =
             subst (λ (x : List ℕ). RunsTold g.T.Sink.taken old c.tell.new.self c.args.sink.now c.tell.new.sink level x)
                 (sym next)
                 (told-chain old mid c.tell.new.self c.args.sink.now c.loop-i.sink c.tell.new.sink level runs (run ∷ [])
-                v.keeps.found_is t.1 (c.in-Ok.ensures.told (after level runs) t.0)),
+                v.keeps.found_is t.1 (c.in_ok-tell.ensures.told (after level runs) t.0)),
           );
     }
 
-pub returns-in-Err-clause-keeps : goal.returns-in-Err-clause-keeps
-returns-in-Err-clause-keeps g c =
+pub returns-in_err-tell-clause-keeps : goal.returns-in_err-tell-clause-keeps
+returns-in_err-tell-clause-keeps g c =
     keeps-chain c.args.self.now c.loop-i.self c.tell.new.self c.loop-i.invariant.keeps c.tell.ensures.keeps
 
 pub returns-clause-keeps : goal.returns-clause-keeps

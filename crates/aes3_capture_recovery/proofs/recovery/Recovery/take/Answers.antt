@@ -55,7 +55,7 @@ loop-run-preserved g c =
     let up1 = c.loop-run.invariant.up in
     let up2 = c.edge.ensures.up in
     record {
-      quiet = c.in-Ok.ensures.count ∙ c.loop-run.invariant.quiet;
+      quiet = c.in_ok-edge.ensures.count ∙ c.loop-run.invariant.quiet;
       up = omega (arith, up1, up2);
       some = λ was. let before = c.loop-run.invariant.some was in
           let kept = c.edge.ensures.samples in omega (arith, before, kept);
@@ -73,10 +73,10 @@ loop-run-preserved g c =
             | inr n ↦ let more = c.edge.ensures.begun n is room2 in absurd (omega (arith, more, same, kept))
           ] in
           followed-edge c.loop-run.self.line c.next_edge.new.self c.edge.new.self.line c.loop-run.sink c.edge.new.sink
-          c.in-Ok.field-0 begun front first before (seen ++ low_cells c.args.len c.args.levels) c.loop-run.piece
+          tt begun front first before (seen ++ low_cells c.args.len c.args.levels) c.loop-run.piece
           c.next_edge.new.piece c.in-Some.run' c.loop-run.piece.few c.in-Some.ensures.edge
           c.next_edge.ensures.follower c.next_edge.ensures.queue
-          (not c.is_high-high.result) (ap not c.is_high-high.ensures) (c.in-Ok.ensures.told follows)
+          (not c.is_high-high.result) (ap not c.is_high-high.ensures) (c.in_ok-edge.ensures.told follows)
           (c.loop-run.invariant.followed was follows kept room some begun front first before seen w);
       recovered = λ setting seen w.
           let old = c.loop-run.self in
@@ -97,7 +97,7 @@ loop-run-preserved g c =
             follower_is = c.next_edge.ensures.follower;
           })
           refl c.edge.ensures.edges c.edge.ensures.samples
-          (λ level done past h e. c.in-Ok.ensures.stands setting level done past h (turned.0 ∙ e) turned.1)
+          (λ level done past h e. c.in_ok-edge.ensures.stands setting level done past h (turned.0 ∙ e) turned.1)
           (c.loop-run.invariant.recovered setting seen w);
       unfound = λ room same.
           let kept : c.loop-run.self.figures.measured ≡ c.args.self.now.figures.measured
@@ -125,7 +125,7 @@ loop-run-preserved g c =
                   follower_is = c.next_edge.ensures.follower;
                 })
                 refl c.edge.ensures.edges
-                (λ level done past h e. c.in-Ok.ensures.begins unfound is setting level done past h (turned.0 ∙ e)
+                (λ level done past h e. c.in_ok-edge.ensures.begins unfound is setting level done past h (turned.0 ∙ e)
                 turned.1)
                 (c.loop-run.invariant.recovered setting seen w)
             | inr found ↦
@@ -143,10 +143,10 @@ loop-run-preserved g c =
                 (levels_in c.loop-run.piece) (levels_in c.next_edge.new.piece) old c.edge.new.self
                 (λ front first before since f.
                 followed-edge old.line c.next_edge.new.self c.edge.new.self.line c.loop-run.sink c.edge.new.sink
-                c.in-Ok.field-0 setting.begun front first before since c.loop-run.piece
+                tt setting.begun front first before since c.loop-run.piece
                 c.next_edge.new.piece c.in-Some.run' c.loop-run.piece.few c.in-Some.ensures.edge
                 c.next_edge.ensures.follower c.next_edge.ensures.queue
-                (not c.is_high-high.result) (ap not c.is_high-high.ensures) (c.in-Ok.ensures.told follows) f)
+                (not c.is_high-high.result) (ap not c.is_high-high.ensures) (c.in_ok-edge.ensures.told follows) f)
                 (c.loop-run.invariant.begins none follows once setting seen w)
           ];
       awaits = λ setting seen a.
@@ -168,24 +168,24 @@ loop-run-preserved g c =
             follower_is = c.next_edge.ensures.follower;
           })
           refl c.edge.ensures.edges c.edge.ensures.samples
-          (λ level done past h e. c.in-Ok.ensures.stands setting level done past h (turned.0 ∙ e) turned.1)
+          (λ level done past h e. c.in_ok-edge.ensures.stands setting level done past h (turned.0 ∙ e) turned.1)
           c.edge.ensures.still c.edge.ensures.gathers c.edge.ensures.starts c.edge.ensures.up
-          (λ unfound is level done past h e. c.in-Ok.ensures.begins unfound is setting level done past h (turned.0 ∙ e)
+          (λ unfound is level done past h e. c.in_ok-edge.ensures.begins unfound is setting level done past h (turned.0 ∙ e)
           turned.1)
           (measured-once old c.edge.new.self c.edge.ensures.up c.edge.ensures.begun)
           (λ follows front first before since f.
           followed-edge old.line c.next_edge.new.self c.edge.new.self.line c.loop-run.sink c.edge.new.sink
-          c.in-Ok.field-0 setting.begun front first before since c.loop-run.piece
+          tt setting.begun front first before since c.loop-run.piece
           c.next_edge.new.piece c.in-Some.run' c.loop-run.piece.few c.in-Some.ensures.edge
           c.next_edge.ensures.follower c.next_edge.ensures.queue
-          (not c.is_high-high.result) (ap not c.is_high-high.ensures) (c.in-Ok.ensures.told follows) f)
-          refl (λ follows narrow spread ahead k. c.in-Ok.ensures.stays follows narrow spread ahead k)
+          (not c.is_high-high.result) (ap not c.is_high-high.ensures) (c.in_ok-edge.ensures.told follows) f)
+          refl (λ follows narrow spread ahead k. c.in_ok-edge.ensures.stays follows narrow spread ahead k)
           (c.loop-run.invariant.awaits setting seen a);
       stays = λ narrow spread more w.
           let before = c.loop-run.invariant.stays narrow spread more w in
           let next = on-line-edge c.loop-run.self _ c.edge.new.self c.loop-run.piece c.next_edge.new.piece c.in-Some.run' narrow
           spread more c.loop-run.piece.few c.in-Some.ensures.edge c.next_edge.ensures.follower refl refl c.edge.ensures.edges
-          c.edge.ensures.samples (λ ahead k. c.in-Ok.ensures.stays before.on.state narrow spread ahead k) before.on in
+          c.edge.ensures.samples (λ ahead k. c.in_ok-edge.ensures.stays before.on.state narrow spread ahead k) before.on in
           record { on = next.on; measured = next.measured ∙ before.measured };
     }
 

@@ -10,8 +10,8 @@ use Rattle.aes3_capture_recovery.proofs.SameLevels.{level-not}
 use Rattle.aes3_capture_recovery.proofs.recovery.Recovery.take_edges.Goals.{then-together+in-Ok-eq0, else-together}
 use Rattle.aes3_capture_recovery.proofs.recovery.Recovery.take_edges.Goals as goal
 
-pub returns-in-Ok-clause-counted : goal.returns-in-Ok-clause-counted
-returns-in-Ok-clause-counted g c = λ is before turns.
+pub returns-clause-counted : goal.returns-clause-counted
+returns-clause-counted g c = λ is before turns.
     let same : (c.if-together.self ≡ c.args.self.now) × (c.if-together.sink ≡ c.args.sink.now)
     = elim c.if-together.branch [
       | then-together+in-Ok-eq0 x ↦
@@ -20,8 +20,8 @@ returns-in-Ok-clause-counted g c = λ is before turns.
     ] in
     let old = c.args.self.now in
     let new = c.edge.new.self in
-    let told = c.in-Ok.ensures.told (ap (λ s. s.state) same.0 ∙ is) in
-    let one = run-counted c.stand.new.self new.line c.if-together.sink c.edge.new.sink c.in-Ok.field-0 before
+    let told = c.in_ok-edge.ensures.told (ap (λ s. s.state) same.0 ∙ is) in
+    let one = run-counted c.stand.new.self new.line c.if-together.sink c.edge.new.sink tt before
     (level_if c.args.high) c.run-run.result turns told in
     let all : RunsCounted g.T.Sink.taken old.line new.line c.if-together.sink c.edge.new.sink before
     (c.run-run.result ∷ [])
@@ -30,8 +30,8 @@ returns-in-Ok-clause-counted g c = λ is before turns.
     (c.stand.ensures.queue ∙ ap (λ s. s.line.queue) same.0) refl refl one in
     rw (c.run-run.ensures, ← same.1) all
 
-pub returns-in-Ok-clause-told : goal.returns-in-Ok-clause-told
-returns-in-Ok-clause-told g c = λ setting level runs w turns.
+pub returns-clause-told : goal.returns-clause-told
+returns-clause-told g c = λ setting level runs w turns.
     let same : (c.if-together.self ≡ c.args.self.now) × (c.if-together.sink ≡ c.args.sink.now)
     = elim c.if-together.branch [
       | then-together+in-Ok-eq0 x ↦ let e = x.in-Ok-eq0.ensures.none x.in-Ok-eq0.field-0-test in (x.self-is ∙ e.0, x.sink-is ∙ e.1)
@@ -53,11 +53,11 @@ returns-in-Ok-clause-told g c = λ setting level runs w turns.
     })
     refl w2
     c.run-run.ensures
-    (λ done h all. c.in-Ok.ensures.stands setting level done 0 h (turns ∙ ap (λ x. other (after level x)) (sym all))
+    (λ done h all. c.in_ok-edge.ensures.stands setting level done 0 h (turns ∙ ap (λ x. other (after level x)) (sym all))
     (ap level_if c.stand.ensures.high ∙ level-not c.args.high))
 
-pub returns-in-Ok-clause-stays : goal.returns-in-Ok-clause-stays
-returns-in-Ok-clause-stays g c = λ is narrow spread more k.
+pub returns-clause-stays : goal.returns-clause-stays
+returns-clause-stays g c = λ is narrow spread more k.
     let same : c.if-together.self ≡ c.args.self.now
     = elim c.if-together.branch [
       | then-together+in-Ok-eq0 x ↦ let e = x.in-Ok-eq0.ensures.none x.in-Ok-eq0.field-0-test in x.self-is ∙ e.0
@@ -66,4 +66,4 @@ returns-in-Ok-clause-stays g c = λ is narrow spread more k.
     stays-single c.args.self.now _ c.edge.new.self narrow spread c.args.at c.args.count c.run-run.result
     c.args.places.now.runs more (c.stand.ensures.follower ∙ ap (λ s. s.line.follower) same) (ap (λ s. s.spread) same)
     (ap (λ s. s.figures.measured) same) c.requires.within (omega (arith, c.requires.few, c.args.places.now.many)) c.run-run.ensures
-    (λ ahead kept. c.in-Ok.ensures.stays (ap (λ s. s.state) same ∙ is) narrow spread ahead kept) k
+    (λ ahead kept. c.in_ok-edge.ensures.stays (ap (λ s. s.state) same ∙ is) narrow spread ahead kept) k

@@ -9,8 +9,8 @@ use Rattle.aes3_capture_recovery.proofs.States.{still-apart}
 use Rattle.aes3_capture_recovery.proofs.StillWords.{levels-two}
 use Rattle.aes3_capture_recovery.proofs.recovery.Recovery.take_still.Goals as goal
 
-pub returns-in-Ok-wait_on-clause-recovered : goal.returns-in-Ok-wait_on-clause-recovered
-returns-in-Ok-wait_on-clause-recovered g c = λ setting seen w.
+pub returns-clause-recovered : goal.returns-clause-recovered
+returns-clause-recovered g c = λ setting seen w.
     let most = c.last_waiting-last.ensures in
     let some = c.requires.some in
     let samples = c.wait_on.ensures.samples in
@@ -18,11 +18,11 @@ returns-in-Ok-wait_on-clause-recovered g c = λ setting seen w.
     (levels-two (level_if c.args.self.now.line.edges.high) (level_if c.wait_on.new.self.line.edges.high) seen
     (flat_map word_cells c.args.words.now) _ _ (64 * length c.args.words.now) (ap level_if c.wait_on.ensures.high)
     (omega (arith, most)) (search (rules, c.are_same.ensures, c.if-not-are_same.false, c.is_high.ensures)))
-    (c.in-Ok-wait_on.ensures.recovered (omega (arith, some, samples)) setting _
-    (c.in-Ok.ensures.recovered some setting seen w))
+    (c.in_ok-wait_on-2.ensures.recovered (omega (arith, some, samples)) setting _
+    (c.in_ok-wait_on.ensures.recovered some setting seen w))
 
-pub returns-in-Ok-wait_on-clause-awaits : goal.returns-in-Ok-wait_on-clause-awaits
-returns-in-Ok-wait_on-clause-awaits g c = λ setting seen a.
+pub returns-clause-awaits : goal.returns-clause-awaits
+returns-clause-awaits g c = λ setting seen a.
     let most = c.last_waiting-last.ensures in
     let some = c.requires.some in
     let samples = c.wait_on.ensures.samples in
@@ -32,5 +32,5 @@ returns-in-Ok-wait_on-clause-awaits g c = λ setting seen a.
     (levels-two (level_if c.args.self.now.line.edges.high) (level_if c.wait_on.new.self.line.edges.high) seen
     (flat_map word_cells c.args.words.now) _ _ (64 * length c.args.words.now) (ap level_if c.wait_on.ensures.high)
     (omega (arith, most)) (search (rules, c.are_same.ensures, c.if-not-are_same.false, c.is_high.ensures)))
-    (c.in-Ok-wait_on.ensures.awaits (omega (arith, some, samples)) (c.wait_on.ensures.still c.requires.still none) setting _
-    (c.in-Ok.ensures.awaits some c.requires.still setting seen a))
+    (c.in_ok-wait_on-2.ensures.awaits (omega (arith, some, samples)) (c.wait_on.ensures.still c.requires.still none) setting _
+    (c.in_ok-wait_on.ensures.awaits some c.requires.still setting seen a))

@@ -15,8 +15,8 @@ use Rattle.aes3_capture_recovery.proofs.FollowedAhead.{followed-ahead}
 use Rattle.aes3_capture_recovery.proofs.OnLineAhead.{on-line-ahead}
 use Rattle.aes3_capture_recovery.proofs.recovery.Recovery.take_words.Goals as goal
 
-pub returns-in-Ok-clause-recovered : goal.returns-in-Ok-clause-recovered
-returns-in-Ok-clause-recovered g c = λ setting seen w.
+pub returns-clause-recovered : goal.returns-clause-recovered
+returns-clause-recovered g c = λ setting seen w.
     let old = c.args.self.now in
     let levels = flat_map word_cells c.args.words.now in
     let count = c.find-count.result in
@@ -36,14 +36,14 @@ returns-in-Ok-clause-recovered g c = λ setting seen w.
     let short = c.if-max-ge-BEGIN.false in
     let run = c.stand.ensures.run in
     recovered-ahead (g.T.Sink.taken c.args.sink.now) (g.T.Sink.taken c.follow_edges.new.sink) setting seen levels old
-    c.follow_edges.new.self _ c.in-Ok.high (take count c.measure-longest.new.self.runs) from c.behind-behind.result
+    c.follow_edges.new.self _ c.in_ok-high.high (take count c.measure-longest.new.self.runs) from c.behind-behind.result
     (c.is_quick.ensures.following c.if-not-is_quick.false) (c.is_quick.ensures.some c.if-not-is_quick.false)
     (omega (arith, waits, near)) (c.measure-longest.ensures.runs from places found)
     (behind ∙ ap (λ n. (128 + n) - last_place from places) (sym many))
     (λ level before stood turns.
     let high = ap level_if c.is_high-high.ensures ∙ turns in (
-      c.in-Ok.ensures.told setting level before stood high,
-      c.in-Ok.ensures.level (after level before) high
+      c.in_ok-high.ensures.told setting level before stood high,
+      c.in_ok-high.ensures.level (after level before) high
           ∙ ap other (sym (after-append level before (take count c.measure-longest.new.self.runs))),
     ))
     (record {
@@ -61,8 +61,8 @@ returns-in-Ok-clause-recovered g c = λ setting seen w.
     let kept = c.follow_edges.ensures.samples in
     omega (arith, sum, kept, many)) w
 
-pub returns-in-Ok-clause-follows : goal.returns-in-Ok-clause-follows
-returns-in-Ok-clause-follows g c = λ was is same room begun front first before seen w.
+pub returns-clause-follows : goal.returns-clause-follows
+returns-clause-follows g c = λ was is same room begun front first before seen w.
     let old = c.args.self.now in
     let levels = flat_map word_cells c.args.words.now in
     let count = c.find-count.result in
@@ -83,15 +83,15 @@ returns-in-Ok-clause-follows g c = λ was is same room begun front first before 
     let high : level_if c.is_high-high.result ≡ other (other (level_if old.line.edges.high))
     = ap level_if c.is_high-high.ensures ∙ sym (other-other (level_if old.line.edges.high)) in
     followed-ahead old.line c.follow_edges.new.self.line _ c.args.sink.now c.follow_edges.new.sink begun front first before
-    seen levels c.in-Ok.high (take count c.measure-longest.new.self.runs) from c.behind-behind.result
+    seen levels c.in_ok-high.high (take count c.measure-longest.new.self.runs) from c.behind-behind.result
     (omega (arith, waits, near)) (c.measure-longest.ensures.runs from places found)
     (c.behind-behind.ensures from places placed ∙ ap (λ n. (128 + n) - last_place from places) (sym many))
-    (c.in-Ok.ensures.counted was is same room (other (level_if old.line.edges.high)) high)
-    (c.in-Ok.ensures.level (other (level_if old.line.edges.high)) high)
+    (c.in_ok-high.ensures.counted was is same room (other (level_if old.line.edges.high)) high)
+    (c.in_ok-high.ensures.level (other (level_if old.line.edges.high)) high)
     c.stand.ensures.follower c.stand.ensures.queue (search (rules, c.stand.ensures.high)) run (omega (arith, run, longest, short)) w
 
-pub returns-in-Ok-clause-awaits : goal.returns-in-Ok-clause-awaits
-returns-in-Ok-clause-awaits g c = λ setting seen w.
+pub returns-clause-awaits : goal.returns-clause-awaits
+returns-clause-awaits g c = λ setting seen w.
     let old = c.args.self.now in
     let levels = flat_map word_cells c.args.words.now in
     let count = c.find-count.result in
@@ -111,14 +111,14 @@ returns-in-Ok-clause-awaits g c = λ setting seen w.
     let short = c.if-max-ge-BEGIN.false in
     let run = c.stand.ensures.run in
     awaits-ahead (g.T.Sink.taken c.args.sink.now) (g.T.Sink.taken c.follow_edges.new.sink) setting seen levels old
-    c.follow_edges.new.self _ c.in-Ok.high (take count c.measure-longest.new.self.runs) from c.behind-behind.result
+    c.follow_edges.new.self _ c.in_ok-high.high (take count c.measure-longest.new.self.runs) from c.behind-behind.result
     (c.is_quick.ensures.following c.if-not-is_quick.false) (c.is_quick.ensures.some c.if-not-is_quick.false)
     (omega (arith, waits, near)) (c.measure-longest.ensures.runs from places found)
     (behind ∙ ap (λ n. (128 + n) - last_place from places) (sym many))
     (λ level before stood turns.
     let high = ap level_if c.is_high-high.ensures ∙ turns in (
-      c.in-Ok.ensures.told setting level before stood high,
-      c.in-Ok.ensures.level (after level before) high
+      c.in_ok-high.ensures.told setting level before stood high,
+      c.in_ok-high.ensures.level (after level before) high
           ∙ ap other (sym (after-append level before (take count c.measure-longest.new.self.runs))),
     ))
     (record {
@@ -141,28 +141,28 @@ returns-in-Ok-clause-awaits g c = λ setting seen w.
     let none = ap length e in
     c.follow_edges.ensures.none (omega (arith, all, none)))
     (λ now same once front first before since f.
-    returns-in-Ok-clause-follows g c (c.is_quick.ensures.following c.if-not-is_quick.false) now same
+    returns-clause-follows g c (c.is_quick.ensures.following c.if-not-is_quick.false) now same
     (omega (arith, once)) setting.begun front first before since f)
-    (λ narrow spread ahead k. c.in-Ok.ensures.stays (c.is_quick.ensures.following c.if-not-is_quick.false) narrow spread ahead k)
+    (λ narrow spread ahead k. c.in_ok-high.ensures.stays (c.is_quick.ensures.following c.if-not-is_quick.false) narrow spread ahead k)
     refl w
 
-pub returns-in-Ok-clause-mean : goal.returns-in-Ok-clause-mean
-returns-in-Ok-clause-mean g c =
+pub returns-clause-mean : goal.returns-clause-mean
+returns-clause-mean g c =
     λ was is equal room begun front first before seen same other_mean displaced cells w follows captured taken.
     gives-ok {R = Bool} {E = Bool} (Ok true) (g.T.Sink.taken c.follow_edges.new.sink) begun front _ first before
     (seen ++ flat_map word_cells c.args.words.now) same other_mean displaced cells
-    (returns-in-Ok-clause-follows g c was is equal room begun front first before seen w) follows captured
+    (returns-clause-follows g c was is equal room begun front first before seen w) follows captured
 
-pub returns-in-Ok-clause-late : goal.returns-in-Ok-clause-late
-returns-in-Ok-clause-late g c =
+pub returns-clause-late : goal.returns-clause-late
+returns-clause-late g c =
     λ was is equal room begun front first before seen same other_mean displaced spread late later cells w follows narrow above
     below s o captured taken.
-    returns-in-Ok-clause-mean g c was is equal room begun front first before seen same other_mean displaced cells w follows
+    returns-clause-mean g c was is equal room begun front first before seen same other_mean displaced cells w follows
     (captured-late first before cells (seen ++ flat_map word_cells c.args.words.now) same other_mean displaced spread late
     later narrow above below s o captured) taken
 
-pub returns-in-Ok-clause-stays : goal.returns-in-Ok-clause-stays
-returns-in-Ok-clause-stays g c = λ narrow spread more w taken.
+pub returns-clause-stays : goal.returns-clause-stays
+returns-clause-stays g c = λ narrow spread more w taken.
     let old = c.args.self.now in
     let levels = flat_map word_cells c.args.words.now in
     let count = c.find-count.result in
@@ -185,6 +185,6 @@ returns-in-Ok-clause-stays g c = λ narrow spread more w taken.
     on-line-ahead old c.follow_edges.new.self _ narrow spread levels more (take count c.measure-longest.new.self.runs) from
     c.behind-behind.result (omega (arith, waits, near)) (c.measure-longest.ensures.runs from places found)
     (c.behind-behind.ensures from places placed ∙ ap (λ n. (128 + n) - last_place from places) (sym many))
-    (ap level_if (search (rules, c.stand.ensures.high)) ∙ c.in-Ok.ensures.level (other (level_if old.line.edges.high)) high)
+    (ap level_if (search (rules, c.stand.ensures.high)) ∙ c.in_ok-high.ensures.level (other (level_if old.line.edges.high)) high)
     c.stand.ensures.run c.stand.ensures.follower refl refl refl (omega (arith, sum, kept, some))
-    (λ ahead k. c.in-Ok.ensures.stays w.state narrow spread ahead k) w
+    (λ ahead k. c.in_ok-high.ensures.stays w.state narrow spread ahead k) w

@@ -3,7 +3,7 @@ use Rattle.std.proofs.lemmas.List.{length-take, take-take}
 use Rattle.aes3_level.specs.Cells.{after}
 use Rattle.aes3_capture.specs.Following.{Tracked, middle_of}
 use Rattle.aes3_capture_recovery.proofs.Ahead.{runs-tracked, stands-counted, tracked-short}
-use Rattle.aes3_capture_recovery.proofs.OnLineAhead.{stays-tracked, stays-untracked}
+use Rattle.aes3_capture_recovery.proofs.OnLineAhead.{stays-tracked}
 use Rattle.aes3_capture_recovery.proofs.recovery.Recovery.track.Goals as goal
 
 pub put_runs-requires-clause-short : goal.put_runs-requires-clause-short
@@ -12,8 +12,8 @@ put_runs-requires-clause-short g c = λ i below.
     (take c.track-some.result c.guess-cells.result) (take c.track-some.result c.track-some.new.places) i
     c.track-some.ensures.tracked below
 
-pub returns-in-Ok-clause-counted : goal.returns-in-Ok-clause-counted
-returns-in-Ok-clause-counted g c = λ before turns.
+pub returns-clause-counted : goal.returns-clause-counted
+returns-clause-counted g c = λ before turns.
     let old = c.args.self.now in
     let new = c.note_all.new.self in
     let n = c.track-some.result in
@@ -34,19 +34,19 @@ returns-in-Ok-clause-counted g c = λ before turns.
     = subst (λ f. Tracked old.line.follower (take n all) counts grid f) (sym follower)
     (subst (λ (x : List ℕ). Tracked old.line.follower x counts grid c.track-some.new.self) is from) in
     let queue : new.line.queue ≡ c.put_runs.new.self.queue = ap (λ l. l.queue) line_is ∙ c.follow.ensures.queue in
-    runs-tracked old.line new.line c.args.sink.now c.put_runs.new.sink c.in-Ok.field-0 before (take n all) counts grid
-    c.put_runs.new.self.queue t queue (c.in-Ok.ensures.cells before turns)
+    runs-tracked old.line new.line c.args.sink.now c.put_runs.new.sink tt before (take n all) counts grid
+    c.put_runs.new.self.queue t queue (c.in_ok-put_runs.ensures.cells before turns)
 
-pub returns-in-Ok-clause-told : goal.returns-in-Ok-clause-told
-returns-in-Ok-clause-told g c = λ setting level runs w turns.
+pub returns-clause-told : goal.returns-clause-told
+returns-clause-told g c = λ setting level runs w turns.
     let k = c.note_all.ensures.noted.keeps in
     stands-counted c.args.self.now c.note_all.new.self c.args.sink.now c.put_runs.new.sink setting level runs
     (take c.track-some.result (drop c.args.at c.args.places.now.runs))
     (search (rules, c.ne.ensures, c.if-ne.false, c.if-ne.ensures)) w
-    (returns-in-Ok-clause-counted g c (after level runs) turns) k.found_is k.known_is k.measured_is k.count_is
+    (returns-clause-counted g c (after level runs) turns) k.found_is k.known_is k.measured_is k.count_is
 
-pub returns-in-Ok-clause-stays : goal.returns-in-Ok-clause-stays
-returns-in-Ok-clause-stays g c = λ is narrow spread more k.
+pub returns-clause-stays : goal.returns-clause-stays
+returns-clause-stays g c = λ is narrow spread more k.
     let old = c.args.self.now in
     let new = c.note_all.new.self in
     let n = c.track-some.result in
