@@ -7,6 +7,7 @@ import array
 import struct
 
 import aes3
+from aes3 import calls
 
 parser = argparse.ArgumentParser(description=__doc__)
 for name in "BLOCKFILE", "PACKED", "VERSION", "CHECK_BYTE":
@@ -156,17 +157,17 @@ told = account.before(first)
 assert gaps(told) == [(3 * gap_block + 7, 2, True)] and str(told[0]) == f"gap at {3 * gap_block + 7} cells 2"
 assert gaps(account.end(4 * gap_block + 10)) == [(4 * gap_block + 9, 1, False)]
 
-if aes3.numpy:
+if calls.numpy:
     assert str(cells.dtype) == str(aes3.encode_block(blocks[0]).dtype) == "uint64"
     assert str(reports[0].words.dtype) == "uint32"
     # An array with gaps, and one of another type, are taken as their numbers.
-    wide = aes3.numpy.zeros(2 * len(cells), aes3.numpy.uint64)
+    wide = calls.numpy.zeros(2 * len(cells), calls.numpy.uint64)
     wide[::2] = cells
     for row in wide[::2], cells.astype(">u8"), [int(it) for it in cells]:
         assert len(aes3.Lock().take(row)) == len(blocks) - 1
-    assert len(aes3.Lock().take_octets(aes3.numpy.frombuffer(packed, aes3.numpy.uint8))) == len(blocks)
+    assert len(aes3.Lock().take_octets(calls.numpy.frombuffer(packed, calls.numpy.uint8))) == len(blocks)
     # Arrays of another type, or of two dimensions, or with a number out of range.
-    numpy, zeros = aes3.numpy, aes3.numpy.zeros
+    numpy, zeros = calls.numpy, calls.numpy.zeros
     for kind in "bool", "int8", "int16", "uint16", "float16", "float32", "float64", "complex128", "object", "U1", "M8[s]":
         for call in aes3.block_of_samples, aes3.encode_block, aes3.Lock().take, aes3.Lock().take_octets, aes3.cells_of_samples:
             assert is_of_another_type(call, zeros(384, kind)), (kind, call)
@@ -177,4 +178,4 @@ if aes3.numpy:
     assert is_of_another_type(aes3.cells_of_samples, zeros(100, "uint16")) and is_of_another_type(lock.push, numpy.float64(1), 64)
     assert list(aes3.block_samples(aes3.block_of_samples(numpy.array(sound, "int32")))) == sound
     assert list(aes3.block_samples(aes3.block_of_samples(numpy.array(sound, ">i8")))) == sound
-print("with numpy" if aes3.numpy else "without numpy")
+print("with numpy" if calls.numpy else "without numpy")

@@ -1,6 +1,6 @@
 #!/bin/sh
 # test.sh [PROGRAM [LIBRARY]]: installs the module of python/ by pip in a scratch folder, and runs the examples over it and the shared
-# library: each call; check.py on whole and damaged lines, whose lines have to be those of PROGRAM; and user.py, which sends the samples
+# library: each call; whole arrays to a line and back (lines.py); check.py on whole and damaged lines, whose lines have to be those of PROGRAM; and user.py, which sends the samples
 # of a WAV and a stream of user bits by one line, from which PROGRAM takes both again. Done with numpy and without.
 # PROGRAM is bin/aes3 where none is given, LIBRARY what `bin/build aes3_c` makes.
 # The last line is `N passed, M failed`; status 1 where one differs.
@@ -36,7 +36,8 @@ export AES3_LIB="$folder/libaes3.so.1" PYTHONDONTWRITEBYTECODE=1
 if python3 -m pip --version >/dev/null 2>&1; then
     find "$root/python" | sort >before
     judge "pip install" python3 -m pip install -q --no-index --target site "$root/python"
-    judge "what pip installed" cmp site/aes3/__init__.py "$root/python/aes3/__init__.py"
+    judge "what pip installed" diff -r -x libaes3.so.1 -x __pycache__ site/aes3 "$root/python/aes3"
+    judge "the library in the wheel" env -u AES3_LIB PYTHONPATH=site python3 -c "import aes3; assert aes3.__version__ == aes3.library_version()"
     find "$root/python" | sort >after
     judge "the files of python/, where pip should leave none," cmp before after
     export PYTHONPATH="$folder/site"
@@ -99,7 +100,7 @@ shown() { # PYTHON
 rejects() { "$1" "$2" --no-such-word 2>said_why; [ $? = 2 ] && grep -q '^usage: ' said_why; }
 
 examples() { # PYTHON
-    for example in calls check user; do
+    for example in calls check lines user; do
         judge "$example.py --help by $1" "$1" "$here/$example.py" --help
         judge "$example.py with a word that it does not know by $1" rejects "$1" "$here/$example.py"
     done
@@ -107,6 +108,7 @@ examples() { # PYTHON
     judge "check.py on what is no cell text by $1" sh -c 'echo 012 | "$0" "$1" 2>said_why; [ $? = 1 ] && grep -q "^check.py: a character" said_why' "$1" "$here/check.py"
     judge "calls.py by $1" "$1" "$here/calls.py" "$speech" speech.packed "$version" "$check_byte"
     echo "run: $1, $(cat said)"
+    judge "lines.py by $1" "$1" "$here/lines.py" "$program"
     judge "check.py by $1 on packed cells" tells "$1" speech.packed --packed-in
     judge "the example of docs/C.md by $1" shown "$1"
     judge "user.py by $1" carries "$1"
