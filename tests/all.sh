@@ -1,7 +1,7 @@
 #!/bin/sh
 # tests/all.sh [PROGRAM]: all that is run with a built program, with bin/aes3's where none is given: how bin/aes3 and bin/build have it built, the worked rows, the machine's own
-# streams, refused memory, the examples of help, README, tutorial and docs/COMMANDS.md, the manual page, the shells' completions, the pictures and
-# the figures of the books, captures with jitter, errors put in on purpose, round trips with other programs, the examples from C (also
+# streams, refused memory, the examples of help, README, tutorial and docs/COMMANDS.md, the manual page, the shells' completions, the pictures,
+# the figures and the links of the books, captures with jitter, errors put in on purpose, round trips with other programs, the examples from C (also
 # for 64-bit ARM), C++, Python and Rust, and of the page in a browser, and the Debian packages in a root of their own.
 #
 # The C library is built first, where that is still to be done. Each part has folders of its own, and as many run side by side as there
@@ -100,6 +100,7 @@ part tests/captures.sh "$root/crates/aes3_cells_program/out/aes3_cells_program" 
 part tests/other_files.sh "$program" "$root/crates/aes3_cells_program/out/aes3_cells_program"
 part tests/spoil.sh "$root/crates/aes3_spoil_program/out/aes3_spoil_program" "$program"
 part_with python3 bin/figures --check
+part_with python3 tests/links
 part_with python3 examples/pictures/make --check "$program"
 part_with python3 examples/neighbours/run "$program"
 part examples/many/run "$program" 20
@@ -121,8 +122,9 @@ if [ -e crates/aes3_c/out/libaes3_c.a ]; then
     part_with python3 examples/python/test.sh "$program"
     part_with cargo examples/rust/test.sh "$program"
     part_with cc tests/install.sh
+    part_with sigrok-cli tests/sigrok.sh "$program" "$root/crates/aes3_cells_program/out/aes3_cells_program"
 else
-    echo "left out: examples/c/test.sh, examples/c/arm.sh and those of cpp, python and rust, tests/install.sh, tests/packages.sh (no C library is built: bin/build aes3_c)" | tee -a "$folder/left"
+    echo "left out: examples/c/test.sh, examples/c/arm.sh and those of cpp, python and rust, tests/install.sh, tests/packages.sh, tests/sigrok.sh (no C library is built: bin/build aes3_c)" | tee -a "$folder/left"
 fi
 
 number=0

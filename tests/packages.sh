@@ -31,11 +31,11 @@ cpu=$(cat "$root/crates/aes3/out/cpu" 2>/dev/null || echo x86-64-v2)
 only=''
 [ "$cpu" = x86-64-v2 ] || only=-$cpu
 judge "bin/package" "$root/bin/package" --as-built --cpu "$cpu" "$work/debs"
-packages="aes3$only libaes3-1$only libaes3-dev$only python3-aes3"
+packages="aes3$only libaes3-1$only libaes3-dev$only python3-aes3 sigrok-aes3"
 for package in $packages; do
     judge "the package $package" test -e "$work"/debs/${package}_*.deb
 done
-judge "and no other" test "$(find "$work/debs" -name '*.deb' | wc -l)" = 4
+judge "and no other" test "$(find "$work/debs" -name '*.deb' | wc -l)" = 5
 if [ -n "$only" ]; then
     judge "aes3$only looks at the processor first" sh -c 'dpkg-deb --ctrl-tarfile "$1" | tar -xO ./preinst | grep -q "for feature in .* avx2 .* bmi2 "' - "$work"/debs/aes3${only}_*.deb
     judge "it takes the place of aes3" sh -c 'dpkg-deb -f "$1" Conflicts Replaces Provides | grep -c "aes3" | grep -qx 3' - "$work"/debs/aes3${only}_*.deb
@@ -70,6 +70,8 @@ inside() { chroot "$place" /usr/bin/env -i PATH=/usr/bin:/bin:/usr/sbin:/sbin HO
 rm -rf "$place/walk"
 mkdir -p "$place/walk/debs" "$place/walk/docs" "$place/walk/tests" "$place/walk/src"
 cp "$work"/debs/*.deb "$place/walk/debs"
+# sigrok is not in this root.
+rm "$place"/walk/debs/sigrok-aes3_*.deb
 judge "dpkg -i" inside "dpkg -i debs/*.deb"
 judge "the program" inside "aes3 --version"
 judge "the manual page" inside "man -w aes3"
