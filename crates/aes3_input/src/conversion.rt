@@ -50,8 +50,11 @@ fn blank_piece() -> [u8; PIECE_LEN]
     [0; PIECE_LEN]
 }
 
-/// Reads at most `room` bytes.
-fn read_piece<S: Source>(source: &mut S, piece: &mut [u8], room: u64) -> Result<usize, Fault>
+/// Reads at most `room` bytes into the front of a piece, and answers how many.
+///
+/// # Errors
+/// The source's fault.
+pub fn read_piece<S: Source>(source: &mut S, piece: &mut [u8], room: u64) -> Result<usize, Fault>
     requires failures { S.failed source.old + 1 < 2 ^ 64 }
     requires some { 0 < length piece.old }
     requires room { 0 < room }
@@ -65,6 +68,33 @@ fn read_piece<S: Source>(source: &mut S, piece: &mut [u8], room: u64) -> Result<
 {
     let limit = (piece.len() as u64).min(room) as usize;
     source.read(&mut piece[..limit])
+}
+
+/// Reads the next piece after `seen` bytes. What is decided leaves before more is waited for: the sink,
+/// which is here for that clause alone, has passed on all that it took of those bytes.
+///
+/// # Errors
+/// The source's fault.
+fn read_next<S: Source, T: Sink>(
+    source: &mut S,
+    _sink: &T,
+    piece: &mut [u8],
+    seen: u64,
+    room: u64,
+) -> Result<usize, Fault>
+    requires passed { 0 < seen → T.passed _sink.now ≡ T.taken _sink.now }
+    requires failures { S.failed source.old + 1 < 2 ^ 64 }
+    requires some { 0 < length piece.old }
+    requires room { 0 < room }
+    ensures bound { IfOk result (λ n. (n ≤ length piece.new) × (n ≤ room)) }
+    ensures bytes { IfOk result (λ n. Grew (S.given source.old) (S.given source.new)
+        (take n piece.new)) }
+    ensures end { IfOk result (λ n. n ≡ 0 ↔ IsTrue (S.has_ended source.new)) }
+    ensures count { IfOk result (λ _. S.failed source.new ≡ S.failed source.old) }
+    ensures err { OnErr result ((S.failed source.new ≡ S.failed source.old + 1)
+        × (S.given source.new ≡ S.given source.old)) }
+{
+    read_piece(source, piece, room)
 }
 
 /// How many of `n` bytes may be taken, where the last of `room` bytes is one too many.
@@ -171,7 +201,7 @@ pub fn convert<S: Source, T: Sink, K, I: Input<K>>(
     let mut seen: u64 = 0;
     'pieces: loop {
         let room = max_bytes + 1 - seen;
-        let n = match read_piece(source, &mut piece, room) {
+        let n = match read_next(source, sink, &mut piece, seen, room) {
             Ok(n) => n,
             Err(_) => return Err(RunError::Read),
         };

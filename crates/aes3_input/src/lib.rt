@@ -13,6 +13,6 @@ mod taker;
 /// Cell text as an input.
 mod text_input;
 
-pub use conversion::{Input, convert, feed_fronts};
+pub use conversion::{Input, convert, feed_fronts, read_piece};
 pub use driver::drive;
 pub use taker::{Taker, cell, word};

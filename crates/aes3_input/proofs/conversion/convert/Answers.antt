@@ -13,6 +13,7 @@ pieces-init g c = record {
   quiet_source = refl;
   quiet_sink = refl;
   passed = λ h. h;
+  gone = λ some. absurd (omega (arith, some));
   buffer = c.blank_piece-piece.ensures;
 }
 
@@ -20,7 +21,7 @@ pub returns-in-Err-clause-run : goal.returns-in-Err-clause-run
 returns-in-Err-clause-run g c =
     let v = c.pieces.invariant in
     ran-read c.args.max_bytes (g.I.Input.state c.args.input.now c.args.taker.now)
-    (g.I.Input.state c.pieces.input c.pieces.taker) _ (g.S.Source.has_ended c.read_piece.new.source) _ _ _ _ _
+    (g.I.Input.state c.pieces.input c.pieces.taker) _ (g.S.Source.has_ended c.read_next.new.source) _ _ _ _ _
     v.upto c.requires.start v.short v.quiet_source v.quiet_sink c.in-Err.ensures.err.0 c.in-Err.ensures.err.1
 
 pub returns-then-n-eq0-clause-run : goal.returns-then-n-eq0-clause-run
@@ -30,7 +31,7 @@ returns-then-n-eq0-clause-run g c =
     (g.I.Input.state c.pieces.input c.pieces.taker)
     (g.I.Input.state c.finish.new.input c.finish.new.taker) _ _ _ _ _ _ _
     v.upto c.requires.start v.short (c.in-Ok.ensures.count ∙ v.quiet_source) v.quiet_sink
-    (grew-is (ap (λ z. take z c.read_piece.new.piece) c.if-n-eq0.true) c.in-Ok.ensures.bytes)
+    (grew-is (ap (λ z. take z c.read_next.new.piece) c.if-n-eq0.true) c.in-Ok.ensures.bytes)
     (c.in-Ok.ensures.end.0 c.if-n-eq0.true) c.in_ok-finish.ensures.ran
 
 pub returns-in_err-finish-clause-run : goal.returns-in_err-finish-clause-run
@@ -41,7 +42,7 @@ returns-in_err-finish-clause-run g c =
     (g.I.Input.state c.pieces.input c.pieces.taker)
     (g.I.Input.state c.finish.new.input c.finish.new.taker) _ _ _ _ _ _ _ _
     v.upto c.requires.start v.short (c.in-Ok.ensures.count ∙ v.quiet_source) v.quiet_sink
-    (grew-is (ap (λ z. take z c.read_piece.new.piece) c.if-n-eq0.true) c.in-Ok.ensures.bytes)
+    (grew-is (ap (λ z. take z c.read_next.new.piece) c.if-n-eq0.true) c.in-Ok.ensures.bytes)
     (c.in-Ok.ensures.end.0 c.if-n-eq0.true) c.in_err-finish.ensures.ran)
 
 pub returns-in_err-feed-clause-run : goal.returns-in_err-feed-clause-run
@@ -51,7 +52,7 @@ returns-in_err-feed-clause-run g c =
     let error = err_from_is_err_and c.from_residual-in_err-feed.result c.from_residual-in_err-feed.ensures.1 in
     rw (error.1, error.2) (ran-piece c.args.max_bytes (g.I.Input.state c.args.input.now c.args.taker.now)
     (g.I.Input.state c.pieces.input c.pieces.taker) (g.I.Input.state c.feed.new.input c.feed.new.taker) _ _ _ _ _ _ _
-    c.in-Ok.n c.allowed_of-allowed.result room c.read_piece.new.piece _
+    c.in-Ok.n c.allowed_of-allowed.result room c.read_next.new.piece _
     v.upto c.requires.start v.short (c.in-Ok.ensures.count ∙ v.quiet_source) v.quiet_sink
     c.in-Ok.ensures.bytes refl c.in-Ok.ensures.bound.1 c.in-Ok.ensures.bound.0 c.allowed_of-allowed.ensures.last
     c.allowed_of-allowed.ensures.all c.in_err-feed.ensures.ran)
@@ -62,8 +63,8 @@ returns-then-seen-max_bytes-clause-run g c =
     let room = c.args.max_bytes + 1 - c.pieces.seen in
     ran-long c.args.max_bytes (g.I.Input.state c.args.input.now c.args.taker.now)
     (g.I.Input.state c.pieces.input c.pieces.taker)
-    (g.I.Input.state c.feed.new.input c.feed.new.taker) (g.S.Source.has_ended c.read_piece.new.source) _ _ _ _ _
-    c.in-Ok.n c.allowed_of-allowed.result room c.read_piece.new.piece
+    (g.I.Input.state c.feed.new.input c.feed.new.taker) (g.S.Source.has_ended c.read_next.new.source) _ _ _ _ _
+    c.in-Ok.n c.allowed_of-allowed.result room c.read_next.new.piece
     v.upto c.requires.start v.short (c.in-Ok.ensures.count ∙ v.quiet_source) v.quiet_sink c.in_ok-feed.ensures.ran.1
     c.in-Ok.ensures.bytes refl c.in-Ok.ensures.bound.1 c.in-Ok.ensures.bound.0 c.allowed_of-allowed.ensures.last
     c.allowed_of-allowed.ensures.all (omega arith) c.in_ok-feed.ensures.ran.0
@@ -71,7 +72,7 @@ returns-then-seen-max_bytes-clause-run g c =
 pub pieces-preserved : goal.pieces-preserved
 pieces-preserved g c =
     let v = c.pieces.invariant in
-    let b = c.read_piece.new.piece in
+    let b = c.read_next.new.piece in
     let n = c.in-Ok.n in
     let e : c.allowed_of-allowed.result ≡ n = c.allowed_of-allowed.ensures.all (omega arith) in
     let d = fed-is (ap (λ z. take z b) e) c.in_ok-feed.ensures.ran.0 in
@@ -83,8 +84,12 @@ pieces-preserved g c =
       quiet_source = c.in-Ok.ensures.count ∙ v.quiet_source;
       quiet_sink = c.in_ok-feed.ensures.ran.1 ∙ v.quiet_sink;
       passed = λ _. c.in_ok-feed.ensures.passed_on;
+      gone = λ _. c.in_ok-feed.ensures.passed_on;
       buffer = search rules;
     }
+
+pub read_next-requires-clause-passed : goal.read_next-requires-clause-passed
+read_next-requires-clause-passed g c = c.pieces.invariant.gone
 
 pub finish-requires-clause-following : goal.finish-requires-clause-following
 finish-requires-clause-following g c =
@@ -104,7 +109,7 @@ feed-requires-clause-following g c =
     let h = c.in-Ok.ensures.bound in
     let j = c.allowed_of-allowed.result in
     let w = allowed-within c.in-Ok.n j (c.args.max_bytes + 1 - c.pieces.seen) h.1 a.last a.all in
-    let l = length-take-le j c.read_piece.new.piece (omega (arith, w.0, h.0)) in
+    let l = length-take-le j c.read_next.new.piece (omega (arith, w.0, h.0)) in
     (v.upto.bytes, omega (arith, w.1, l, s, k, m), v.upto.fed.follows [] c.requires.start)
 
 pub returns-in-Err-clause-passed_before : goal.returns-in-Err-clause-passed_before

@@ -1,4 +1,4 @@
-use Rattle.std.proofs.Common.{◌≡◌, ◌+◌, ◌-◌, ◌≤◌, length}
+use Rattle.std.proofs.Common.{◌≡◌, ◌+◌, ◌-◌, ◌≤◌, ◌<◌, length}
 use Rattle.aes3_input.proofs.Pieces.{Upto}
 use Rattle.aes3_input.proofs.conversion.convert.Given as goal
 
@@ -12,6 +12,7 @@ invariant-pieces g l = record {
   quiet_source : g.S.Source.failed l.source ≡ g.S.Source.failed l.fn.source;
   quiet_sink : g.T.Sink.failed l.sink ≡ g.T.Sink.failed l.fn.sink;
   passed : g.T.Sink.passed l.fn.sink ≡ g.T.Sink.taken l.fn.sink → g.T.Sink.passed l.sink ≡ g.T.Sink.taken l.sink;
+  gone : 0 < l.seen → g.T.Sink.passed l.sink ≡ g.T.Sink.taken l.sink;
   buffer : length l.piece ≡ 131072;
 }
 
