@@ -72,23 +72,25 @@ _aes3() {
     case ${words[-1]} in
         --set | --set1 | --set2) _aes3_setting; return ;;
         --valid1 | --valid2) _aes3_words 0 1; return ;;
-        --preset) _aes3_words consumer professional; return ;;
+        --bits) _aes3_words 16 24 32; return ;;
+        --mono) _aes3_words both first; return ;;
+        --preset | --use) _aes3_words consumer professional; return ;;
         --words) _aes3_words own alsa am824; return ;;
         --pcm) _aes3_words s32 s24 s24in32 s16; return ;;
         --fill) _aes3_words zero hold; return ;;
-        --every | --every-seconds | --rate | --status1 | --status2) return ;;
-        --explain) _aes3_words 1 2 3 4 5 6 7 8 9 10 11 12 13; return ;;
+        --channels | --every | --every-seconds | --rate | --status1 | --status2) return ;;
+        --explain) _aes3_words 1 2 3 4 5 6 7 8 9 10 11 12 13 14 15; return ;;
     esac
     [ -z "$option" ] || return
     if [ "$COMP_CWORD" = 1 ]; then
-        _aes3_words encode decode normal check watch info show scan cut rewrite to-pcm from-pcm to-bits --help --version --explain
+        _aes3_words encode decode normal check watch info show scan cut rewrite to-pcm from-pcm to-wav from-wav to-bits --help --version --explain
         return
     fi
     case ${COMP_WORDS[1]} in
         to-bits) [[ $typed != -* ]] && _aes3_due 'user validity status' '1 2' && return ;;
     esac
     case ${COMP_WORDS[1]} in
-        decode | normal | check | watch | info | show | scan | rewrite | to-pcm | from-pcm | to-bits) [[ $typed == -* ]] || { compopt -o default; return; } ;;
+        decode | normal | check | watch | info | show | scan | rewrite | to-pcm | from-pcm | to-wav | from-wav | to-bits) [[ $typed == -* ]] || { compopt -o default; return; } ;;
     esac
     case ${COMP_WORDS[1]} in
         encode) _aes3_words --packed-out --lsb-first --words --help ;;
@@ -103,6 +105,8 @@ _aes3() {
         rewrite) _aes3_words --packed-in --raw-in --packed-out --lsb-first --status1 --status2 --preset --set --set1 --set2 --mend-check --valid1 --valid2 --clear-user1 --clear-user2 --exact --help ;;
         to-pcm) _aes3_words --packed-in --raw-in --lsb-first --pcm --valid --fill --marked --exact --help ;;
         from-pcm) _aes3_words --status1 --status2 --preset --rate --set --set1 --set2 --mend-check --exact --pcm --words --help ;;
+        to-wav) _aes3_words --packed-in --raw-in --lsb-first --bits --rate --help ;;
+        from-wav) _aes3_words --channels --mono --use --status1 --status2 --preset --rate --set --set1 --set2 --mend-check --exact --words --help ;;
         to-bits) _aes3_words --packed-in --raw-in --lsb-first --help ;;
     esac
 }

@@ -92,6 +92,7 @@ part tests/readme.sh "$program"
 part_with cc tests/allocations.sh "$program"
 part_with python3 tests/random.py "$program"
 part_with python3 tests/info.py "$program"
+part_with python3 tests/wave.py "$program"
 part_with python3 tests/thresholds.py "$program" "$root/crates/aes3_cells_program/out/aes3_cells_program"
 part_with python3 bin/make-manual --check "$program"
 part tests/manual.sh

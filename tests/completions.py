@@ -64,7 +64,7 @@ def cases(program):
     numbers = re.findall(r"^(\d+):", made.ask(program, "--explain"), re.M)
     found = [("aes3 che", "aes3 check "), ("aes3 check --ga", "aes3 check --gaps "), ("aes3 cut --packed-o", "aes3 cut --packed-out ")]
     found += [(f"aes3 --explain {it}", f"aes3 --explain {it} ") for it in settled(numbers)]
-    found += [("aes3 --explain 14", "aes3 --explain 14"), ("aes3 rewrite --set1 rate=4", "aes3 rewrite --set1 rate=4")]
+    found += [("aes3 --explain 16", "aes3 --explain 16"), ("aes3 rewrite --set1 rate=4", "aes3 rewrite --set1 rate=4")]
     found += [("aes3 rewrite --set1 nothing", "aes3 rewrite --set1 nothing"), ("aes3 rewrite --set1 b3=256", "aes3 rewrite --set1 b3=256")]
     found += [("aes3 rewrite --set1 rate=44", "aes3 rewrite --set1 rate=44100 ")]
     found += [("aes3 from-pcm --set1 rate=48000 --set2 cop", "aes3 from-pcm --set1 rate=48000 --set2 copyright=")]

@@ -21,7 +21,7 @@ no_samples() {
         "$program" from-pcm --pcm $form "$1" >out 2>said_why
         # A file that is named gets its kind and what to do in a second line.
         [ $? = 3 ] && [ ! -s out ] && [ "$(head -n 1 said_why)" = "aes3: refused 12 at 0" ] && [ "$(wc -l <said_why)" = 2 ] || return 1
-        grep -q '^aes3: this is an\{0,1\} [^ ]* file: `.* | aes3 from-pcm` takes its samples$' said_why || return 1
+        grep -q -E '^aes3: this is an? [^ ]* file: (`.* \| aes3 from-pcm` takes its samples|`aes3 from-wav` makes a block file of it)$' said_why || return 1
     done
     "$program" from-pcm <"$1" >out 2>said_why
     [ $? = 3 ] && [ ! -s out ] && [ "$(cat said_why)" = "aes3: refused 12 at 0" ] || return 1

@@ -71,7 +71,7 @@ make_inputs() {
         sigrok-cli -I binary:numchannels=8:samplerate=24000000 -i capture.bin -o capture.sr
         sigrok-cli -i capture.sr -O vcd >capture.vcd
     fi
-    ! command -v sox >/dev/null || sox -t s32 -r 48000 -c 2 audio.s32 -b 24 audio.wav
+    aes3 to-wav line.txt >audio.wav
 }
 
 # How many files of a folder have something in them.

@@ -146,10 +146,10 @@ aes3: byte 0 is neither cell nor separator (line 1, column 1): a session of sigr
         "$program check < '$folder/session'"
     printf 'RIFF1234WAVEfmt ' > "$folder/wave"
     at_terminal "a WAV file as samples" "aes3: refused 12 at 0
-aes3: the samples begin with the header of a sound file: this is a WAV file: \`sox FILE -t s32 -c 2 - | aes3 from-pcm\` takes its samples" \
+aes3: the samples begin with the header of a sound file: this is a WAV file: \`aes3 from-wav\` makes a block file of it" \
         "$program from-pcm < '$folder/wave' > '$folder/output'"
     at_terminal "a WAV file as cells" "aes3: refused 1 at 0
-aes3: byte 0 is neither cell nor separator (line 1, column 1): this is a WAV file: \`sox FILE -t s32 -c 2 - | aes3 from-pcm\` takes its samples" \
+aes3: byte 0 is neither cell nor separator (line 1, column 1): this is a WAV file: \`aes3 from-wav\` makes a block file of it" \
         "$program check < '$folder/wave'"
     if command -v perl > /dev/null; then
         # It shows where runs of more than three cells stand in the first octets, as they do in these.
@@ -205,7 +205,7 @@ fi
 
 # What docs/COMMANDS.md says that a run needs is enough, for each command.
 "$program" encode < "$zero" > "$folder/cells"
-for command in check 'check --gaps' watch normal decode show scan to-pcm 'cut 0 1' 'rewrite --mend-check'; do
+for command in check 'check --gaps' watch normal decode show scan to-pcm to-wav 'cut 0 1' 'rewrite --mend-check'; do
     # shellcheck disable=SC2086 # a command is several words
     "$program" $command < "$folder/cells" > "$folder/expected" 2>&1
     # shellcheck disable=SC2086
@@ -215,6 +215,13 @@ for command in check 'check --gaps' watch normal decode show scan to-pcm 'cut 0 
         wrong "$command in 5 MB of address space, with 512 KB of stack"
     fi
 done
+"$program" to-wav < "$folder/cells" > "$folder/wave"
+"$program" from-wav < "$folder/wave" > "$folder/expected"
+if (ulimit -s 512 && ulimit -v 5120 && exec "$program" from-wav) < "$folder/wave" 2>&1 | cmp -s - "$folder/expected"; then
+    well "from-wav in little memory"
+else
+    wrong "from-wav in 5 MB of address space, with 512 KB of stack"
+fi
 
 # A stream that is set not to wait is not waited for.
 if command -v python3 > /dev/null; then

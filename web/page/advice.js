@@ -14,8 +14,9 @@ const VCD = /^\s*\$(date|version|timescale|comment|scope)\b/;
 
 /* Files that tell by their first bytes what they are, and the commands that make cells of them. */
 const BEGINNINGS = [
-    [/^(RIFF|RF64|FORM|fLaC|OggS|ID3)/, "This is a sound file: it holds samples, and no cells. To make a line of it:",
-        ["sox FILE -t s32 -c 2 - | aes3 from-pcm | aes3 encode > LINE"]],
+    [/^(RIFF|RF64|BW64)/, "This is a sound file: it holds samples, and no cells. To make a line of it:", ["aes3 from-wav FILE | aes3 encode > LINE"]],
+    [/^(FORM|fLaC|OggS|ID3)/, "This is a sound file: it holds samples, and no cells. To make a line of it:",
+        ["sox FILE -t wav - | aes3 from-wav | aes3 encode > LINE"]],
     [/^PK\x03\x04[^]*(version|metadata|logic-)/, "This is a sigrok session (.sr): it holds samples of a logic analyser, and no cells "
         + "yet. To make cells of them:", [SESSION, CHANNEL]],
     [VCD, "This is a VCD file: it holds the changes of a logic analyser's channels, and no cells yet. ", []],

@@ -2,9 +2,6 @@
 //! standard output.
 #![tactic(auto)]
 
-/// The form of a recording by its first octets.
-mod recognised;
-
 ghost use Rattle.std.specs.Prelude.{◌+◌, ◌<◌, ◌^◌, ◌≡◌, IfErr};
 
 use aes3_cell::{BufferedSink, Sink, StdSink, StdSource};
@@ -13,8 +10,7 @@ use aes3_cli_hints::{Hints, Terminals};
 use aes3_cli_progress::Clearing;
 use aes3_files::{Input, Preview};
 use aes3_program::Unread;
-use aes3_program_terminal::{report_unread, run_and_explain};
-use recognised::recognise;
+use aes3_program_terminal::{recognise, report_unread, run_and_explain};
 use std::cell::Cell;
 use std::env;
 use std::io::ErrorKind;

@@ -7,11 +7,11 @@ use Rattle.clap.specs.Walk.{Rule, Text}
 use Rattle.clap.specs.Simple.{App, Shape, with_rule, with_subcommand}
 use Rattle.clap.specs.declared.builder.arg.Arg.{Arg}
 use Rattle.clap.specs.declared.builder.command.Command.{Command}
-use Rattle.aes3_cli.specs.CommandLine.{IsDefinedAs, IsOption, app_with, command, program, rule, shape}
+use Rattle.aes3_cli.specs.CommandLine.{IsDefinedAs, IsOption, app_with, command, program, program_with, rule, shape}
 use Rattle.aes3_cli.specs.declared.argument.Argument.{Argument}
 use Rattle.aes3_cli.specs.declared.definitions.Name.{Name}
 use Rattle.aes3_cli.specs.declared.definitions.Name.TheVariants.{Encode, Decode, Normal, Check, Watch, Show, Scan}
-use Rattle.aes3_cli.specs.declared.definitions.Name.TheVariants.{Cut, Info, Rewrite, ToPcm, FromPcm, ToBits}
+use Rattle.aes3_cli.specs.declared.definitions.Name.TheVariants.{Cut, Info, Rewrite, ToPcm, FromPcm, ToWav, FromWav, ToBits}
 
 -- one more argument
 with_option : (app : App) (r : Rule) (old new : Command) (argument : Arg) → AddsArg old argument new
@@ -33,6 +33,19 @@ with_argument name arguments i d old new argument below added defined is =
     ap (map rule) (take_more arguments i d below) ∙ map-append rule (take i arguments) (get_or arguments i d ∷ []) in
     subst (λ rules. IsDefinedAs (app_with (command name rules)) new) (sym more)
     (with_option (app_with (command name (map rule (take i arguments)))) (rule (get_or arguments i d))
+    old new argument added defined is)
+
+-- the first options of a program without commands, and one more
+pub with_rule_of : {X : Type 0} (name : Text) (rule : X → Rule) (arguments : List X) (i : ℕ) (d : X) (old new : Command)
+    (argument : Arg)
+    → i < length arguments → AddsArg old argument new
+    → IsDefinedAs (program_with name (map rule (take i arguments))) old → IsOption (rule (get_or arguments i d)) argument
+    → IsDefinedAs (program_with name (map rule (take (i + 1) arguments))) new
+with_rule_of name rule arguments i d old new argument below added defined is =
+    let more : map rule (take (i + 1) arguments) ≡ map rule (take i arguments) ++ rule (get_or arguments i d) ∷ [] =
+    ap (map rule) (take_more arguments i d below) ∙ map-append rule (take i arguments) (get_or arguments i d ∷ []) in
+    subst (λ rules. IsDefinedAs (program_with name rules) new) (sym more)
+    (with_option (program_with name (map rule (take i arguments))) (rule (get_or arguments i d))
     old new argument added defined is)
 
 -- one more command
@@ -81,4 +94,6 @@ shape-is Cut = refl
 shape-is Rewrite = refl
 shape-is ToPcm = refl
 shape-is FromPcm = refl
+shape-is ToWav = refl
+shape-is FromWav = refl
 shape-is ToBits = refl

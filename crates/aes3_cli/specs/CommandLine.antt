@@ -16,10 +16,23 @@ use Rattle.aes3_cli.specs.declared.argument.Argument.TheVariants.{Preset, Sample
 use Rattle.aes3_cli.specs.declared.argument.Argument.TheVariants.{ExactSamples, ExactSettings, Marked}
 use Rattle.aes3_cli.specs.declared.argument.Argument.TheVariants.{Valid1, Valid2, ClearUser1, ClearUser2, Valid}
 use Rattle.aes3_cli.specs.declared.argument.Argument.TheVariants.{Fill, Bits, Channel, Pcm, Words, File}
+use Rattle.aes3_cli.specs.declared.argument.Argument.TheVariants.{ExactWave, Channels, Mono, Use, SampleBits, WaveRate}
 use Rattle.aes3_cli.specs.declared.definitions.Name.{Name}
 use Rattle.aes3_cli.specs.declared.definitions.Name.TheVariants.{Encode, Decode, Normal, Check, Watch, Show, Scan}
 use Rattle.aes3_cli.specs.declared.definitions.Name.TheVariants.{Info}
-use Rattle.aes3_cli.specs.declared.definitions.Name.TheVariants.{Cut, Rewrite, ToPcm, FromPcm, ToBits}
+use Rattle.aes3_cli.specs.declared.definitions.Name.TheVariants.{Cut, Rewrite, ToPcm, FromPcm, ToWav, FromWav, ToBits}
+
+-- the program of this name with these options and values and no command, which takes words without its name, and has a
+-- version
+abbrev pub program_with : Text → List Rule → App
+program_with name rules = record {
+  top = record (new_shape name) {
+    rules = rules;
+    no_binary_name = true;
+    has_version = true;
+  };
+  subs = [];
+}
 
 -- `--name`, which stands or does not
 abbrev pub flag : Text → Rule
@@ -134,6 +147,12 @@ rule Marked = flag (codes "marked")
 rule Exact = flag (codes "exact")
 rule ExactSamples = flag (codes "exact")
 rule ExactSettings = flag (codes "exact")
+rule ExactWave = flag (codes "exact")
+rule Channels = text_option (codes "channels")
+rule Mono = text_option (codes "mono")
+rule Use = text_option (codes "use")
+rule SampleBits = text_option (codes "bits")
+rule WaveRate = number_option (codes "rate") 1 most_frames
 rule Pcm = pcm
 rule Words = words
 rule Bits = word (codes "BITS")
@@ -199,6 +218,17 @@ from_pcm = command (codes "from-pcm")
     ∷ settings_option (codes "set") ∷ settings_option (codes "set1") ∷ settings_option (codes "set2")
     ∷ flag (codes "mend-check") ∷ flag (codes "exact") ∷ pcm ∷ words ∷ file ∷ [])
 
+abbrev pub to_wav : Shape
+to_wav = reader_with (codes "to-wav") (text_option (codes "bits") ∷ number_option (codes "rate") 1 most_frames ∷ file ∷ [])
+
+abbrev pub from_wav : Shape
+from_wav = command (codes "from-wav")
+    (text_option (codes "channels") ∷ text_option (codes "mono") ∷ text_option (codes "use")
+    ∷ text_option (codes "status1") ∷ text_option (codes "status2") ∷ text_option (codes "preset")
+    ∷ named_option (codes "hz") (codes "rate")
+    ∷ settings_option (codes "set") ∷ settings_option (codes "set1") ∷ settings_option (codes "set2")
+    ∷ flag (codes "mend-check") ∷ flag (codes "exact") ∷ words ∷ file ∷ [])
+
 abbrev pub to_bits : Shape
 to_bits = reader_with (codes "to-bits") (word (codes "BITS") ∷ number (codes "CHANNEL") 1 2 ∷ file ∷ [])
 
@@ -216,6 +246,8 @@ shape Cut = cut
 shape Rewrite = rewrite
 shape ToPcm = to_pcm
 shape FromPcm = from_pcm
+shape ToWav = to_wav
+shape FromWav = from_wav
 shape ToBits = to_bits
 
 -- the program with no command yet
@@ -242,7 +274,7 @@ command_line = record {
   };
   subs = encode ∷ decode ∷ normal ∷ check
       ∷ watch ∷ info ∷ show ∷ reader (codes "scan") ∷ cut ∷ rewrite
-      ∷ to_pcm ∷ from_pcm ∷ to_bits ∷ [];
+      ∷ to_pcm ∷ from_pcm ∷ to_wav ∷ from_wav ∷ to_bits ∷ [];
 }
 
 -- a command by itself

@@ -1,2 +1,5 @@
 pub mod CommandLine
+pub mod LineFaults
+pub mod Numbers
+pub mod Options
 pub mod Wording

@@ -26,6 +26,8 @@ usage_of name =
     else if bytes_eq name (codes "rewrite") then codes "aes3 rewrite [OPTIONS] [FILE] > CELLS"
     else if bytes_eq name (codes "to-pcm") then codes "aes3 to-pcm [OPTIONS] [FILE] > PCM"
     else if bytes_eq name (codes "from-pcm") then codes "aes3 from-pcm [OPTIONS] [FILE] > BLOCKFILE"
+    else if bytes_eq name (codes "to-wav") then codes "aes3 to-wav [OPTIONS] [FILE] > WAV"
+    else if bytes_eq name (codes "from-wav") then codes "aes3 from-wav [OPTIONS] [FILE] > BLOCKFILE"
     else if bytes_eq name (codes "to-bits") then codes
     "aes3 to-bits [OPTIONS] <user|validity|status> <1|2> [FILE] > BITS"
     else program_usage

@@ -87,6 +87,18 @@ pub(crate) enum Argument {
     ExactSamples,
     /// `--exact` of `rewrite`.
     ExactSettings,
+    /// `--exact` of `from-wav`.
+    ExactWave,
+    /// `--channels A,B` of `from-wav`: the two channels that are taken.
+    Channels,
+    /// `--mono both|first` of `from-wav`: which channels the only one of a file is for.
+    Mono,
+    /// `--use consumer|professional` of `from-wav`: what the status is for that the header asks for.
+    Use,
+    /// `--bits 16|24|32` of `to-wav`: how many bits a sample has.
+    SampleBits,
+    /// `--rate HZ` of `to-wav`: the sampling frequency that the header says.
+    WaveRate,
     /// `--pcm s32|s24|s24in32|s16`: the form of samples.
     Pcm,
     /// `--words own|alsa|am824`: the form of the words of a block file.
@@ -244,6 +256,38 @@ impl Argument {
                 alloc,
                 "exact",
                 "Refuse blocks that leave out what --set, --set1 or --set2 sets",
+            ),
+            Argument::ExactWave => flag(alloc, "exact", "Refuse samples of more than 24 bits"),
+            Argument::Channels => text(
+                alloc,
+                "channels",
+                "A,B",
+                "The channels of the file to take, from 1 on; else the first two, or the only one",
+            ),
+            Argument::Mono => text(
+                alloc,
+                "mono",
+                "both|first",
+                "Where a file has one channel: take it for both, which is usual, or for the first",
+            ),
+            Argument::Use => text(
+                alloc,
+                "use",
+                "consumer|professional",
+                "The use of the status that is made of the header, else consumer",
+            ),
+            Argument::SampleBits => text(
+                alloc,
+                "bits",
+                "16|24|32",
+                "How many bits a sample has, else 24",
+            ),
+            Argument::WaveRate => number_option(
+                alloc,
+                "rate",
+                "HZ",
+                MOST_FRAMES,
+                "The sampling frequency that the header says; else that of the first block",
             ),
             Argument::Pcm => text(
                 alloc,

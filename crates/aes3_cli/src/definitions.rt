@@ -36,12 +36,16 @@ pub(crate) enum Name {
     ToPcm,
     /// `from-pcm`
     FromPcm,
+    /// `to-wav`
+    ToWav,
+    /// `from-wav`
+    FromWav,
     /// `to-bits`
     ToBits,
 }
 
 /// The commands, in the order in which help lists them.
-const NAMES: [Name; 13] = [
+const NAMES: [Name; 15] = [
     Name::Encode,
     Name::Decode,
     Name::Normal,
@@ -54,6 +58,8 @@ const NAMES: [Name; 13] = [
     Name::Rewrite,
     Name::ToPcm,
     Name::FromPcm,
+    Name::ToWav,
+    Name::FromWav,
     Name::ToBits,
 ];
 
@@ -111,6 +117,8 @@ impl Name {
             Name::Rewrite => "rewrite",
             Name::ToPcm => "to-pcm",
             Name::FromPcm => "from-pcm",
+            Name::ToWav => "to-wav",
+            Name::FromWav => "from-wav",
             Name::ToBits => "to-bits",
         }
     }
@@ -130,6 +138,8 @@ impl Name {
             Name::Rewrite => &help::REWRITE,
             Name::ToPcm => &help::TO_PCM,
             Name::FromPcm => &help::FROM_PCM,
+            Name::ToWav => &help::TO_WAV,
+            Name::FromWav => &help::FROM_WAV,
             Name::ToBits => &help::TO_BITS,
         }
     }
@@ -191,6 +201,11 @@ impl Name {
             Name::FromPcm => &[
                 Status1, Status2, Preset, SampleRate, Set, Set1, Set2, MendCheck, Exact, Pcm,
                 Words, File,
+            ],
+            Name::ToWav => &[PackedIn, RawIn, LsbFirst, SampleBits, WaveRate, File],
+            Name::FromWav => &[
+                Channels, Mono, Use, Status1, Status2, Preset, SampleRate, Set, Set1, Set2,
+                MendCheck, ExactWave, Words, File,
             ],
             Name::ToBits => &[PackedIn, RawIn, LsbFirst, Bits, Channel, File],
         }

@@ -46,7 +46,7 @@ Exit status:
   2  the words are no command line; why is told on standard error
   3  refused; standard error has one line, `aes3: refused NUMBER at PLACE`, or no place
 
-Refusals have the numbers 1 to 13; PLACE counts bytes, words, octets or cells from 0. `aes3
+Refusals have the numbers 1 to 15; PLACE counts bytes, words, octets or cells from 0. `aes3
 --explain` prints what was wrong and what to do, with a NUMBER of that refusal alone.
 
 Examples, three tasks with examples/speech.block of the sources:
@@ -145,11 +145,12 @@ pub const FROM_PCM: Texts<'static> = Texts {
     more: "Reads samples as `aes3 to-pcm` writes them: of each frame channel 1 and then channel 2,
 4 bytes each, lowest first (S32LE: `ffmpeg -f s32le`, `sox -t raw -e signed -b 32 -L`,
 ALSA's S32_LE). A sound file is refused, by its first 12 bytes: WAV, AIFF, Wave64, FLAC,
-CAF, Ogg, MP3 behind a tag of ID3v2, AU, MPEG-4 (`sox FILE -t s32 -c 2 -` gives the samples
-of each but the last). The 24 highest bits of each are the sample, the lowest 8 are dropped;
-with --exact they have to be zero. With --pcm s24, s24in32 or s16 they are in that form, as
-`aes3 to-pcm` has it, and --exact refuses none: the highest byte of s24in32 does not count,
-and the 8 bits that s16 lacks are zero. Samples that are zero fill up the last block.
+CAF, Ogg, MP3 behind a tag of ID3v2, AU, MPEG-4. `aes3 from-wav` reads a WAV file, and `sox
+FILE -t s32 -c 2 -` gives the samples of each but the last. The 24 highest bits of each are
+the sample, the lowest 8 are dropped; with --exact they have to be zero. With --pcm s24,
+s24in32 or s16 they are in that form, as `aes3 to-pcm` has it, and --exact refuses none: the
+highest byte of s24in32 does not count, and the 8 bits that s16 lacks are zero. Samples that
+are zero fill up the last block.
 Writes a block file with V and U 0 and the channel status that the options give, as `aes3
 rewrite` has them. Without them the status claims nothing: consumer use, no copyright, no
 sampling frequency, words of at most 24 bits. --rate HZ sets the sampling frequency of both
@@ -169,6 +170,56 @@ Examples:
     aes3 from-pcm --pcm s24 < line.s24 | aes3 encode | aes3 to-pcm | cmp - line.s32
     status=85022c0000004a4154480000000000000000000000000000
     aes3 from-pcm --status1 $status --status2 $status --mend-check < line.s32 > new.block",
+};
+
+pub const TO_WAV: Texts<'static> = Texts {
+    about: "Write the samples of the whole blocks as a WAV file",
+    usage: "aes3 to-wav [OPTIONS] [FILE] > WAV",
+    more: "Reads cells, begun anywhere and in either polarity.
+Writes a WAV file of two channels: a header, and then the samples of the whole blocks as
+`aes3 to-pcm` writes them, with --bits 24 as its s24, with 16 as s16, with 32 as s32.
+Without --bits they have 24 bits. The header is written with the first block. It says that
+the lengths are not known, so that readers take the samples up to the end of the file. Its
+sampling frequency is that of --rate, or else the one that the channel status of channel 1
+in the first block names, or else 48,000 Hz. Standard error says so in the last case.
+What is cut or damaged is left out, and nothing is told of it: `aes3 check` tells it.
+
+Exit status: 0 done, also where no block was found; 3 refused: 1 a byte is no cell, 10
+packed cells end wrongly; or as for every command.
+
+Examples:
+    aes3 to-wav < line.txt > line.wav
+    aes3 to-wav --bits 16 --rate 48000 < line.txt > small.wav
+    aes3 encode < speech.block | aes3 to-wav | aes3 from-wav | aes3 encode | aes3 to-wav | cmp - line.wav",
+};
+
+pub const FROM_WAV: Texts<'static> = Texts {
+    about: "Write a block file of a WAV file",
+    usage: "aes3 from-wav [OPTIONS] [FILE] > BLOCKFILE",
+    more: "Reads a WAV file of PCM samples of 8, 16, 20, 24 or 32 bits: RIFF, RF64 or BW64, also with
+lengths that are not known. Floating point and compressed samples are refused.
+Writes a block file of two channels: those of --channels, counted from 1, or else the first
+two. The only one of a file is taken for both, or with --mono first for channel 1, and then
+the samples of channel 2 are zero. Samples have their highest bits in the highest of 24; of 32 bits
+the lowest 8 are dropped, and with --exact they have to be zero. Samples that are zero fill
+up the last block. What comes after the samples in the file is left out.
+V and U are 0. The channel status says what the header does: linear PCM, the sampling
+frequency and the word length, for the use that --use names, consumer if it is left out. At
+the end standard error says what the status has no code for. --preset, --status1 and
+--status2 give another status, and then what the header says is not in it. --set, --set1,
+--set2, --rate and --mend-check change the status as `aes3 from-pcm` has them. At the end
+standard error lists the settings that the status did not take. With --words alsa or am824
+the words of the block file are in that form, as `aes3 encode` reads them.
+
+Exit status: 0 done; 3 refused: 9 a status is not 48 hexadecimal digits, and nothing is
+read, 14 the header is wrong or of another format, 15 the file has no such channel, 2 the
+samples end inside a frame, 11 with --exact a sample has more than 24 bits, 12 the samples
+begin with the header of a sound file; or as for every command.
+
+Examples:
+    aes3 from-wav < line.wav > line.block
+    aes3 from-wav --use professional --set origin=JATH < line.wav > pro.block
+    aes3 from-wav --channels 2,1 < line.wav | aes3 encode > swapped.txt",
 };
 
 pub const NORMAL: Texts<'static> = Texts {

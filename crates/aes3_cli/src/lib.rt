@@ -6,9 +6,18 @@
 mod argument;
 /// The commands, and the program with all of them.
 mod definitions;
+/// Why words ask for no job.
+mod fault;
 /// The texts of `--help` and `--version`.
 pub mod help;
+/// Numbers that values of options write.
+mod number;
+/// What options say that `clap` found.
+mod options;
 /// What is told of words that are no command line.
 pub mod wording;
 
 pub use definitions::command_line;
+pub use fault::LineFault;
+pub use number::number_of_text;
+pub use options::file_of_options;

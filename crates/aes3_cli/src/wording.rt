@@ -50,6 +50,8 @@ pub fn usage_of(name: &str) -> &'static str
         "rewrite" => help::REWRITE.usage,
         "to-pcm" => help::TO_PCM.usage,
         "from-pcm" => help::FROM_PCM.usage,
+        "to-wav" => help::TO_WAV.usage,
+        "from-wav" => help::FROM_WAV.usage,
         "to-bits" => help::TO_BITS.usage,
         _ => help::PROGRAM.usage,
     }

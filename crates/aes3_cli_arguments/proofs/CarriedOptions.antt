@@ -11,7 +11,7 @@ use Rattle.clap.specs.Takes.{is_given}
 use Rattle.clap.specs.Simple.{Shape, built}
 use Rattle.clap.specs.Walk.{Row, Rule, Text, first_of}
 use Rattle.aes3_cli.specs.CommandLine.{check, command_line, cut, decode, encode, from_pcm, normal, reader, rewrite}
-use Rattle.aes3_cli.specs.CommandLine.{info, show, to_bits, to_pcm, watch}
+use Rattle.aes3_cli.specs.CommandLine.{from_wav, info, show, to_bits, to_pcm, to_wav, watch}
 use Rattle.aes3_frame.specs.declared.status.Channel.{Channel}
 use Rattle.aes3_frame.specs.declared.status.Channel.TheVariants.{First, Second}
 use Rattle.aes3_status.specs.declared.carried.CarriedBits.{CarriedBits}
@@ -76,7 +76,8 @@ all_words =
     (also (no_words (leaf normal) refl) (also (no_words (leaf check) refl) (also (no_words (leaf watch) refl)
     (also (no_words (leaf info) refl) (also (no_words (leaf show) refl) (also (no_words (leaf (reader (codes "scan"))) refl)
     (also (no_words (leaf cut) refl) (also (no_words (leaf rewrite) refl) (also (no_words (leaf to_pcm) refl)
-    (also (no_words (leaf from_pcm) refl) (also (has_words) tt))))))))))))
+    (also (no_words (leaf from_pcm) refl) (also (no_words (leaf to_wav) refl) (also (no_words (leaf from_wav) refl)
+    (also (has_words) tt))))))))))))))
 
 words_stand : (words : List Text) (name : Text) (options : Options) → StandsIn words name options
     → name ≡ codes "to-bits" → Words options

@@ -1,4 +1,5 @@
 mod CarriedOptions
+mod ChannelNumbers
 mod Explains
 mod Files
 mod LineAnswers

@@ -60,8 +60,9 @@ pub bad_option_told : (words : List Text) (name : Text) (options : Options) (tol
 bad_option_told words name options (fault.Usage text) stands bad = elim bad [
   | inl option ↦ elim option [
     | inl rewrite ↦ inr (name, options, stands, inl (inl rewrite))
-    | inr (from_pcm, inl change) ↦ inr (name, options, stands, inl (inr (from_pcm, change)))
-    | inr (from_pcm, inr inexact) ↦ cc
+    | inr (inl (from_pcm, inl change)) ↦ inr (name, options, stands, inl (inr (inl (from_pcm, change))))
+    | inr (inl (from_pcm, inr inexact)) ↦ cc
+    | inr (inr from_wav) ↦ inr (name, options, stands, inl (inr (inr from_wav)))
   ]
   | inr (inl misuse) ↦ inr (name, options, stands, inr misuse)
   | inr (inr memory) ↦ cc
@@ -69,8 +70,9 @@ bad_option_told words name options (fault.Usage text) stands bad = elim bad [
 bad_option_told words name options (fault.Help text) stands bad = elim bad [
   | inl option ↦ elim option [
     | inl rewrite ↦ absurd rewrite.1
-    | inr (from_pcm, inl change) ↦ absurd change
-    | inr (from_pcm, inr inexact) ↦ cc
+    | inr (inl (from_pcm, inl change)) ↦ absurd change
+    | inr (inl (from_pcm, inr inexact)) ↦ cc
+    | inr (inr from_wav) ↦ absurd from_wav.1
   ]
   | inr (inl misuse) ↦ absurd misuse.2
   | inr (inr memory) ↦ cc
@@ -81,13 +83,17 @@ bad_option_told words name options (fault.Refused error) stands bad = elim bad [
       | inl memory ↦ inl memory
       | inr status ↦ inr (inl (status.0, (name, options, stands, inl rewrite.0, status.1)))
     ]
-    | inr from_pcm ↦ elim from_pcm.1 [
+    | inr (inl from_pcm) ↦ elim from_pcm.1 [
       | inl (inl memory) ↦ inl memory
-      | inl (inr status) ↦ inr (inl (status.0, (name, options, stands, inr from_pcm.0, status.1)))
+      | inl (inr status) ↦ inr (inl (status.0, (name, options, stands, inr (inl from_pcm.0), status.1)))
       | inr inexact ↦ inr (inr (
         refused_inj _ _ inexact.0,
         (options, subst (λ n. StandsIn words n options) from_pcm.0 stands, inexact.1),
       ))
+    ]
+    | inr (inr from_wav) ↦ elim from_wav.1 [
+      | inl memory ↦ inl memory
+      | inr status ↦ inr (inl (status.0, (name, options, stands, inr (inr from_wav.0), status.1)))
     ]
   ]
   | inr (inl misuse) ↦ inl misuse.2

@@ -19,7 +19,7 @@ use Rattle.clap.specs.Walk.{rows_after, stop_after}
 use Rattle.clap.specs.declared.builder.value_parser.ValueParser.{ValueParser}
 use Rattle.clap.specs.declared.builder.value_parser.ValueParser.TheVariants as vp
 use Rattle.aes3_cli.specs.CommandLine.{check, command_line, cut, decode, encode, from_pcm, normal, reader, rewrite}
-use Rattle.aes3_cli.specs.CommandLine.{greatest, info, show, to_bits, to_pcm, watch}
+use Rattle.aes3_cli.specs.CommandLine.{from_wav, greatest, info, show, to_bits, to_pcm, to_wav, watch}
 use Rattle.aes3_cli_arguments.specs.Jobs.{IsNumber, MayBeFlag, Options, StandsIn, number_in}
 use Rattle.aes3_cli_arguments.proofs.LineWalks.{level_checked, level_fits}
 use Rattle.aes3_cli_arguments.proofs.OptionReads.{bounded_in}
@@ -345,11 +345,36 @@ from_pcm_known = record {
   numbers = λ rows name fit passed. other_name (codes "from-pcm") refl name;
 }
 
+to_wav_known : IsKnown (leaf to_wav)
+to_wav_known = record {
+  sound =
+      also (flag_sound _ _ (codes "true") refl refl refl refl)
+      (also (flag_sound _ _ (codes "true") refl refl refl refl)
+      (also (flag_sound _ _ (codes "true") refl refl refl refl) (also (value_sound _ _ refl refl refl)
+      (also (value_sound _ _ refl refl refl) (also (value_sound _ _ refl refl refl) (also (help_sound _ _ refl refl)
+      tt))))));
+  numbers = λ rows name fit passed. other_name (codes "to-wav") refl name;
+}
+
+from_wav_known : IsKnown (leaf from_wav)
+from_wav_known = record {
+  sound =
+      also (value_sound _ _ refl refl refl) (also (value_sound _ _ refl refl refl) (also (value_sound _ _ refl refl refl)
+      (also (value_sound _ _ refl refl refl) (also (value_sound _ _ refl refl refl)
+      (also (value_sound _ _ refl refl refl) (also (value_sound _ _ refl refl refl)
+      (also (values_sound _ _ refl refl refl) (also (values_sound _ _ refl refl refl)
+      (also (values_sound _ _ refl refl refl) (also (flag_sound _ _ (codes "true") refl refl refl refl)
+      (also (flag_sound _ _ (codes "true") refl refl refl refl) (also (value_sound _ _ refl refl refl)
+      (also (value_sound _ _ refl refl refl) (also (help_sound _ _ refl refl) tt))))))))))))));
+  numbers = λ rows name fit passed. other_name (codes "from-wav") refl name;
+}
+
 pub all_known : EachShape IsKnown (built command_line).subs
 all_known =
     also (encode_known) (also (decode_known) (also (normal_known) (also (check_known)
     (also (watch_known) (also (info_known) (also (show_known) (also (reader_known (codes "scan") refl) (also (cut_known)
-    (also (rewrite_known) (also (to_pcm_known) (also (from_pcm_known) (also (to_bits_known) tt))))))))))))
+    (also (rewrite_known) (also (to_pcm_known) (also (from_pcm_known) (also (to_wav_known) (also (from_wav_known)
+    (also (to_bits_known) tt))))))))))))))
 
 -- ---- the command that stands in the words
 

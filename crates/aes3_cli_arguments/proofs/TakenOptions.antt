@@ -49,70 +49,70 @@ number_stands words name options id least most numbers stands =
 
 -- each option, of the commands in their order: `refl` where it is one of the command's, `tt` where it is none
 packed_in_flags : EachShape (HasFlag (codes "packed-in")) (built command_line).subs
-packed_in_flags = (tt, (refl, (refl, (refl, (refl, (refl, (refl, (refl, (refl, (refl, (refl, (tt, (refl, tt)))))))))))))
+packed_in_flags = (tt, (refl, (refl, (refl, (refl, (refl, (refl, (refl, (refl, (refl, (refl, (tt, (refl, (tt, (refl, tt)))))))))))))))
 
 raw_in_flags : EachShape (HasFlag (codes "raw-in")) (built command_line).subs
-raw_in_flags = (tt, (refl, (refl, (refl, (refl, (refl, (refl, (refl, (refl, (refl, (refl, (tt, (refl, tt)))))))))))))
+raw_in_flags = (tt, (refl, (refl, (refl, (refl, (refl, (refl, (refl, (refl, (refl, (refl, (tt, (refl, (tt, (refl, tt)))))))))))))))
 
 packed_out_flags : EachShape (HasFlag (codes "packed-out")) (built command_line).subs
-packed_out_flags = (refl, (tt, (refl, (tt, (tt, (tt, (tt, (tt, (refl, (refl, (tt, (tt, (tt, tt)))))))))))))
+packed_out_flags = (refl, (tt, (refl, (tt, (tt, (tt, (tt, (tt, (refl, (refl, (tt, (tt, (tt, (tt, (tt, tt)))))))))))))))
 
 lsb_first_flags : EachShape (HasFlag (codes "lsb-first")) (built command_line).subs
-lsb_first_flags = (refl, (refl, (refl, (refl, (refl, (refl, (refl, (refl, (refl, (refl, (refl, (tt, (refl, tt)))))))))))))
+lsb_first_flags = (refl, (refl, (refl, (refl, (refl, (refl, (refl, (refl, (refl, (refl, (refl, (tt, (refl, (tt, (refl, tt)))))))))))))))
 
 faults_flags : EachShape (HasFlag (codes "faults")) (built command_line).subs
-faults_flags = (tt, (tt, (tt, (refl, (tt, (tt, (tt, (tt, (tt, (tt, (tt, (tt, (tt, tt)))))))))))))
+faults_flags = (tt, (tt, (tt, (refl, (tt, (tt, (tt, (tt, (tt, (tt, (tt, (tt, (tt, (tt, (tt, tt)))))))))))))))
 
 gaps_flags : EachShape (HasFlag (codes "gaps")) (built command_line).subs
-gaps_flags = (tt, (tt, (tt, (refl, (tt, (tt, (tt, (tt, (tt, (tt, (tt, (tt, (tt, tt)))))))))))))
+gaps_flags = (tt, (tt, (tt, (refl, (tt, (tt, (tt, (tt, (tt, (tt, (tt, (tt, (tt, (tt, (tt, tt)))))))))))))))
 
 json_flags : EachShape (HasFlag (codes "json")) (built command_line).subs
-json_flags = (tt, (tt, (tt, (tt, (refl, (refl, (tt, (tt, (tt, (tt, (tt, (tt, (tt, tt)))))))))))))
+json_flags = (tt, (tt, (tt, (tt, (refl, (refl, (tt, (tt, (tt, (tt, (tt, (tt, (tt, (tt, (tt, tt)))))))))))))))
 
 changes_flags : EachShape (HasFlag (codes "changes")) (built command_line).subs
-changes_flags = (tt, (tt, (tt, (tt, (tt, (tt, (refl, (tt, (tt, (tt, (tt, (tt, (tt, tt)))))))))))))
+changes_flags = (tt, (tt, (tt, (tt, (tt, (tt, (refl, (tt, (tt, (tt, (tt, (tt, (tt, (tt, (tt, tt)))))))))))))))
 
 at_flags : EachShape (HasFlag (codes "at")) (built command_line).subs
-at_flags = (tt, (tt, (tt, (tt, (tt, (tt, (refl, (tt, (tt, (tt, (tt, (tt, (tt, tt)))))))))))))
+at_flags = (tt, (tt, (tt, (tt, (tt, (tt, (refl, (tt, (tt, (tt, (tt, (tt, (tt, (tt, (tt, tt)))))))))))))))
 
 more_flags : EachShape (HasFlag (codes "more")) (built command_line).subs
-more_flags = (tt, (tt, (tt, (tt, (tt, (tt, (refl, (tt, (tt, (tt, (tt, (tt, (tt, tt)))))))))))))
+more_flags = (tt, (tt, (tt, (tt, (tt, (tt, (refl, (tt, (tt, (tt, (tt, (tt, (tt, (tt, (tt, tt)))))))))))))))
 
 names_flags : EachShape (HasFlag (codes "names")) (built command_line).subs
-names_flags = (tt, (tt, (tt, (tt, (tt, (tt, (refl, (tt, (tt, (tt, (tt, (tt, (tt, tt)))))))))))))
+names_flags = (tt, (tt, (tt, (tt, (tt, (tt, (refl, (tt, (tt, (tt, (tt, (tt, (tt, (tt, (tt, tt)))))))))))))))
 
 valid_flags : EachShape (HasFlag (codes "valid")) (built command_line).subs
-valid_flags = (tt, (tt, (tt, (tt, (tt, (tt, (tt, (tt, (tt, (tt, (refl, (tt, (tt, tt)))))))))))))
+valid_flags = (tt, (tt, (tt, (tt, (tt, (tt, (tt, (tt, (tt, (tt, (refl, (tt, (tt, (tt, (tt, tt)))))))))))))))
 
 marked_flags : EachShape (HasFlag (codes "marked")) (built command_line).subs
-marked_flags = (tt, (tt, (tt, (tt, (tt, (tt, (tt, (tt, (tt, (tt, (refl, (tt, (tt, tt)))))))))))))
+marked_flags = (tt, (tt, (tt, (tt, (tt, (tt, (tt, (tt, (tt, (tt, (refl, (tt, (tt, (tt, (tt, tt)))))))))))))))
 
 exact_flags : EachShape (HasFlag (codes "exact")) (built command_line).subs
-exact_flags = (tt, (tt, (tt, (tt, (tt, (tt, (tt, (tt, (tt, (refl, (refl, (refl, (tt, tt)))))))))))))
+exact_flags = (tt, (tt, (tt, (tt, (tt, (tt, (tt, (tt, (tt, (refl, (refl, (refl, (tt, (refl, (tt, tt)))))))))))))))
 
 mend_check_flags : EachShape (HasFlag (codes "mend-check")) (built command_line).subs
-mend_check_flags = (tt, (tt, (tt, (tt, (tt, (tt, (tt, (tt, (tt, (refl, (tt, (refl, (tt, tt)))))))))))))
+mend_check_flags = (tt, (tt, (tt, (tt, (tt, (tt, (tt, (tt, (tt, (refl, (tt, (refl, (tt, (refl, (tt, tt)))))))))))))))
 
 clear_user1_flags : EachShape (HasFlag (codes "clear-user1")) (built command_line).subs
-clear_user1_flags = (tt, (tt, (tt, (tt, (tt, (tt, (tt, (tt, (tt, (refl, (tt, (tt, (tt, tt)))))))))))))
+clear_user1_flags = (tt, (tt, (tt, (tt, (tt, (tt, (tt, (tt, (tt, (refl, (tt, (tt, (tt, (tt, (tt, tt)))))))))))))))
 
 clear_user2_flags : EachShape (HasFlag (codes "clear-user2")) (built command_line).subs
-clear_user2_flags = (tt, (tt, (tt, (tt, (tt, (tt, (tt, (tt, (tt, (refl, (tt, (tt, (tt, tt)))))))))))))
+clear_user2_flags = (tt, (tt, (tt, (tt, (tt, (tt, (tt, (tt, (tt, (refl, (tt, (tt, (tt, (tt, (tt, tt)))))))))))))))
 
 rate_numbers : EachShape (HasBounded 1 most_frames (codes "rate")) (built command_line).subs
-rate_numbers = (tt, (tt, (tt, (tt, (refl, (tt, (tt, (tt, (tt, (tt, (tt, (tt, (tt, tt)))))))))))))
+rate_numbers = (tt, (tt, (tt, (tt, (refl, (tt, (tt, (tt, (tt, (tt, (tt, (tt, (refl, (tt, (tt, tt)))))))))))))))
 
 every_numbers : EachShape (HasBounded 1 most_cells (codes "every")) (built command_line).subs
-every_numbers = (tt, (tt, (tt, (tt, (refl, (tt, (tt, (tt, (tt, (tt, (tt, (tt, (tt, tt)))))))))))))
+every_numbers = (tt, (tt, (tt, (tt, (refl, (tt, (tt, (tt, (tt, (tt, (tt, (tt, (tt, (tt, (tt, tt)))))))))))))))
 
 every_seconds_numbers : EachShape (HasBounded 1 most_seconds (codes "every-seconds")) (built command_line).subs
-every_seconds_numbers = (tt, (tt, (tt, (tt, (refl, (tt, (tt, (tt, (tt, (tt, (tt, (tt, (tt, tt)))))))))))))
+every_seconds_numbers = (tt, (tt, (tt, (tt, (refl, (tt, (tt, (tt, (tt, (tt, (tt, (tt, (tt, (tt, (tt, tt)))))))))))))))
 
 valid1_numbers : EachShape (HasBounded 0 1 (codes "valid1")) (built command_line).subs
-valid1_numbers = (tt, (tt, (tt, (tt, (tt, (tt, (tt, (tt, (tt, (refl, (tt, (tt, (tt, tt)))))))))))))
+valid1_numbers = (tt, (tt, (tt, (tt, (tt, (tt, (tt, (tt, (tt, (refl, (tt, (tt, (tt, (tt, (tt, tt)))))))))))))))
 
 valid2_numbers : EachShape (HasBounded 0 1 (codes "valid2")) (built command_line).subs
-valid2_numbers = (tt, (tt, (tt, (tt, (tt, (tt, (tt, (tt, (tt, (refl, (tt, (tt, (tt, tt)))))))))))))
+valid2_numbers = (tt, (tt, (tt, (tt, (tt, (tt, (tt, (tt, (tt, (refl, (tt, (tt, (tt, (tt, (tt, tt)))))))))))))))
 
 pub options_taken : (words : List Text) (name : Text) (options : Options) → StandsIn words name options
     → AreTaken options

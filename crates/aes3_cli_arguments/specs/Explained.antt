@@ -7,9 +7,9 @@ use Rattle.aes3_cell.specs.declared.refusal.RunError.TheVariants.{Memory}
 use Rattle.aes3_cli_arguments.specs.declared.job.LineFault.{LineFault}
 use Rattle.aes3_cli_arguments.specs.declared.job.LineFault.TheVariants as fault
 
--- the text writes the number of a refusal, from 1 to 13
+-- the text writes the number of a refusal, from 1 to 15
 abbrev pub IsRefusalNumber : Text → ℕ → Type 0
-IsRefusalNumber text n = (0 < n) × (n ≤ 13) × (text ≡ decimal n)
+IsRefusalNumber text n = (0 < n) × (n ≤ 15) × (text ≡ decimal n)
 
 -- the words ask what refusals mean
 abbrev pub asks_to_explain : List Text → Bool
@@ -47,7 +47,11 @@ advice_of n =
     else if n == 10 then codes
     "the last octet counts the unused cells before it, 0 to 7, and these are 0: `printf '\\0' >> FILE` adds it where there are none"
     else if n == 11 then codes "leave `--exact` out to drop them, or make samples of 24 bits first (`sox IN -b 24 OUT`)"
-    else if n == 12 then codes "`sox FILE -t s32 -c 2 - | aes3 from-pcm` takes its samples"
+    else if n == 12 then codes
+    "`aes3 from-wav` reads a WAV file; of another `sox FILE -t s32 -c 2 - | aes3 from-pcm` takes the samples"
     else if n == 13 then codes
     "leave `--exact` out to drop them, or set first what gives the setting its code (`greatest=24` before `word=24`)"
+    else if n == 14 then codes
+    "`sox FILE -b 24 -e signed NEW.wav` writes a WAV file that can be read, of most that can't"
+    else if n == 15 then codes "`--channels` takes two of its channels, from 1 on, as `--channels 1,1`"
     else []

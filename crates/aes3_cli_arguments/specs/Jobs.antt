@@ -1,6 +1,7 @@
 -- What a command line asks for, by what `clap` makes of its words.
 use Rattle.std.specs.Prelude.{ℕ, Bool, List, [], ◌∷◌, ◌++◌, ◌≡◌, ◌≢◌, ◌⊎◌, Option, Some, None, codes, get_or, true}
-use Rattle.std.specs.Prelude.{◌%◌, false, length, nat_eq, nat_lt, replicate}
+use Rattle.std.specs.Prelude.{◌%◌, ◌-◌, false, length, nat_eq, nat_lt, replicate}
+use Rattle.std.specs.List.{before_first, after_first}
 use Rattle.std.specs.Prelude.{if◌then◌else◌, option_and_then, option_map, is_some, not, ◌&&◌, ◌||◌, ◌*◌, ◌==◌, take}
 use Rattle.std.specs.Option.{option_map_or, unwrap_or}
 use Rattle.std.specs.Str.{bytes_eq}
@@ -42,6 +43,11 @@ use Rattle.aes3_status_text.specs.declared.style.Notation.TheVariants as notatio
 use Rattle.aes3_status_text.specs.declared.style.Style.{Style}
 use Rattle.aes3_forms_samples.specs.declared.format.SampleFormat.{SampleFormat}
 use Rattle.aes3_forms_samples.specs.declared.format.SampleFormat.TheVariants as format
+use Rattle.aes3_wave.specs.declared.samples.Channels.{Channels}
+use Rattle.aes3_wave.specs.declared.samples.Mono.{Mono}
+use Rattle.aes3_wave.specs.declared.samples.Mono.TheVariants as mono
+use Rattle.aes3_wave.specs.declared.written.Depth.{Depth}
+use Rattle.aes3_wave.specs.declared.written.Depth.TheVariants.{Sixteen, TwentyFour, ThirtyTwo}
 use Rattle.aes3_forms_words.specs.declared.form.Words.{Words}
 use Rattle.aes3_forms_words.specs.declared.form.Words.TheVariants as word_form
 use Rattle.aes3_cli.specs.CommandLine.{command_line, most_cells, most_frames, most_seconds}
@@ -59,6 +65,7 @@ use Rattle.aes3_cli_arguments.specs.declared.misuse.Misuse.{Misuse}
 use Rattle.aes3_cli_arguments.specs.declared.misuse.Misuse.TheVariants.{TwoForms, NoCellsPacked, TwoPeriods, NoRate}
 use Rattle.aes3_cli_arguments.specs.declared.misuse.Misuse.TheVariants.{UnknownBits, UnknownFilling, FillsValidSamples, ExactAndOthers}
 use Rattle.aes3_cli_arguments.specs.declared.misuse.Misuse.TheVariants.{MarkedUnfilled}
+use Rattle.aes3_cli_arguments.specs.declared.misuse.Misuse.TheVariants.{UnknownDepth, UnknownUse, PresetBesideUse, UnknownChannels, UnknownMono}
 use Rattle.aes3_cli_arguments.specs.declared.preset.Beginning.{Beginning}
 use Rattle.aes3_cli_arguments.specs.declared.preset.Beginning.TheVariants.{OfEachBlock, Unclaimed}
 use Rattle.aes3_cli_arguments.specs.declared.misuse.Misuse.TheVariants.{TwoDetails, UnknownWords, UnknownFormat, UnknownPreset, UnknownRate}
@@ -222,6 +229,77 @@ or_s32 None = format.S32
 
 abbrev pub format_by : Options → SampleFormat
 format_by options = or_s32 (format_named options)
+
+-- the width of the samples of a WAV file by its name, and the one that the options give them: 24 bits where none is
+-- named
+abbrev pub depth_in : Text → Option Depth
+depth_in text = if bytes_eq text (codes "16") then Some Sixteen
+    else if bytes_eq text (codes "24") then Some TwentyFour
+    else if bytes_eq text (codes "32") then Some ThirtyTwo
+    else None
+
+abbrev pub depth_named : Options → Option Depth
+depth_named options = option_and_then depth_in (first_of (codes "bits") options)
+
+abbrev pub or_24 : Option Depth → Depth
+or_24 (Some depth) = depth
+or_24 None = TwentyFour
+
+abbrev pub depth_by : Options → Depth
+depth_by options = or_24 (depth_named options)
+
+-- whether the use of this name is professional, and the one for which the options ask a status of a header: consumer use
+-- where none is named
+abbrev pub use_in : Text → Option Bool
+use_in text = if bytes_eq text (codes "consumer") then Some false
+    else if bytes_eq text (codes "professional") then Some true
+    else None
+
+abbrev pub use_named : Options → Option Bool
+use_named options = option_and_then use_in (first_of (codes "use") options)
+
+abbrev pub or_consumer : Option Bool → Bool
+or_consumer (Some professional) = professional
+or_consumer None = false
+
+abbrev pub is_professional : Options → Bool
+is_professional options = or_consumer (use_named options)
+
+-- which channels the only one of a WAV file is for by this name, and by the options: both where none are named
+abbrev pub mono_in : Text → Option Mono
+mono_in text = if bytes_eq text (codes "both") then Some mono.Both
+    else if bytes_eq text (codes "first") then Some mono.First
+    else None
+
+abbrev pub mono_named : Options → Option Mono
+mono_named options = option_and_then mono_in (first_of (codes "mono") options)
+
+abbrev pub or_both : Option Mono → Mono
+or_both (Some named) = named
+or_both None = mono.Both
+
+abbrev pub mono_by : Options → Mono
+mono_by options = or_both (mono_named options)
+
+-- the channel that has this number, from 1 on
+abbrev pub channel_in : Text → Option ℕ
+channel_in text = if is_unsigned_in 1 65535 text
+    then Some (digits_value 10 (without_leading_plus text) - 1) else None
+
+-- the channels whose numbers a text has, a comma between them
+abbrev pub channels_of_two : Option ℕ → Option ℕ → Option Channels
+channels_of_two (Some first) (Some second) = Some (record { first = first; second = Some second })
+channels_of_two (Some first) None = None
+channels_of_two None second = None
+
+abbrev pub is_comma : ℕ → Bool
+is_comma byte = byte == 44
+
+abbrev pub channels_in : Text → Option Channels
+channels_in text = channels_of_two (channel_in (before_first is_comma text)) (channel_in (after_first is_comma text))
+
+abbrev pub channels_by : Options → Option Channels
+channels_by options = option_and_then channels_in (first_of (codes "channels") options)
 
 -- the number of a channel
 abbrev pub number_of : Channel → ℕ
@@ -424,6 +502,8 @@ AsksToRead name options (read.ToExactPcm pcm) =
 AsksToRead name options (read.ToFilledPcm pcm fill marked) =
     (name ≡ codes "to-pcm") × (pcm ≡ format_by options) × (fill_by options ≡ Some fill)
     × (marked ≡ is_set options (codes "marked"))
+AsksToRead name options (read.ToWav depth rate) =
+    (name ≡ codes "to-wav") × (depth ≡ depth_by options) × (rate ≡ rate_by options)
 AsksToRead name options (read.ToBits bits channel) =
     (name ≡ codes "to-bits") × (bits_by options ≡ Some bits)
     × IsNumber options (codes "CHANNEL") (number_of channel)
@@ -439,6 +519,9 @@ AsksFor name options (job.FromPcm pcm exact change form) =
     (name ≡ codes "from-pcm") × (pcm ≡ format_by options) × (exact ≡ is_set options (codes "exact"))
     × IsSampleChange options change × (form ≡ words_by options)
     × (exact ≡ true → takes_change change ≡ true)
+AsksFor name options (job.FromWav channels single exact professional change form) =
+    (name ≡ codes "from-wav") × (channels ≡ channels_by options) × (single ≡ mono_by options) × (exact ≡ is_set options (codes "exact"))
+    × (professional ≡ is_professional options) × IsChange OfEachBlock options change × (form ≡ words_by options)
 
 -- the definitions take the words, and the command that stands in them asks for the job
 abbrev pub IsLineOf : List Text → Job → Type 0
@@ -520,6 +603,30 @@ abbrev pub has_unknown_rate : Options → Bool
 has_unknown_rate options =
     option_map_or (λ text. not (is_some (rate_in text))) (first_of (codes "hz") options) false
 
+-- a width is named that there is none of
+abbrev pub has_unknown_depth : Options → Bool
+has_unknown_depth options =
+    option_map_or (λ text. not (is_some (depth_in text))) (first_of (codes "bits") options) false
+
+-- a use is named that there is none of
+abbrev pub has_unknown_use : Options → Bool
+has_unknown_use options =
+    option_map_or (λ text. not (is_some (use_in text))) (first_of (codes "use") options) false
+
+-- a use is named for the status that a header asks for, and a preset gives another status
+abbrev pub has_preset_beside_use : Options → Bool
+has_preset_beside_use options = is_some (use_named options) && is_some (preset_by options)
+
+-- channels are chosen by a text that names no two of them
+abbrev pub has_unknown_channels : Options → Bool
+has_unknown_channels options =
+    option_map_or (λ text. not (is_some (channels_in text))) (first_of (codes "channels") options) false
+
+-- channels are named for the only one that there are none of
+abbrev pub has_unknown_mono : Options → Bool
+has_unknown_mono options =
+    option_map_or (λ text. not (is_some (mono_in text))) (first_of (codes "mono") options) false
+
 -- what is wrong with options, of more the first
 abbrev pub misuse_by : Options → Option Misuse
 misuse_by options =
@@ -537,6 +644,11 @@ misuse_by options =
     else if has_unknown_format options then Some UnknownFormat
     else if has_unknown_preset options then Some UnknownPreset
     else if has_unknown_rate options then Some UnknownRate
+    else if has_unknown_depth options then Some UnknownDepth
+    else if has_unknown_use options then Some UnknownUse
+    else if has_preset_beside_use options then Some PresetBesideUse
+    else if has_unknown_channels options then Some UnknownChannels
+    else if has_unknown_mono options then Some UnknownMono
     else None
 
 -- ---- settings as they were typed
@@ -644,7 +756,7 @@ TellsABadSetting options usage text =
 
 -- the commands that take the status of a channel
 abbrev pub TakesStatus : Text → Type 0
-TakesStatus name = (name ≡ codes "rewrite") ⊎ (name ≡ codes "from-pcm")
+TakesStatus name = (name ≡ codes "rewrite") ⊎ ((name ≡ codes "from-pcm") ⊎ (name ≡ codes "from-wav"))
 
 -- how they are called
 abbrev pub rewrite_usage : Text
@@ -653,11 +765,15 @@ rewrite_usage = codes "aes3 rewrite [OPTIONS] [FILE] > CELLS"
 abbrev pub from_pcm_usage : Text
 from_pcm_usage = codes "aes3 from-pcm [OPTIONS] [FILE] > BLOCKFILE"
 
+abbrev pub from_wav_usage : Text
+from_wav_usage = codes "aes3 from-wav [OPTIONS] [FILE] > BLOCKFILE"
+
 -- one of their options is a setting that is none, and this text tells why
 abbrev pub TellsABadOption : Text → Options → Text → Type 0
 TellsABadOption name options text =
     ((name ≡ codes "rewrite") × TellsABadSetting options rewrite_usage text)
-    ⊎ ((name ≡ codes "from-pcm") × TellsABadSetting options from_pcm_usage text)
+    ⊎ (((name ≡ codes "from-pcm") × TellsABadSetting options from_pcm_usage text)
+    ⊎ ((name ≡ codes "from-wav") × TellsABadSetting options from_wav_usage text))
 
 -- the line that says what is wrong with options
 abbrev pub misuse_line : Misuse → Text
@@ -679,6 +795,14 @@ misuse_line UnknownWords =
 misuse_line UnknownPreset =
     codes "error: invalid value for '--preset <consumer|professional>': it is 'consumer' or 'professional'"
 misuse_line UnknownRate = codes "error: invalid value for '--rate <HZ>': a status tells 22050, 24000, 32000, 44100, 48000, 88200, 96000, 176400, 192000 or 768000, also as 48k"
+misuse_line UnknownDepth = codes "error: invalid value for '--bits <16|24|32>': it is '16', '24' or '32'"
+misuse_line UnknownUse =
+    codes "error: invalid value for '--use <consumer|professional>': it is 'consumer' or 'professional'"
+misuse_line PresetBesideUse = codes
+    "error: the argument '--use <consumer|professional>' cannot be used with '--preset <consumer|professional>'"
+misuse_line UnknownChannels = codes
+    "error: invalid value for '--channels <A,B>': it is two numbers from 1 on with a comma between them, as '1,2'"
+misuse_line UnknownMono = codes "error: invalid value for '--mono <both|first>': it is 'both' or 'first'"
 misuse_line UnknownFormat =
     codes "error: invalid value for '--pcm <s32|s24|s24in32|s16>': it is 's32', 's24', 's24in32' or 's16'"
 
@@ -768,7 +892,8 @@ IsSampleFaultOf options told = IsChangeFaultOf options from_pcm_usage told
 abbrev pub IsBadOptionOf : Text → Options → LineFault → Type 0
 IsBadOptionOf name options told =
     ((name ≡ codes "rewrite") × IsChangeFaultOf options rewrite_usage told)
-    ⊎ ((name ≡ codes "from-pcm") × IsSampleFaultOf options told)
+    ⊎ (((name ≡ codes "from-pcm") × IsSampleFaultOf options told)
+    ⊎ ((name ≡ codes "from-wav") × IsChangeFaultOf options from_wav_usage told))
 
 -- what is told of options of the command of this name that are misused; or memory was refused
 abbrev pub TellsMisuse : Text → Misuse → LineFault → Type 0

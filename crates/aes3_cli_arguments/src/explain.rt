@@ -9,7 +9,7 @@ use itoa::Buffer;
 use std::alloc::{AllocError, Global};
 
 /// How many refusals there are.
-const REFUSALS: u8 = 13;
+const REFUSALS: u8 = 15;
 
 /// The word that asks for them.
 const EXPLAIN: &str = "--explain";
@@ -18,7 +18,7 @@ const EXPLAIN: &str = "--explain";
 const EXPLAIN_NUMBER: &str = "--explain=";
 
 /// What is told of words behind it that are no number of a refusal.
-const UNKNOWN: &str = "error: the refusals have the numbers 1 to 13
+const UNKNOWN: &str = "error: the refusals have the numbers 1 to 15
 
 Usage: aes3 --explain [NUMBER]
 
@@ -43,10 +43,14 @@ pub fn advice(number: u8) -> &'static str
             "the last octet counts the unused cells before it, 0 to 7, and these are 0: `printf '\\0' >> FILE` adds it where there are none",
         11 =>
             "leave `--exact` out to drop them, or make samples of 24 bits first (`sox IN -b 24 OUT`)",
-        12 => "`sox FILE -t s32 -c 2 - | aes3 from-pcm` takes its samples",
+        12 =>
+            "`aes3 from-wav` reads a WAV file; of another `sox FILE -t s32 -c 2 - | aes3 from-pcm` takes the samples",
         13 => {
             "leave `--exact` out to drop them, or set first what gives the setting its code (`greatest=24` before `word=24`)"
         }
+        14 =>
+            "`sox FILE -b 24 -e signed NEW.wav` writes a WAV file that can be read, of most that can't",
+        15 => "`--channels` takes two of its channels, from 1 on, as `--channels 1,1`",
         _ => "",
     }
 }
@@ -71,6 +75,8 @@ fn wrong(number: u8) -> &'static str {
         13 => {
             "with `--exact`, the block that begins at cell PLACE would lose bits of its samples, or leaves out a setting"
         }
+        14 => "the header of a WAV file is wrong at octet PLACE, or its samples are not PCM",
+        15 => "the WAV file has PLACE channels, and not one that `--channels` names",
         _ => "",
     }
 }

@@ -23,6 +23,7 @@ use crate::style::notation;
 use crate::typed::texts_for;
 use crate::value::{bit, flag, number};
 use crate::watch::watch;
+use crate::wave::{channels, is_professional, mono, to_wav};
 use crate::words::words;
 use aes3_cell::{Form, RunError};
 use aes3_cli::help;
@@ -107,6 +108,11 @@ pub(crate) fn job_of_command(
             work: to_pcm(options),
         }),
         "from-pcm" => from_pcm(alloc, options),
+        "to-wav" => Ok(Job::Read {
+            input,
+            work: to_wav(options),
+        }),
+        "from-wav" => from_wav(alloc, options),
         "cut" => Ok(Job::Stream {
             input,
             output,
@@ -206,6 +212,23 @@ fn sampling(options: &ArgMatches<'_>, change: Change) -> Result<Job, LineFault>
     })
 }
 
+/// The job of `from-wav` with its options. Where no option gives a status, the header does.
+fn from_wav(alloc: Global, options: &ArgMatches<'_>) -> Result<Job, LineFault>
+    requires { AreTaken (options_of options.now) }
+    ensures job { IfOk result (AsksFor (codes "from-wav") (options_of options.now)) }
+    ensures fault { IfErr result (IsBadOptionOf (codes "from-wav") (options_of options.now)) }
+{
+    let change = change(alloc, options, Beginning::OfEachBlock, help::FROM_WAV.usage)?;
+    Ok(Job::FromWav {
+        channels: channels(options),
+        mono: mono(options),
+        exact: flag(options, "exact"),
+        professional: is_professional(options),
+        change,
+        words: words(options),
+    })
+}
+
 /// Whether the status that a channel is given takes all that is set of it.
 fn takes_settings(status: &Option<[u8; 24]>, settings: &Option<Settings>) -> bool
     ensures { result ≡ takes_settings status.now settings.now }
@@ -247,7 +270,7 @@ fn rewrite(
     })
 }
 
-/// The change that the options of `rewrite` and `from-pcm` ask for, where a channel without another
+/// The change that the options of `rewrite`, `from-pcm` and `from-wav` ask for, where a channel without another
 /// status begins so; `usage` says how the command is called. A text that is no setting is told before
 /// a status that is none.
 fn change(

@@ -38,6 +38,8 @@ mod typed;
 mod value;
 /// What `watch` does.
 mod watch;
+/// What `to-wav` and `from-wav` do.
+mod wave;
 /// The form of a block file's words.
 mod words;
 

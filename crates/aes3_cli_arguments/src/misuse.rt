@@ -15,6 +15,10 @@ use crate::preset::has_unknown_preset;
 use crate::samples::{fill, has_unknown_filling};
 use crate::style::rate;
 use crate::value::{flag, number_if_given};
+use crate::wave::{
+    has_preset_beside_use, has_unknown_channels, has_unknown_depth, has_unknown_mono,
+    has_unknown_use,
+};
 use crate::words::has_unknown_words;
 use aes3_cell::RunError;
 use aes3_cli::wording::{add_usage, usage_of};
@@ -50,8 +54,18 @@ pub(crate) enum Misuse {
     UnknownFormat,
     /// `--preset` of a use that there is none of.
     UnknownPreset,
-    /// `--rate` of `from-pcm` with a frequency that no status tells.
+    /// `--rate` of `from-pcm` or `from-wav` with a frequency that no status tells.
     UnknownRate,
+    /// `--bits` of `to-wav` with a width that there is none of.
+    UnknownDepth,
+    /// `--use` with what there is none of.
+    UnknownUse,
+    /// `--use` beside `--preset`.
+    PresetBesideUse,
+    /// `--channels` with a text that names no two channels.
+    UnknownChannels,
+    /// `--mono` with what there is none of.
+    UnknownMono,
 }
 
 /// What is wrong with the options, the first of it where there is more.
@@ -87,6 +101,16 @@ pub(crate) fn misuse_of_options(options: &ArgMatches<'_>) -> Option<Misuse>
         Some(Misuse::UnknownPreset)
     } else if has_unknown_rate(options) {
         Some(Misuse::UnknownRate)
+    } else if has_unknown_depth(options) {
+        Some(Misuse::UnknownDepth)
+    } else if has_unknown_use(options) {
+        Some(Misuse::UnknownUse)
+    } else if has_preset_beside_use(options) {
+        Some(Misuse::PresetBesideUse)
+    } else if has_unknown_channels(options) {
+        Some(Misuse::UnknownChannels)
+    } else if has_unknown_mono(options) {
+        Some(Misuse::UnknownMono)
     } else {
         None
     }
@@ -228,6 +252,21 @@ fn misuse_line(misuse: Misuse) -> &'static str
         }
         Misuse::UnknownRate => {
             "error: invalid value for '--rate <HZ>': a status tells 22050, 24000, 32000, 44100, 48000, 88200, 96000, 176400, 192000 or 768000, also as 48k"
+        }
+        Misuse::UnknownDepth => {
+            "error: invalid value for '--bits <16|24|32>': it is '16', '24' or '32'"
+        }
+        Misuse::UnknownUse => {
+            "error: invalid value for '--use <consumer|professional>': it is 'consumer' or 'professional'"
+        }
+        Misuse::PresetBesideUse => {
+            "error: the argument '--use <consumer|professional>' cannot be used with '--preset <consumer|professional>'"
+        }
+        Misuse::UnknownChannels => {
+            "error: invalid value for '--channels <A,B>': it is two numbers from 1 on with a comma between them, as '1,2'"
+        }
+        Misuse::UnknownMono => {
+            "error: invalid value for '--mono <both|first>': it is 'both' or 'first'"
         }
         Misuse::UnknownFormat => {
             "error: invalid value for '--pcm <s32|s24|s24in32|s16>': it is 's32', 's24', 's24in32' or 's16'"

@@ -4,8 +4,8 @@ use Rattle.std.specs.Prelude.{IsTrue}
 use Rattle.std.specs.List.{list_any}
 use Rattle.std.specs.Str.{bytes_eq}
 use Rattle.aes3_cell.specs.Ends.{Grew}
-use Rattle.aes3_cell.specs.declared.refusal.RunError.{RunError}
-use Rattle.aes3_cell.specs.Refusals.{number_of}
+use Rattle.aes3_cli_jobs.specs.Refusals.{number_of_refusal}
+use Rattle.aes3_cli_jobs.specs.declared.refusal.Refusal.{Refusal}
 use Rattle.aes3_cli_arguments.specs.Explained.{advice_of}
 use Rattle.aes3_cli_hints.specs.declared.hints.Terminals.{Terminals}
 use Rattle.aes3_cli_jobs.specs.Forms.{writes_packed}
@@ -25,7 +25,7 @@ greeting terminals job = reads_hint terminals.input ++ writes_hint terminals.out
 
 -- what can be told to do by what an input looks like, or where it is a file
 abbrev pub told_texts : List (List ℕ)
-told_texts = codes "this is a WAV file: `sox FILE -t s32 -c 2 - | aes3 from-pcm` takes its samples"
+told_texts = codes "this is a WAV file: `aes3 from-wav` makes a block file of it"
     ∷ codes "this is an AIFF file: `sox FILE -t s32 -c 2 - | aes3 from-pcm` takes its samples"
     ∷ codes "this is a Wave64 file: `sox FILE -t s32 -c 2 - | aes3 from-pcm` takes its samples"
     ∷ codes "this is a FLAC file: `sox FILE -t s32 -c 2 - | aes3 from-pcm` takes its samples"
@@ -49,6 +49,8 @@ told_texts = codes "this is a WAV file: `sox FILE -t s32 -c 2 - | aes3 from-pcm`
     ∷ codes "these look like samples of 24 bits in 3 bytes: try `--pcm s24`"
     ∷ codes "these look like samples of 24 bits in 4 bytes: try `--pcm s24in32`"
     ∷ codes "these look like samples of 32 bits: leave `--pcm` out"
+    ∷ codes "the file is cut short: fetch or write it again"
+    ∷ codes "are these samples alone? `aes3 from-pcm` takes them"
     ∷ codes "the input is empty"
     ∷ codes "these are cells as text: leave `--packed-in` out"
     ∷ codes "these are cells as text: `aes3 decode` makes a block file of them"
@@ -63,7 +65,7 @@ pub record ExplainedBy (advice : List ℕ) (old new : Option (List ℕ)) : Type 
   pub sentence : Grew old new (codes "aes3: " ++ what ++ advice ++ 10 ∷ [])
 
 -- with the advice that is always told of this refusal, or with one of these
-pub record Explained (error : RunError) (old new : Option (List ℕ)) : Type 0 where
+pub record Explained (error : Refusal) (old new : Option (List ℕ)) : Type 0 where
   pub advice : List ℕ
-  pub fits : (advice ≡ advice_of (number_of error)) ⊎ IsTrue (is_told advice)
+  pub fits : (advice ≡ advice_of (number_of_refusal error)) ⊎ IsTrue (is_told advice)
   pub told : ExplainedBy advice old new

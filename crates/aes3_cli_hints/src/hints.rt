@@ -2,17 +2,18 @@
 
 ghost use Rattle.std.specs.Prelude.{◌≡◌, ◌<◌, ◌≤◌, ◌||◌, IfSome, IsFalse, IsTrue, None, Some, length, not};
 ghost use Rattle.aes3_cell.specs.Ends.{Grew};
-ghost use Rattle.aes3_cell.specs.Refusals.{number_of};
 ghost use Rattle.aes3_cli_arguments.specs.Explained.{advice_of};
 ghost use Rattle.aes3_cli_hints.specs.Sentences.{Explained, ExplainedBy, greeting, is_told, reads_hint};
 ghost use Rattle.aes3_cli_hints.specs.Sentences.{writes_hint};
 ghost use Rattle.aes3_cli_jobs.specs.Hearing.{Hearing};
+ghost use Rattle.aes3_cli_jobs.specs.Refusals.{number_of_refusal};
 
-use crate::looks::{advice_by_looks, advice_on_taken};
+use crate::looks::{advice_by_looks, advice_on_taken, reads_wave};
 use crate::watched::{Position, Watched};
+use crate::wrong::wrong_of;
 use aes3_cell::{RunError, Sink, Source, write_all};
 use aes3_cli_arguments::{CommandLine, LineFault, advice, status_of_text};
-use aes3_cli_jobs::{Job, Observer};
+use aes3_cli_jobs::{Job, Observer, Refusal};
 use aes3_cli_progress::{Course, Progress, Unit};
 use aes3_files::FileKind;
 use std::alloc::Global;
@@ -49,7 +50,7 @@ pub struct Hints<T: Drop> {
     terminals: Terminals,
     names_file: bool,
     job: Option<Job>,
-    refusal: Option<RunError>,
+    refusal: Option<Refusal>,
 }
 
 impl<T: Sink + Drop> Hints<T> {
@@ -108,7 +109,7 @@ impl<T: Sink + Drop> Hints<T> {
         ensures no_file { len ≡ None → result.course ≡ None }
     {
         let course = match (self.terminals.errors, len, line) {
-            (true, Some(len), Ok(line)) => Course::new(&clock, len, unit_of(&line.job)),
+            (true, Some(len), Ok(line)) => course_of(&clock, len, &line.job),
             _ => None,
         };
         Progress::new(self.alloc, clock, source, sink, shown, course)
@@ -131,17 +132,24 @@ impl<T: Sink + Drop> Hints<T> {
         ensures job { self.new.job ≡ self.old.job }
     {
         if !self.terminals.errors {
-            self.tell_looks(words, source);
+            match self.refusal {
+                Some(error) if is_of_wave(error) => self.hint_refusal(error, source),
+                _ => self.tell_looks(words, source),
+            }
             return;
         }
         match (self.refusal, file) {
-            (Some(RunError::Read), Some(name)) => {
-                self.tell_refusal(RunError::Read, Some(Place::File(name)), Some(UNREAD));
+            (Some(Refusal::Run(RunError::Read)), Some(name)) => {
+                self.tell_refusal(
+                    Refusal::Run(RunError::Read),
+                    Some(Place::File(name)),
+                    Some(UNREAD),
+                );
             }
             (Some(error), _) => {
                 let looks = FileKind::of(source.first());
                 let told = advice_by_looks(error, self.job, source.head(), source.first());
-                self.tell_refusal(error, place_of(error, words, source, looks), told);
+                self.tell_refusal(error, place_of(error, self.job, words, source, looks), told);
             }
             (None, _) => self.tell_looks(words, source),
         }
@@ -152,7 +160,7 @@ impl<T: Sink + Drop> Hints<T> {
         ensures silent { IsFalse self.old.terminals.errors
             → T.taken self.new.sink ≡ T.taken self.old.sink }
         ensures told { IsTrue self.old.terminals.errors → T.failed self.new.sink ≡ 0
-            → IfSome self.old.refusal (λ error. ExplainedBy (advice_of (number_of error))
+            → IfSome self.old.refusal (λ error. ExplainedBy (advice_of (number_of_refusal error))
             (T.taken self.old.sink) (T.taken self.new.sink)) }
     {
         if let Some(error) = self.refusal {
@@ -162,12 +170,7 @@ impl<T: Sink + Drop> Hints<T> {
 
     /// Tells what was refused, where, and what to do: this, if it is known, or what is always told
     /// of this refusal.
-    fn tell_refusal(
-        &mut self,
-        error: RunError,
-        place: Option<Place<'_>>,
-        told: Option<&'static str>,
-    )
+    fn tell_refusal(&mut self, error: Refusal, place: Option<Place<'_>>, told: Option<&'static str>)
         requires { IfSome told (λ told. IsTrue (is_told told.now)) }
         ensures silent { IsFalse self.old.terminals.errors
             → T.taken self.new.sink ≡ T.taken self.old.sink }
@@ -183,7 +186,7 @@ impl<T: Sink + Drop> Hints<T> {
 
     /// Tells what was refused, where, and this advice. Where memory is refused it tells the advice
     /// alone.
-    fn tell_advice(&mut self, error: RunError, place: Option<Place<'_>>, advice: &str)
+    fn tell_advice(&mut self, error: Refusal, place: Option<Place<'_>>, advice: &str)
         ensures silent { IsFalse self.old.terminals.errors
             → T.taken self.new.sink ≡ T.taken self.old.sink }
         ensures told { IsTrue self.old.terminals.errors → T.failed self.new.sink ≡ 0
@@ -208,6 +211,21 @@ impl<T: Sink + Drop> Hints<T> {
             self.hint(told);
             self.hint("\n");
         }
+    }
+
+    /// Tells what of a WAV file was refused, where, and what to do.
+    fn hint_refusal<S: Source + Drop>(&mut self, error: Refusal, source: &Watched<S>)
+        ensures silent { IsFalse (self.old.terminals.errors || self.old.names_file)
+            → T.taken self.new.sink ≡ T.taken self.old.sink }
+        ensures terminals { self.new.terminals ≡ self.old.terminals }
+        ensures job { self.new.job ≡ self.old.job }
+    {
+        let told = advice_by_looks(error, self.job, source.head(), source.first());
+        let what = refused_text(self.alloc, error, None).unwrap_or(String::new(self.alloc));
+        self.hint("aes3: ");
+        self.hint(&what);
+        self.hint(told.unwrap_or(advice(error.number())));
+        self.hint("\n");
     }
 
     /// Tells a text, where standard error is a terminal or a file is named.
@@ -245,7 +263,22 @@ impl<T: Sink + Drop> Hints<T> {
 const UNREAD: &str = "is there such a file, may you read it, and is it no folder?";
 
 /// What was refused, and where. Where memory for it is refused there is none.
-fn refused_text(alloc: Global, error: RunError, place: Option<Place<'_>>) -> Option<String> {
+fn refused_text(alloc: Global, error: Refusal, place: Option<Place<'_>>) -> Option<String> {
+    match error {
+        Refusal::Run(error) => run_text(alloc, error, place),
+        Refusal::Header(error) => wrong_of(alloc, error),
+        Refusal::NoChannel { channels: 1 } => Some(String::from_str(alloc, ONE_CHANNEL).ok()?),
+        Refusal::NoChannel { channels } => {
+            format!(in alloc; "the WAV file has {channels} channels: ").ok()
+        }
+    }
+}
+
+/// What was refused where a WAV file has one channel.
+const ONE_CHANNEL: &str = "the WAV file has 1 channel: ";
+
+/// What of a run was refused, and where.
+fn run_text(alloc: Global, error: RunError, place: Option<Place<'_>>) -> Option<String> {
     let text = match place {
         Some(Place::Byte(Position { line, column })) => {
             format!(in alloc; "{error} (line {line}, column {column}): ")
@@ -262,7 +295,7 @@ fn refused_text(alloc: Global, error: RunError, place: Option<Place<'_>>) -> Opt
 /// What to do with an input that looks like another kind than it was taken for, which was refused so
 /// or taken.
 fn looks_of<S: Source + Drop>(
-    refusal: Option<RunError>,
+    refusal: Option<Refusal>,
     job: Option<Job>,
     words: &[&str],
     source: &Watched<S>,
@@ -272,6 +305,11 @@ fn looks_of<S: Source + Drop>(
         (None, Some(job)) => advice_on_taken(&job, words, source.head(), source.first()),
         (None, None) => None,
     }
+}
+
+/// Whether a WAV file was refused for its header or its channels.
+fn is_of_wave(error: Refusal) -> bool {
+    matches!(error, Refusal::Header(_) | Refusal::NoChannel { .. })
 }
 
 /// Where a refusal stands, as a person looks for it.
@@ -289,15 +327,17 @@ enum Place<'a> {
 
 /// Where to look for what was refused.
 fn place_of<S: Source + Drop>(
-    error: RunError,
+    error: Refusal,
+    job: Option<Job>,
     words: &[&str],
     source: &Watched<S>,
     looks: FileKind,
 ) -> Option<Place<'static>> {
+    let is_sound = matches!(looks, FileKind::Sound(_)) && !reads_wave(job);
     match error {
-        RunError::BadSample { .. } if matches!(looks, FileKind::Sound(_)) => Some(Place::SoundFile),
-        RunError::BadCell { at } => Some(Place::Byte(source.position(at)?)),
-        RunError::BadStatusText => Some(Place::Option(bad_status_option(words)?)),
+        Refusal::Run(RunError::BadSample { .. }) if is_sound => Some(Place::SoundFile),
+        Refusal::Run(RunError::BadCell { at }) => Some(Place::Byte(source.position(at)?)),
+        Refusal::Run(RunError::BadStatusText) => Some(Place::Option(bad_status_option(words)?)),
         _ => None,
     }
 }
@@ -334,11 +374,13 @@ fn text_of_option<'a>(words: &[&'a str], at: usize, name: &str) -> Option<&'a st
     }
 }
 
-/// What makes a block of the job's input.
-fn unit_of(job: &Job) -> Unit {
-    match job.block_len() {
-        Some(len) => Unit::Bytes(len),
-        None => Unit::Cells,
+/// How far a file of so many bytes has been read by a job; of a WAV file none is told, since what makes a
+/// block of it is not known before its header.
+fn course_of<C: Clock>(clock: &C, len: u64, job: &Job) -> Option<Course> {
+    match (job, job.block_len()) {
+        (Job::FromWav { .. }, _) => None,
+        (_, Some(block_len)) => Course::new(clock, len, Unit::Bytes(block_len)),
+        (_, None) => Course::new(clock, len, Unit::Cells),
     }
 }
 
@@ -393,7 +435,7 @@ impl<T: Sink + Drop> Observer for Hints<T> {
         self.tell(writes_hint(self.terminals.output, job));
     }
 
-    fn refused(&mut self, error: RunError)
+    fn refused(&mut self, error: Refusal)
         ensures told { T.taken self.new.sink ≡ T.taken self.old.sink }
         ensures same { not (self.new.terminals.errors || self.new.names_file)
             ≡ not (self.old.terminals.errors || self.old.names_file) }

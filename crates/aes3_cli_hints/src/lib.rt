@@ -9,6 +9,8 @@ mod looks;
 mod watched;
 /// Whether samples look like those of another form.
 mod widths;
+/// What is wrong with the header of a WAV file.
+mod wrong;
 
 pub use hints::{Hints, Terminals};
 pub use watched::Watched;

@@ -6,17 +6,17 @@ ghost use Rattle.aes3_cli_hints.specs.Sentences.{is_told};
 use crate::watched::HEAD_LEN;
 use crate::widths::advice_on_width;
 use aes3_cell::{Form, RunError};
-use aes3_cli_jobs::{Job, ReadWork};
+use aes3_cli_jobs::{Job, ReadWork, Refusal};
 use aes3_files::{FileKind, SoundFile, are_packed, are_turned};
 use aes3_forms_samples::SampleFormat;
+use aes3_wave::{Cause, HeaderError};
 
 /// What to do with a sound file.
 fn advice_on_sound(sound: SoundFile) -> &'static str
     ensures { IsTrue (is_told result.now) }
 {
     match sound {
-        SoundFile::Wave =>
-            "this is a WAV file: `sox FILE -t s32 -c 2 - | aes3 from-pcm` takes its samples",
+        SoundFile::Wave => "this is a WAV file: `aes3 from-wav` makes a block file of it",
         SoundFile::Aiff =>
             "this is an AIFF file: `sox FILE -t s32 -c 2 - | aes3 from-pcm` takes its samples",
         SoundFile::Wave64 =>
@@ -39,6 +39,63 @@ fn advice_on_sound(sound: SoundFile) -> &'static str
 
 /// What to do about this refusal of an input that begins so, if its looks tell.
 pub(crate) fn advice_by_looks(
+    refusal: Refusal,
+    job: Option<Job>,
+    head: &[u8],
+    first: &[u8],
+) -> Option<&'static str>
+    ensures { IfSome result (λ told. IsTrue (is_told told.now)) }
+{
+    match refusal {
+        Refusal::Run(error) if !reads_wave(job) => advice_on_run(error, job, head, first),
+        Refusal::Header(error) => advice_on_header(error, FileKind::of(first)),
+        _ => None,
+    }
+}
+
+/// Whether the job reads a WAV file.
+pub(crate) fn reads_wave(job: Option<Job>) -> bool {
+    matches!(job, Some(Job::FromWav { .. }))
+}
+
+/// What to do about this refusal of the header of a file of this kind, if that tells.
+fn advice_on_header(error: HeaderError, looks: FileKind) -> Option<&'static str>
+    ensures { IfSome result (λ told. IsTrue (is_told told.now)) }
+{
+    match error.cause {
+        Cause::Ended => advice_on_end(looks),
+        Cause::NotRiff | Cause::NotWave => advice_on_no_wave(looks),
+        _ => None,
+    }
+}
+
+/// The same of a file that ends in its header.
+fn advice_on_end(looks: FileKind) -> Option<&'static str>
+    ensures { IfSome result (λ told. IsTrue (is_told told.now)) }
+{
+    match looks {
+        FileKind::Empty => Some("the input is empty"),
+        FileKind::Sound(SoundFile::Wave) => Some("the file is cut short: fetch or write it again"),
+        _ => None,
+    }
+}
+
+/// The same of a file that is no WAV file.
+fn advice_on_no_wave(looks: FileKind) -> Option<&'static str>
+    ensures { IfSome result (λ told. IsTrue (is_told told.now)) }
+{
+    match looks {
+        FileKind::Sound(sound) => Some(advice_on_sound(sound)),
+        FileKind::CellText => {
+            Some("these are cells as text: `aes3 decode` makes a block file of them")
+        }
+        FileKind::Octets => Some("are these samples alone? `aes3 from-pcm` takes them"),
+        _ => advice_on_other(RunError::SoundHeader, looks),
+    }
+}
+
+/// What to do about this refusal of a run over an input that begins so, if its looks tell.
+fn advice_on_run(
     error: RunError,
     job: Option<Job>,
     head: &[u8],

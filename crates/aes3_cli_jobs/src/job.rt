@@ -8,6 +8,7 @@ use aes3_cell::Form;
 use aes3_forms_samples::SampleFormat;
 use aes3_forms_words::Words;
 use aes3_status::Change;
+use aes3_wave::{Channels, Mono};
 
 /// How many bytes of a block file make a block: 384 words of four.
 const BLOCK_FILE_LEN: u64 = 1536;
@@ -42,6 +43,17 @@ pub enum Job {
         change: Change,
         words: Words,
     },
+    /// Two channels of a WAV file to a block file, the first two where none are chosen, or the only one as
+    /// `mono` says; where `exact`, of 24 bits alone. The channel status says what the header does, for consumer or professional
+    /// use, where the change gives none; the words have this form.
+    FromWav {
+        channels: Option<Channels>,
+        mono: Mono,
+        exact: bool,
+        professional: bool,
+        change: Change,
+        words: Words,
+    },
 }
 
 /// How many bytes of cells in this form make a block; none of text, whose line ends don't count.
@@ -61,7 +73,7 @@ impl Job {
     {
         match self {
             Job::Stream { input, .. } | Job::Read { input, .. } => matches!(input, Form::Packed),
-            Job::Encode { .. } | Job::FromPcm { .. } => false,
+            Job::Encode { .. } | Job::FromPcm { .. } | Job::FromWav { .. } => false,
         }
     }
 
@@ -73,11 +85,12 @@ impl Job {
             Job::Encode { output, .. } | Job::Stream { output, .. } => {
                 matches!(output, Form::Packed)
             }
-            Job::Read { .. } | Job::FromPcm { .. } => false,
+            Job::Read { .. } | Job::FromPcm { .. } | Job::FromWav { .. } => false,
         }
     }
 
-    /// How many bytes of its input make a block; none of cells as text.
+    /// How many bytes of its input make a block; none of cells as text, and of a WAV file, whose header says
+    /// that.
     pub fn block_len(&self) -> Option<u64>
         ensures { result ≡ block_len self.now }
     {
@@ -85,6 +98,7 @@ impl Job {
             Job::Encode { .. } => Some(BLOCK_FILE_LEN),
             Job::Stream { input, .. } | Job::Read { input, .. } => cells_len(*input),
             Job::FromPcm { format, .. } => Some(format.block_len() as u64),
+            Job::FromWav { .. } => None,
         }
     }
 
@@ -95,7 +109,8 @@ impl Job {
     {
         match self {
             Job::Read { work, .. } => work.finds_faults(),
-            Job::Encode { .. } | Job::Stream { .. } | Job::FromPcm { .. } => false,
+            Job::Encode { .. } | Job::Stream { .. } | Job::FromPcm { .. } | Job::FromWav { .. } =>
+                false,
         }
     }
 }

@@ -4,7 +4,7 @@ ghost use Rattle.std.specs.Prelude.{◌≡◌, List, ℕ, Option, Bool, Some, �
 ghost use Rattle.aes3_cli_jobs.specs.Hearing.{Hearing, with_job, with_refusal};
 
 use crate::job::Job;
-use aes3_cell::RunError;
+use crate::refusal::Refusal;
 
 /// Hears how a run goes on. It has neither the input nor the output, and standard error gets its lines
 /// without it.
@@ -26,7 +26,7 @@ pub trait Observer {
             → heard self.new (with_job job.now hearing) };
 
     /// The line of this refusal has been written.
-    fn refused(&mut self, error: RunError)
+    fn refused(&mut self, error: Refusal)
         ensures told { told self.new ≡ told self.old }
         ensures same { is_silent self.new ≡ is_silent self.old }
         ensures heard { (hearing : Hearing) → heard self.old hearing
@@ -47,5 +47,5 @@ impl Observer for Nobody {
 
     fn begins(&mut self, _job: &Job) {}
 
-    fn refused(&mut self, _error: RunError) {}
+    fn refused(&mut self, _error: Refusal) {}
 }

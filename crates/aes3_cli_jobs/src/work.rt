@@ -8,6 +8,7 @@ use aes3_forms_words::Words;
 use aes3_frame::{Channel, Fill};
 use aes3_status::{CarriedBits, Change};
 use aes3_status_text::{Detail, Lines, Notation, Style};
+use aes3_wave::Depth;
 
 /// Of which blocks a normal stream is written, and how they are changed.
 #[derive(Clone, Copy, PartialEq, Eq)]
@@ -76,6 +77,12 @@ pub enum ReadWork {
         format: SampleFormat,
         fill: Fill,
         marked: bool,
+    },
+    /// A WAV file of the samples of blocks, with this width; its sampling frequency is this in hertz, or
+    /// else that which the first block names.
+    ToWav {
+        depth: Depth,
+        rate: Option<u32>,
     },
     /// The bits that the subframes of a channel carry after their audio.
     ToBits {

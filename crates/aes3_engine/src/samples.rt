@@ -26,7 +26,7 @@ use aes3_lock_runs::{BlockWriter, run_blocks};
 /// # Errors
 /// The sink's fault; then it has taken a front of the bytes.
 #[inline(always)]
-pub(crate) fn put_narrowed<T: Sink>(
+pub fn put_narrowed<T: Sink>(
     samples: [u8; BLOCK_BYTES],
     format: SampleFormat,
     sink: &mut T,

@@ -1,6 +1,6 @@
 //! Samples to a block file.
 
-ghost use Rattle.std.specs.Prelude.{◌≡◌, ◌≢◌, ℕ, ◌+◌, ◌-◌, ◌<◌, ◌≤◌, ◌^◌, ◌%◌, ◌⊎◌, List, Bool};
+ghost use Rattle.std.specs.Prelude.{◌≡◌, ◌≢◌, ℕ, ◌+◌, ◌-◌, ◌<◌, ◌≤◌, ◌^◌, ◌%◌, ◌⊎◌, List, Bool, []};
 ghost use Rattle.std.specs.Prelude.{true, false, None, Err, get_or, length, map, take, IfErr, IfOk};
 ghost use Rattle.std.specs.Prelude.{IfSome, IsOk, OnErr, IsTrue};
 ghost use Rattle.aes3_cell.specs.Ends.{Grew, GrewFront, Told};
@@ -12,7 +12,7 @@ ghost use Rattle.aes3_input.specs.Running.{InputRun, movement_of};
 ghost use Rattle.aes3_forms_samples.specs.declared.format.SampleFormat.TheVariants.{S32};
 ghost use Rattle.aes3_forms_samples.specs.Formats.{asks_exact, block_len};
 ghost use Rattle.aes3_engine.specs.Rewriting.{rewritten};
-ghost use Rattle.aes3_engine.specs.Sampling.{IsPcm, pcm_file, pcm_words, sampled_file, sampled_words};
+ghost use Rattle.aes3_engine.specs.Sampling.{IsPcm, Samples, pcm_file, pcm_words, sampled_file, sampled_words};
 ghost use Rattle.aes3_engine.specs.Sampling.{sampling_state, words_in};
 ghost use Rattle.aes3_engine.specs.Words.{block_words};
 
@@ -32,9 +32,11 @@ const SAMPLE_BYTES: u64 = 4;
 /// How many bytes of a sound file's head are looked at.
 const SOUND_HEAD_BYTES: u64 = SOUND_HEAD_LEN as u64;
 
-/// Samples as they come, and the bytes of the block that they have begun.
+/// Samples as they come, and the bytes of the block that they have begun: what `from_pcm_words`
+/// converts, for a run that makes its samples of other bytes. Its taker is the change of each
+/// block's channel status.
 #[derive(Drop)]
-struct SampleInput {
+pub struct SampleInput {
     format: SampleFormat,
     exact: bool,
     /// The form of the words that are written.
@@ -172,6 +174,24 @@ impl Input<Change> for SampleInput {
 }
 
 impl SampleInput {
+    /// Samples in this form, of which none has come; `exact` refuses those of more than 24 bits, and
+    /// `words` is the form of the words that are written.
+    pub fn new(format: SampleFormat, exact: bool, words: Words) -> Self
+        ensures format { result.format ≡ format }
+        ensures exact { result.exact ≡ exact }
+        ensures words { result.words ≡ words }
+        ensures start { Samples format exact result.seen result.at result.begun [] }
+    {
+        SampleInput {
+            format,
+            exact,
+            words,
+            seen: 0,
+            begun: [0; BLOCK_BYTES],
+            at: 0,
+        }
+    }
+
     /// Where in the next bytes a sample's lowest byte isn't zero, where that is refused.
     fn low_bits_in(&self, piece: &[u8]) -> Option<usize>
         requires { length piece.now ≤ BLOCK_BYTES }
@@ -289,14 +309,7 @@ pub fn from_pcm_words<S: Source, T: Sink>(
         (movement_of S.given S.failed source.old source.new)
         (movement_of T.taken T.failed sink.old sink.new) result }
 {
-    let mut input = SampleInput {
-        format,
-        exact,
-        words,
-        seen: 0,
-        begun: [0; BLOCK_BYTES],
-        at: 0,
-    };
+    let mut input = SampleInput::new(format, exact, words);
     let block_len = format.block_len() as u64;
     let mut change = *change;
     let bytes = convert(source, sink, max_bytes, &mut input, &mut change)?;

@@ -5,22 +5,24 @@ use Rattle.aes3_cell.specs.declared.counts.Counts.{Counts}
 use Rattle.aes3_cell.specs.declared.form.Form.{Form}
 use Rattle.aes3_cell.specs.declared.refusal.RunError.{RunError}
 use Rattle.aes3_cell.specs.declared.refusal.RunError.TheVariants as refusal
-use Rattle.aes3_input.specs.Running.{Movement}
+use Rattle.aes3_input.specs.Running.{Movement, Promise}
 use Rattle.aes3_cell.proofs.Growing.{grew-is}
 use Rattle.aes3_cli_arguments.specs.declared.job.LineFault.{LineFault}
 use Rattle.aes3_cli_arguments.specs.declared.job.LineFault.TheVariants.{Usage, Help, Refused}
 use Rattle.aes3_cli_arguments.specs.declared.line.CommandLine.{CommandLine}
 use Rattle.aes3_cli_jobs.specs.Forms.{finds_faults, reads_packed, writes_packed}
 use Rattle.aes3_cli_jobs.specs.declared.job.Job.{Job}
-use Rattle.aes3_cli_jobs.specs.declared.job.Job.TheVariants.{Encode, Stream, Read, FromPcm}
+use Rattle.aes3_cli_jobs.specs.declared.job.Job.TheVariants.{Encode, Stream, Read, FromPcm, FromWav}
 use Rattle.aes3_cli_jobs.specs.declared.work.ReadWork.{ReadWork}
 use Rattle.aes3_cli_jobs.specs.declared.work.ReadWork.TheVariants.{Decode, Check, Account, Watch, WatchSums, Info, Show}
-use Rattle.aes3_cli_jobs.specs.declared.work.ReadWork.TheVariants.{ShowChanges, Scan, ToPcm, ToExactPcm, ToFilledPcm, ToBits}
+use Rattle.aes3_cli_jobs.specs.declared.work.ReadWork.TheVariants.{ShowChanges, Scan, ToPcm, ToExactPcm, ToFilledPcm, ToWav, ToBits}
 use Rattle.aes3_cli_jobs.specs.declared.work.StreamWork.{StreamWork}
 use Rattle.aes3_cli_jobs.specs.declared.work.StreamWork.TheVariants.{Normal, Cut, Rewrite}
+use Rattle.aes3_cli_jobs.specs.declared.refusal.Refusal.{Refusal}
+use Rattle.aes3_cli_jobs.specs.declared.refusal.Refusal.TheVariants.{Run}
 use Rattle.aes3_program.specs.declared.outcome.Outcome.{Outcome}
 use Rattle.aes3_program.specs.declared.outcome.Remark.{Remark}
-use Rattle.aes3_program.specs.declared.outcome.Remark.TheVariants.{Nothing, Filled, LeftOut, Settings, Inexact}
+use Rattle.aes3_program.specs.declared.outcome.Remark.TheVariants.{Nothing, Filled, LeftOut, Settings, UsualRate, Wave, Inexact}
 use Rattle.aes3_program.specs.declared.outcome.Met.{Met}
 use Rattle.aes3_status.specs.declared.change.Change.{Change}
 use Rattle.aes3_status.specs.declared.setting.Settings.{Settings as GivenSettings}
@@ -33,7 +35,8 @@ use Rattle.aes3_status_text.specs.Untaken.{texts_of, untaken_lines}
 use Rattle.aes3_status_text.specs.declared.typed.TypedSettings.{TypedSettings}
 use Rattle.aes3_program.specs.Lines.{met_lines, remark_line}
 use Rattle.aes3_program.specs.Outcomes.{RemarkTold, met_by, sample_status}
-use Rattle.aes3_program.specs.JobRuns.{AnswerTold, JobRan, RunRan, end_status, promise_of, read_promise, status_by, status_for, stream_promise}
+use Rattle.aes3_program.specs.JobRuns.{AnswerTold, Answered, JobRan, RanAs, encode_promise, end_status, read_promise}
+use Rattle.aes3_program.specs.JobRuns.{sample_promise, status_by, status_for, stream_promise}
 use Rattle.aes3_program.specs.OctetRuns.{FirstFailed, OctetsRan, PackedRan, RawBy, as_raw, read_as, written_by}
 use Rattle.aes3_program.specs.StandardErrors.{ErrorsTold, read_remarks, remarks, sets_fields, stream_remarks}
 use Rattle.aes3_program.specs.Streams.{Streams}
@@ -97,52 +100,76 @@ of-read-remark typed i (ToPcm p true) b n h s = line-of typed h.2 refl
 of-read-remark typed i (ToPcm p false) b n h s = line-of typed h.2 refl
 of-read-remark typed i (ToExactPcm p) b n h s = absurd cc
 of-read-remark typed i (ToFilledPcm p fill marked) b n h s = absurd cc
+of-read-remark typed i (ToWav d (Some rate)) b n h s = line-of typed h.2 refl
+of-read-remark typed i (ToWav d None) b n h s = absurd cc
 of-read-remark typed i (ToBits b' c) b n h s = line-of typed h.2 refl
 
-of-job-remark : (typed : TypedSettings) (job : Job) (b : List ℕ) (n : Outcome) → (promise_of job).answer b n
-    → IsFalse (remarks job) → remark_line typed n.remark ≡ []
-of-job-remark typed (Encode o Own) b n h s = line-of typed h.2 (none-out typed h.0.left_out (h.1.1 ∙ sym (none-left-out b)))
-of-job-remark typed (Encode o Alsa) b n h s = absurd cc
-of-job-remark typed (Encode o Am824) b n h s = absurd cc
-of-job-remark typed (Stream i o work) b n h s = of-stream-remark typed i o work b n h s
-of-job-remark typed (Read i work) b n h s = of-read-remark typed i work b n h s
-of-job-remark typed (FromPcm p e c w) b n h s =
-    line-of typed h.2
+-- the same of what a job answered
+of-ran-remark : (typed : TypedSettings) (p : Promise Outcome) {ended : Bool} {source sink : Movement} (n : Outcome)
+    → RanAs p ended source sink (Ok n)
+    → ((b : List ℕ) (m : Outcome) → p.answer b m → remark_line typed m.remark ≡ []) → remark_line typed n.remark ≡ []
+of-ran-remark typed p n (Ok m, run, is) h = line-of typed (answer-is is) (h run.bytes m run.ran.1)
+  where
+    answer-is : {x y : Outcome} → ◌≡◌ {A = Result Outcome Refusal} (Ok x) (Ok y) → x ≡ y
+    answer-is e = cc
+of-ran-remark typed p n (Err e, run, is) h = cc
+
+of-answered-remark : (typed : TypedSettings) (job : Job) (ended : Bool) (source sink : Movement) (n : Outcome)
+    → Answered job ended source sink (Ok n) → IsFalse (remarks job) → remark_line typed n.remark ≡ []
+of-answered-remark typed (Encode o Own) ended source sink n run s =
+    of-ran-remark typed (encode_promise o Own) n run
+    (λ b m h. line-of typed h.2 (none-out typed h.0.left_out (h.1.1 ∙ sym (none-left-out b))))
+of-answered-remark typed (Encode o Alsa) ended source sink n run s = absurd cc
+of-answered-remark typed (Encode o Am824) ended source sink n run s = absurd cc
+of-answered-remark typed (Stream i o work) ended source sink n run s =
+    of-ran-remark typed (stream_promise i o work) n run (λ b m h. of-stream-remark typed i o work b m h s)
+of-answered-remark typed (Read i work) ended source sink n run s =
+    of-ran-remark typed (read_promise i work) n run (λ b m h. of-read-remark typed i work b m h s)
+of-answered-remark typed (FromPcm p e c w) ended source sink n run s =
+    of-ran-remark typed (sample_promise p e c w) n run
+    (λ b m h. line-of typed h.2
     (unset typed (h.0.bytes == 0) c (taken_of c.settings1 (sample_status c.status1 ∷ []))
-    (taken_of c.settings2 (sample_status c.status2 ∷ [])) s)
+    (taken_of c.settings2 (sample_status c.status2 ∷ [])) s))
+of-answered-remark typed (FromWav a m e p c w) ended source sink n run s = absurd cc
 
 -- of a job that read its input to the end and is not refused
-of-done : (line : CommandLine) (b : List ℕ) (n : Outcome) (errors : Movement) (status : ℕ)
-    → (promise_of line.job).answer b n → status ≡ status_by line.job n.counts → RemarkTold (remark_line line.typed n.remark) errors
-    → ErrorsTold (Ok line) errors status
-of-done line b n errors status a s r =
+of-done : (line : CommandLine) (n : Outcome) (errors : Movement) (status : ℕ)
+    → (IsFalse (remarks line.job) → remark_line line.typed n.remark ≡ []) → status ≡ status_by line.job n.counts
+    → RemarkTold (remark_line line.typed n.remark) errors → ErrorsTold (Ok line) errors status
+of-done line n errors status a s r =
     let small = few line.job n.counts in
     record {
       known = omega (arith, s, small);
-      done = λ h. record { remark = n.remark; asked = of-job-remark line.typed line.job b n a; told = r };
+      done = λ h. record { remark = n.remark; asked = a; told = r };
       usage = λ h. absurd (omega (arith, s, small, h));
       refusal = λ h. absurd (omega (arith, s, small, h));
     }
 
 -- of a job's answer
-of-answer : (line : CommandLine) (ended : Bool) (source before : Movement) (answer : Result Outcome RunError)
-    (failed : ℕ) (sink errors : Movement) (status : ℕ) → RunRan line.job ended source before answer
+of-answer : (line : CommandLine) (ended : Bool) (source before : Movement) (answer : Result Outcome Refusal)
+    (failed : ℕ) (sink errors : Movement) (status : ℕ) → Answered line.job ended source before answer
     → AnswerTold line.job line.typed answer failed sink errors status → ErrorsTold (Ok line) errors status
 of-answer line ended source before (Ok n) failed sink errors status run t = go n.remark refl t.0 t.2
   where
     go : (remark : Remark) → n.remark ≡ remark → status ≡ end_status line.job n → RemarkTold (remark_line line.typed n.remark) errors
         → ErrorsTold (Ok line) errors status
     go Nothing e s r =
-        of-done line run.bytes n errors status run.ran.1
+        of-done line n errors status (of-answered-remark line.typed line.job ended source before n run)
         (s ∙ ap (λ (v : Remark). status_for v (status_by line.job n.counts)) e) r
     go (Filled frames) e s r =
-        of-done line run.bytes n errors status run.ran.1
+        of-done line n errors status (of-answered-remark line.typed line.job ended source before n run)
         (s ∙ ap (λ (v : Remark). status_for v (status_by line.job n.counts)) e) r
     go (LeftOut words) e s r =
-        of-done line run.bytes n errors status run.ran.1
+        of-done line n errors status (of-answered-remark line.typed line.job ended source before n run)
         (s ∙ ap (λ (v : Remark). status_for v (status_by line.job n.counts)) e) r
     go (Settings first second) e s r =
-        of-done line run.bytes n errors status run.ran.1
+        of-done line n errors status (of-answered-remark line.typed line.job ended source before n run)
+        (s ∙ ap (λ (v : Remark). status_for v (status_by line.job n.counts)) e) r
+    go UsualRate e s r =
+        of-done line n errors status (of-answered-remark line.typed line.job ended source before n run)
+        (s ∙ ap (λ (v : Remark). status_for v (status_by line.job n.counts)) e) r
+    go (Wave unsaid first second) e s r =
+        of-done line n errors status (of-answered-remark line.typed line.job ended source before n run)
         (s ∙ ap (λ (v : Remark). status_for v (status_by line.job n.counts)) e) r
     go (Inexact at) e s r =
         let k : status ≡ 3 = s ∙ ap (λ (v : Remark). status_for v (status_by line.job n.counts)) e in
@@ -151,7 +178,7 @@ of-answer line ended source before (Ok n) failed sink errors status run t = go n
           done = λ h. absurd (omega (arith, k, h));
           usage = λ h. absurd (omega (arith, k, h));
           refusal = λ h q. record {
-            error = refusal.Inexact at;
+            error = Run (refusal.Inexact at);
             line = grew-is (ap (remark_line line.typed) e) (r.told q);
           };
         }
@@ -161,7 +188,7 @@ of-answer line ended source before (Err error) failed sink errors status run t =
   usage = λ s. absurd (omega (arith, t.0, s));
   refusal = λ s q. elim t.1 [
     | inl k ↦ record { error = error; line = k.1 q }
-    | inr k ↦ record { error = refusal.Write; line = k.2 q }
+    | inr k ↦ record { error = Run refusal.Write; line = k.2 q }
   ];
 }
 
@@ -175,8 +202,8 @@ of-first line streams status r =
       done = λ s. absurd (omega (arith, k, s));
       usage = λ s. absurd (omega (arith, k, s));
       refusal = λ s q. elim r.refused.told [
-        | inl k ↦ record { error = refusal.Read; line = k.1 q }
-        | inr k ↦ record { error = refusal.Write; line = k.1 q }
+        | inl k ↦ record { error = Run refusal.Read; line = k.1 q }
+        | inr k ↦ record { error = Run refusal.Write; line = k.1 q }
       ];
     }
 
@@ -229,7 +256,7 @@ of-fault (Help text) sink errors status r = elim r [
     known = omega (arith, k.0);
     done = λ h. absurd (omega (arith, k.0, h));
     usage = λ h. absurd (omega (arith, k.0, h));
-    refusal = λ h q. record { error = refusal.Write; line = k.2 q };
+    refusal = λ h q. record { error = Run refusal.Write; line = k.2 q };
   }
 ]
 of-fault (Refused error) sink errors status r =
@@ -238,7 +265,7 @@ of-fault (Refused error) sink errors status r =
       known = omega (arith, s);
       done = λ h. absurd (omega (arith, s, h));
       usage = λ h. absurd (omega (arith, s, h));
-      refusal = λ h q. record { error = error; line = r.2 q };
+      refusal = λ h q. record { error = Run error; line = r.2 q };
     }
 
 pub fault_told : {asked : Result CommandLine LineFault} {fault : LineFault} (sink errors : Movement) (status : ℕ)

@@ -1,12 +1,28 @@
 -- A run that is flushed: what is told of it where it was refused, or where that failed.
-use Rattle.std.proofs.Common.{◌≡◌, ◌≢◌, ℕ, ◌+◌, inl, inr, Bool, List, Option, Some, Result, Ok, Err, refl, sym, ap, subst}
+use Rattle.std.proofs.Common.{◌≡◌, ◌≢◌, ℕ, ◌+◌, inl, inr, Bool, List, Option, Some, Result, Ok, Err, refl, sym, ap, subst, ◌∙◌}
 use Rattle.std.proofs.Common.{arith}
 use Rattle.aes3_cell.specs.declared.refusal.RunError.{RunError}
 use Rattle.aes3_cell.specs.declared.refusal.RunError.TheVariants.{Read, Write}
 use Rattle.aes3_cell.specs.declared.counts.Counts.{Counts}
-use Rattle.aes3_input.specs.Running.{InputRun, Movement, Promise}
+use Rattle.aes3_input.specs.Running.{Failed, InputRan, InputRun, Movement, Promise, Quiet}
 use Rattle.aes3_input.proofs.InputRuns.{Gives, run-err, run-ok, run-write, run-sink_quiet}
 use Rattle.aes3_cli_jobs.specs.declared.job.Job.{Job}
+use Rattle.aes3_cli_jobs.specs.declared.job.Job.TheVariants as job
+use Rattle.aes3_cli_jobs.specs.declared.work.ReadWork.{ReadWork}
+use Rattle.aes3_cli_jobs.specs.declared.work.StreamWork.{StreamWork}
+use Rattle.aes3_cli_jobs.specs.declared.refusal.Refusal.{Refusal}
+use Rattle.aes3_cli_jobs.specs.declared.refusal.Refusal.TheVariants.{Run}
+use Rattle.aes3_wave_runs.specs.FromWav.{WaveRan, WaveRun, promise_for}
+use Rattle.aes3_wave_runs.specs.Wave.{limit_of}
+use Rattle.aes3_wave_runs.specs.declared.error.WaveError.{WaveError}
+use Rattle.aes3_wave_runs.specs.declared.error.WaveError.TheVariants as wave_error
+use Rattle.aes3_wave_runs.specs.declared.options.Converted.{Converted}
+use Rattle.aes3_wave_runs.specs.declared.options.WaveOptions.{WaveOptions}
+use Rattle.aes3_wave_runs.specs.declared.status.StatusUse.{StatusUse}
+use Rattle.aes3_wave.specs.declared.samples.Channels.{Channels}
+use Rattle.aes3_wave.specs.declared.samples.Mono.{Mono}
+use Rattle.aes3_status.specs.declared.change.Change.{Change}
+use Rattle.aes3_forms_words.specs.declared.form.Words.{Words}
 use Rattle.aes3_cell.specs.declared.form.Form.{Form}
 use Rattle.aes3_status_text.specs.declared.style.Style.{Style}
 use Rattle.aes3_status_text.specs.declared.typed.TypedSettings.{TypedSettings}
@@ -14,17 +30,27 @@ use Rattle.aes3_watch.specs.Sums.{begun_sums, sum_lines}
 use Rattle.aes3_watch.specs.Watching.{watch_counts}
 use Rattle.aes3_input.specs.Driving.{counted_cells}
 use Rattle.aes3_program.specs.Asides.{RefusedAt}
-use Rattle.aes3_program.specs.JobRuns.{Flushed, IsTold, JobRan, RunRan, end_status, most, period}
+use Rattle.aes3_program.specs.JobRuns.{Answered, Flushed, IsTold, JobRan, RanAs, ReadRan, StreamRan, WaveRanAs}
+use Rattle.aes3_program.specs.JobRuns.{encode_promise, end_status, most, period, read_promise, sample_promise, stream_promise}
+use Rattle.aes3_program.specs.JobRuns.{use_for, wave_options}
 use Rattle.aes3_program.specs.OctetRuns.{ReadRefused}
 use Rattle.aes3_program.specs.declared.outcome.Outcome.{Outcome}
 use Rattle.aes3_program.specs.Lines.{remark_line}
-use Rattle.aes3_program.specs.Outcomes.{RemarkTold, answer_as, told_as}
+use Rattle.aes3_program.specs.Outcomes.{RemarkTold, answer_as, refusal_of, run_answer, told_as, wave_answer}
 use Rattle.aes3_program.specs.Streams.{Streams}
 
--- a run of a job, by what the job is
-pub run-of : {job job' : Job} {ended : Bool} {source sink : Movement} {r : Result Outcome RunError} → job ≡ job'
-    → RunRan job' ended source sink r → RunRan job ended source sink r
-run-of {ended = ended} {source} {sink} {r} e run = subst (λ (j : Job). RunRan j ended source sink r) (sym e) run
+-- a run, by what its work is
+pub stream-of : (i o : Form) {work work' : StreamWork} {ended : Bool} {source sink : Movement}
+    {r : Result Outcome RunError} → work ≡ work' → StreamRan i o work' ended source sink r
+    → StreamRan i o work ended source sink r
+stream-of i o {ended = ended} {source} {sink} {r} e run =
+    subst (λ (w : StreamWork). StreamRan i o w ended source sink r) (sym e) run
+
+pub read-of : (i : Form) {work work' : ReadWork} {ended : Bool} {source sink : Movement}
+    {r : Result Outcome RunError} → work ≡ work' → ReadRan i work' ended source sink r
+    → ReadRan i work ended source sink r
+read-of i {ended = ended} {source} {sink} {r} e run =
+    subst (λ (w : ReadWork). ReadRan i w ended source sink r) (sym e) run
 
 -- a run as what a job answers
 gives-told : {A : Type 0} (f : A → Outcome) (p : Promise A) → Gives p (told_as f p)
@@ -57,15 +83,112 @@ sums-of i style every n {ended} {source} {sink} {r} e run =
     subst (λ (k : ℕ). InputRun (counted_cells i (sum_lines style k) (begun_sums style k) (watch_counts i)) most
     ended source sink r) e run
 
+-- a run over a WAV file, by what its status is for
+pub wave-of : (channels : Option Channels) (mono : Mono) (exact professional : Bool) (change : Change) (words : Words)
+    (purpose : StatusUse) {ended : Bool} {source sink : Movement} {result : Result Outcome Refusal}
+    → purpose ≡ use_for professional
+    → WaveRanAs (record { channels = channels; mono = mono; exact = exact; status_use = purpose; change = change; words = words })
+    ended source sink result
+    → WaveRanAs (wave_options channels mono exact professional change words) ended source sink result
+wave-of channels mono exact professional change words purpose {ended} {source} {sink} {result} e run =
+    subst (λ (u : StatusUse).
+    WaveRanAs (record { channels = channels; mono = mono; exact = exact; status_use = u; change = change; words = words })
+    ended source sink result) e run
+
+-- what a job answers, by what it is
+pub answered-of : {j job' : Job} (ended : Bool) (source sink : Movement) (o : Result Outcome Refusal) → j ≡ job'
+    → Answered job' ended source sink o → Answered j ended source sink o
+answered-of ended source sink o e run = subst (λ (x : Job). Answered x ended source sink o) (sym e) run
+
+-- a refusal moves the sink where it can't be written, and then once
+quiet-run : {A : Type 0} (p : Promise A) (max : ℕ) (b : List ℕ) (ended : Bool) (source sink : Movement) (e : RunError)
+    → InputRan p max b ended source sink (Err e) → e ≢ Write → Quiet sink
+quiet-run p max b ended source sink Write r n = absurd (n refl)
+quiet-run p max b ended source sink Read r n = r.2
+quiet-run p max b ended source sink e r n = r.2
+
+wave-quiet : (options : WaveOptions) (b : List ℕ) (ended : Bool) (source sink : Movement) (e : WaveError)
+    → WaveRan options most b ended source sink (Err e) → e ≢ wave_error.Run Write → Quiet sink
+wave-quiet options b ended source sink (wave_error.Header e) (refused, short, quiet, unwritten) n = unwritten.0
+wave-quiet options b ended source sink (wave_error.NoChannel k) (lacks, quiet, unwritten) n = unwritten.0
+wave-quiet options b ended source sink (wave_error.Run e) ran n = elim ran [
+  | inl (read, unwritten) ↦ unwritten.0
+  | inr (header, ran) ↦ quiet-run (promise_for options header) (limit_of header most) b ended source sink e ran.ran
+      (λ q. n (ap wave_error.Run q))
+]
+
+wave-failed : (options : WaveOptions) (b : List ℕ) (ended : Bool) (source sink : Movement)
+    → WaveRan options most b ended source sink (Err (wave_error.Run Write)) → Failed sink
+wave-failed options b ended source sink ran = elim ran [
+  | inl (read, unwritten) ↦ absurd read
+  | inr (header, ran) ↦ ran.ran.1
+]
+
+refused-is : {x y : Refusal} → ◌≡◌ {A = Result Outcome Refusal} (Err x) (Err y) → x ≡ y
+refused-is e = cc
+
+run-is-run : {x y : RunError} → Run x ≡ Run y → x ≡ y
+run-is-run e = cc
+
+of-run-quiet : (p : Promise Outcome) {ended : Bool} {source sink : Movement} {x : Refusal}
+    → RanAs p ended source sink (Err x) → x ≢ Run Write → Quiet sink
+of-run-quiet p (Ok m, run, is) n = cc
+of-run-quiet p (Err e, run, is) n =
+    run-sink_quiet (Err e) run (λ q. n (refused-is is ∙ ap Run (error-is q)))
+  where
+    error-is : {x y : RunError} → ◌≡◌ {A = Result Outcome RunError} (Err x) (Err y) → x ≡ y
+    error-is e = cc
+
+of-run-failed : (p : Promise Outcome) {ended : Bool} {source sink : Movement} {x : Refusal}
+    → RanAs p ended source sink (Err x) → x ≡ Run Write → Failed sink
+of-run-failed p (Ok m, run, is) e = cc
+of-run-failed p (Err y, run, is) e =
+    run-write run (ap (λ w. Err w) (run-is-run (sym (refused-is is) ∙ e)))
+
+of-wave-quiet : (options : WaveOptions) {ended : Bool} {source sink : Movement} {x : Refusal}
+    → WaveRanAs options ended source sink (Err x) → x ≢ Run Write → Quiet sink
+of-wave-quiet options (Ok m, run, is) n = cc
+of-wave-quiet options {ended} {source} {sink} (Err e, run, is) n =
+    wave-quiet options run.bytes ended source sink e run.ran (λ q. n (refused-is is ∙ ap refusal_of q))
+
+of-wave-failed : (options : WaveOptions) {ended : Bool} {source sink : Movement} {x : Refusal}
+    → WaveRanAs options ended source sink (Err x) → x ≡ Run Write → Failed sink
+of-wave-failed options (Ok m, run, is) e = cc
+of-wave-failed options {ended} {source} {sink} (Err y, run, is) e = go y run.ran (sym (refused-is is) ∙ e)
+  where
+    go : (y : WaveError) → WaveRan options most run.bytes ended source sink (Err y) → refusal_of y ≡ Run Write
+        → Failed sink
+    go (wave_error.Header h) ran same = cc
+    go (wave_error.NoChannel k) ran same = cc
+    go (wave_error.Run f) ran same =
+        wave-failed options run.bytes ended source sink
+        (subst (λ (v : RunError). WaveRan options most run.bytes ended source sink (Err (wave_error.Run v))) (run-is-run same) ran)
+
+pub answered-quiet : (j : Job) (ended : Bool) (source sink : Movement) {x : Refusal} → Answered j ended source sink (Err x)
+    → x ≢ Run Write → Quiet sink
+answered-quiet (job.Encode o w) ended source sink run n = of-run-quiet (encode_promise o w) run n
+answered-quiet (job.Stream i o work) ended source sink run n = of-run-quiet (stream_promise i o work) run n
+answered-quiet (job.Read i work) ended source sink run n = of-run-quiet (read_promise i work) run n
+answered-quiet (job.FromPcm f y c w) ended source sink run n = of-run-quiet (sample_promise f y c w) run n
+answered-quiet (job.FromWav a m y p c w) ended source sink run n = of-wave-quiet _ run n
+
+answered-failed : (j : Job) (ended : Bool) (source sink : Movement) {x : Refusal} → Answered j ended source sink (Err x)
+    → x ≡ Run Write → Failed sink
+answered-failed (job.Encode o w) ended source sink run e = of-run-failed (encode_promise o w) run e
+answered-failed (job.Stream i o work) ended source sink run e = of-run-failed (stream_promise i o work) run e
+answered-failed (job.Read i work) ended source sink run e = of-run-failed (read_promise i work) run e
+answered-failed (job.FromPcm f y c w) ended source sink run e = of-run-failed (sample_promise f y c w) run e
+answered-failed (job.FromWav a m y p c w) ended source sink run q = of-wave-failed _ run q
+
 pub refused-flushed : {job : Job} {typed : TypedSettings} {streams : Streams} {status : ℕ} {t : Option (List ℕ)} {f : ℕ}
-    {x told : RunError}
-    → RunRan job streams.ended streams.source (record streams.sink { new = t; failed_new = f }) (Err x)
+    {x told : Refusal}
+    → Answered job streams.ended streams.source (record streams.sink { new = t; failed_new = f }) (Err x)
     → Flushed x (record streams.sink { old = t; failed_old = f }) told → RefusedAt (Some told) streams.errors status
     → JobRan job typed streams status
 refused-flushed {job} {streams = streams} {f = f} {x = x} run flushed refused = record {
   answer = Err x;
   failed = f;
-  run = subst (λ v. RunRan job streams.ended streams.source (record streams.sink { new = v; failed_new = f }) (Err x))
+  run = subst (λ v. Answered job streams.ended streams.source (record streams.sink { new = v; failed_new = f }) (Err x))
       (sym flushed.0) run;
   told = (
     refused.0,
@@ -77,28 +200,24 @@ refused-flushed {job} {streams = streams} {f = f} {x = x} run flushed refused = 
 }
 
 -- where the sink did not fail, it was flushed
-pub passed-on : (job : Job)
-    {ended : Bool} {source : Movement} {t₀ t₁ t₂ : Option (List ℕ)} {f₀ f₁ f₂ : ℕ} {x told : RunError} {P : Type 0}
-    → RunRan job ended source (record { old = t₀; new = t₁; failed_old = f₀; failed_new = f₁ }) (Err x)
-    → Flushed x (record { old = t₁; new = t₂; failed_old = f₁; failed_new = f₂ }) told → (f₂ ≡ f₁ → x ≢ Write → P)
+pub passed-on : (job : Job) (ended : Bool) (source : Movement) (t₀ : Option (List ℕ))
+    {t₁ t₂ : Option (List ℕ)} {f₀ f₁ f₂ : ℕ} {x told : Refusal} {P : Type 0}
+    → Answered job ended source (record { old = t₀; new = t₁; failed_old = f₀; failed_new = f₁ }) (Err x)
+    → Flushed x (record { old = t₁; new = t₂; failed_old = f₁; failed_new = f₂ }) told → (f₂ ≡ f₁ → x ≢ Run Write → P)
     → f₂ ≡ f₀ → P
-passed-on job {f₀ = f₀} {f₁} {f₂} {x} r f p h =
-    let n : x ≢ Write = λ e. let v : f₁ ≡ f₀ + 1
-    = run-write r (ap (λ w. Err w) e) in elim f.1 [
+passed-on job ended source t₀ {t₁} {t₂} {f₀} {f₁} {f₂} {x} r f p h =
+    let n : x ≢ Run Write = λ e. let v : f₁ ≡ f₀ + 1 = answered-failed job ended source _ r e in elim f.1 [
       | inl k ↦ let i = k.1 in omega arith
       | inr k ↦ k.0 e
     ] in
-    let v : f₁ ≡ f₀ = run-sink_quiet (Err x) r (λ e. n (error-is e)) in
+    let v : f₁ ≡ f₀ = answered-quiet job ended source _ r n in
     p (omega arith) n
-  where
-    error-is : {x y : RunError} → ◌≡◌ {A = Result Outcome RunError} (Err x) (Err y) → x ≡ y
-    error-is e = cc
 
 -- a run that ended well
-pub done : {job : Job} {typed : TypedSettings} {streams : Streams} {status : ℕ} {n : Outcome}
-    → RunRan job streams.ended streams.source streams.sink (Ok n) → status ≡ end_status job n
+pub done : {job : Job} {typed : TypedSettings} {streams : Streams} {status : ℕ} (n : Outcome)
+    → Answered job streams.ended streams.source streams.sink (Ok n) → status ≡ end_status job n
     → RemarkTold (remark_line typed n.remark) streams.errors → JobRan job typed streams status
-done {streams = streams} {n = n} run ends told = record {
+done {streams = streams} n run ends told = record {
   answer = Ok n;
   failed = streams.sink.failed_new;
   run = run;
@@ -106,7 +225,7 @@ done {streams = streams} {n = n} run ends told = record {
 }
 
 -- a refusal before anything was run
-pub read-refused : {sink errors : Movement} {status : ℕ} {told : RunError} → Flushed Read sink told
+pub read-refused : {sink errors : Movement} {status : ℕ} {told : Refusal} → Flushed (Run Read) sink told
     → RefusedAt (Some told) errors status → ReadRefused sink errors status
 read-refused {errors = errors} flushed refused = record {
   refused = refused.0;

@@ -3,3 +3,4 @@ pub mod ErrorsToldLemmas
 pub mod Flushes
 pub mod RawRuns
 pub mod RemarkLines
+pub mod WordLemmas

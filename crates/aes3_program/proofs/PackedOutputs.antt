@@ -24,10 +24,10 @@ use Rattle.aes3_engine.proofs.RewrittenBlocks.{each-blocks}
 use Rattle.aes3_engine.proofs.RewritingExactly.{taken27}
 use Rattle.aes3_cli_jobs.specs.Forms.{is_packed, writes_packed}
 use Rattle.aes3_cli_jobs.specs.declared.job.Job.{Job}
-use Rattle.aes3_cli_jobs.specs.declared.job.Job.TheVariants.{Encode, Stream, Read, FromPcm}
+use Rattle.aes3_cli_jobs.specs.declared.job.Job.TheVariants.{Encode, Stream, Read, FromPcm, FromWav}
 use Rattle.aes3_cli_jobs.specs.declared.work.StreamWork.{StreamWork}
 use Rattle.aes3_cli_jobs.specs.declared.work.StreamWork.TheVariants.{Normal, Cut, Rewrite}
-use Rattle.aes3_program.specs.JobRuns.{promise_of, stream_promise}
+use Rattle.aes3_program.specs.JobRuns.{stream_promise, written_whole}
 use Rattle.aes3_program.specs.OctetRuns.{PackBoth}
 
 -- blocks one behind the other are
@@ -60,10 +60,11 @@ of-stream i o (Rewrite change false) h b =
     (each-blocks change (blocks (cells_of i b)) (blocks27 (cells_of i b)))
 
 pub can-be-turned : (job : Job) → IsTrue (writes_packed job) → (bytes : List ℕ)
-    → PackBoth ((promise_of job).whole bytes)
+    → PackBoth (written_whole job bytes)
 can-be-turned (Encode o Own) h b = of-blocks o (file_blocks b) h (each27-whole b)
 can-be-turned (Encode o Alsa) h b = of-blocks o (file_blocks (own_of Alsa b)) h (each27-whole (own_of Alsa b))
 can-be-turned (Encode o Am824) h b = of-blocks o (file_blocks (own_of Am824 b)) h (each27-whole (own_of Am824 b))
 can-be-turned (Stream i o work) h b = of-stream i o work h b
 can-be-turned (Read i work) h b = absurd cc
 can-be-turned (FromPcm format exact change words) h b = absurd cc
+can-be-turned (FromWav channels mono exact professional change words) h b = absurd cc

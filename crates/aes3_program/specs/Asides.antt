@@ -2,7 +2,7 @@
 use Rattle.std.specs.Option.{option_or}
 use Rattle.std.specs.Prelude.{ℕ, List, Option, Some, None, Result, Ok, Err, IsTrue, is_some, ◌≡◌, ◌≢◌, ◌+◌, ◌≤◌}
 use Rattle.aes3_cell.specs.declared.ends.Sink.{Ghosts as SinkMembers}
-use Rattle.aes3_cell.specs.declared.refusal.RunError.{RunError}
+use Rattle.aes3_cli_jobs.specs.declared.refusal.Refusal.{Refusal}
 use Rattle.aes3_input.specs.Running.{Movement}
 use Rattle.aes3_cli_arguments.specs.declared.job.LineFault.{LineFault}
 use Rattle.aes3_cli_arguments.specs.declared.line.CommandLine.{CommandLine}
@@ -19,7 +19,7 @@ pub record ErrorsLeft {E : Type 0} (e : SinkMembers E) (old new : E) : Type 0 wh
   pub passed_on : HasPassed e old → PassesOn e old new
 
 -- what was heard once this job has begun, if one has, and this was refused, if anything was
-abbrev pub heard_by : Option Job → Option RunError → Hearing → Hearing
+abbrev pub heard_by : Option Job → Option Refusal → Hearing → Hearing
 heard_by begun refused before = record {
   job = option_or begun before.job;
   refusal = option_or refused before.refusal;
@@ -27,19 +27,19 @@ heard_by begun refused before = record {
 }
 
 -- the observer heard of these, is silent if it was, and has written nothing, unless a job has begun and it is not silent
-pub record Observed {O : Type 0} (begun : Option Job) (refused : Option RunError) (o : ObserverMembers O) (old new : O)
+pub record Observed {O : Type 0} (begun : Option Job) (refused : Option Refusal) (o : ObserverMembers O) (old new : O)
     : Type 0 where
   pub silent : (IsTrue (is_some begun) → IsTrue (o.is_silent old)) → o.told new ≡ o.told old
   pub same : o.is_silent new ≡ o.is_silent old
   pub heard : (before : Hearing) → o.heard old before → o.heard new (heard_by begun refused before)
 
 -- something was refused just at status 3, and its line is among the errors
-abbrev pub RefusedAt : Option RunError → Movement → ℕ → Type 0
+abbrev pub RefusedAt : Option Refusal → Movement → ℕ → Type 0
 RefusedAt None errors status = status ≢ 3
 RefusedAt (Some error) errors status = (status ≡ 3) × IsTold errors error
 
 -- the errors and the observer where this job has begun, if one has, and this was refused, if anything was
-pub record Aside {E O : Type 0} (begun : Option Job) (refused : Option RunError) (e : SinkMembers E) (errors errors' : E)
+pub record Aside {E O : Type 0} (begun : Option Job) (refused : Option Refusal) (e : SinkMembers E) (errors errors' : E)
     (o : ObserverMembers O) (observer observer' : O) (status : ℕ) : Type 0 where
   pub left : ErrorsLeft e errors errors'
   pub observed : Observed begun refused o observer observer'
@@ -48,7 +48,7 @@ pub record Aside {E O : Type 0} (begun : Option Job) (refused : Option RunError)
 -- the same of a run, by what it refused
 pub record AsideOfRun {E O : Type 0} (begun : Option Job) (e : SinkMembers E) (errors errors' : E) (o : ObserverMembers O)
     (observer observer' : O) (status : ℕ) : Type 0 where
-  pub refused : Option RunError
+  pub refused : Option Refusal
   pub aside : Aside begun refused e errors errors' o observer observer' status
 
 -- the job of a line, if it has one

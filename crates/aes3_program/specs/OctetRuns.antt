@@ -10,8 +10,9 @@ use Rattle.aes3_cell_octets.specs.Told.{all_turned, only, raw_told, turned_told}
 use Rattle.aes3_status_text.specs.declared.typed.TypedSettings.{TypedSettings}
 use Rattle.aes3_cli_jobs.specs.Forms.{reads_packed, writes_packed}
 use Rattle.aes3_cli_jobs.specs.declared.job.Job.{Job}
+use Rattle.aes3_cli_jobs.specs.declared.refusal.Refusal.TheVariants.{Run}
 use Rattle.aes3_cli_arguments.specs.declared.layout.Octets.{Octets}
-use Rattle.aes3_program.specs.JobRuns.{IsTold, JobRan, promise_of}
+use Rattle.aes3_program.specs.JobRuns.{IsTold, JobRan, written_whole}
 use Rattle.aes3_program.specs.Streams.{Streams}
 
 -- how a source of raw octets moved, as the job reads them: with the octet that counts behind all of them, or without it
@@ -78,7 +79,7 @@ pub record TurnedRan (job : Job) (typed : TypedSettings) (streams : Streams) (st
 pub record ReadRefused (sink errors : Movement) (status : ℕ) : Type 0 where
   pub refused : status ≡ 3
   pub nothing : sink.new ≡ sink.old
-  pub told : (Quiet sink × IsTold errors Read) ⊎ (Failed sink × IsTold errors Write)
+  pub told : (Quiet sink × IsTold errors (Run Read)) ⊎ (Failed sink × IsTold errors (Run Write))
 
 -- the source failed at its first octet
 pub record FirstFailed (streams : Streams) (status : ℕ) : Type 0 where
@@ -118,4 +119,4 @@ pub record PackBoth (octets : List ℕ) : Type 0 where
 -- whatever a job writes as packed cells can be turned with the last octet: it is whole octets of cells
 abbrev pub OutputsCanBeTurned : Type 0
 OutputsCanBeTurned =
-    (job : Job) → IsTrue (writes_packed job) → (bytes : List ℕ) → PackBoth ((promise_of job).whole bytes)
+    (job : Job) → IsTrue (writes_packed job) → (bytes : List ℕ) → PackBoth (written_whole job bytes)

@@ -1,11 +1,25 @@
 -- What a job answers that read its input to the end, and what standard error is told of it.
 use Rattle.std.specs.Option.{unwrap_or}
 use Rattle.std.specs.Prelude.{ℕ, ◌==◌, ◌∷◌, if◌then◌else◌, replicate, List, [], Option, Some, None, Result, Ok, Err, ◌≡◌}
+use Rattle.std.specs.Prelude.{Bool, ◌||◌, ◌&&◌, not, is_some}
 use Rattle.aes3_cell.specs.declared.counts.Counts.{Counts}
 use Rattle.aes3_cell.specs.declared.refusal.RunError.{RunError}
 use Rattle.aes3_cell.specs.Ends.{Grew}
 use Rattle.aes3_input.specs.Running.{Movement, Promise, Quiet}
+use Rattle.aes3_cli_jobs.specs.declared.refusal.Refusal.{Refusal}
+use Rattle.aes3_cli_jobs.specs.declared.refusal.Refusal.TheVariants as job_error
+use Rattle.aes3_wave_runs.specs.FromWav.{or_status}
+use Rattle.aes3_wave_runs.specs.Status.{lacks_rate, lacks_width, status_for}
+use Rattle.aes3_wave_runs.specs.declared.error.WaveError.{WaveError}
+use Rattle.aes3_wave_runs.specs.declared.error.WaveError.TheVariants as wave_error
+use Rattle.aes3_wave_runs.specs.declared.options.Converted.{Converted}
+use Rattle.aes3_wave_runs.specs.declared.options.WaveOptions.{WaveOptions}
+use Rattle.aes3_wave_runs.specs.declared.options.WaveWritten.{WaveWritten}
+use Rattle.aes3_wave.specs.declared.format.WaveFormat.{WaveFormat}
+use Rattle.aes3_wave.specs.declared.format.Width.{Width}
+use Rattle.aes3_wave.specs.declared.format.Width.TheVariants.{Bits8, Bits16, Bits20, Bits24, Bits32}
 use Rattle.aes3_status.specs.declared.change.Change.{Change}
+use Rattle.aes3_status.specs.declared.setting.Settings.{Settings as GivenSettings}
 use Rattle.aes3_status.specs.declared.taken.Taken.{Taken}
 use Rattle.aes3_engine.specs.RewritingRuns.{taken_of}
 use Rattle.aes3_engine.specs.declared.exact_samples.Exact.{Exact}
@@ -15,6 +29,8 @@ use Rattle.aes3_engine.specs.declared.filling.Filled.{Filled as FilledRun}
 use Rattle.aes3_program.specs.declared.outcome.Outcome.{Outcome}
 use Rattle.aes3_program.specs.declared.outcome.Remark.{Remark}
 use Rattle.aes3_program.specs.declared.outcome.Remark.TheVariants.{Nothing, Filled, LeftOut, Settings, Inexact}
+use Rattle.aes3_program.specs.declared.outcome.Remark.TheVariants.{UsualRate, Wave}
+use Rattle.aes3_program.specs.declared.outcome.UnsaidFormat.{UnsaidFormat}
 
 -- what a run's answer is as that of a job: nothing is remarked on counts alone
 abbrev pub of_counts : Counts → Outcome
@@ -58,6 +74,69 @@ of_samples change n = record {
       else met_by change (taken_of change.settings1 (sample_status change.status1 ∷ []))
       (taken_of change.settings2 (sample_status change.status2 ∷ []));
 }
+
+-- a WAV file that is written: it is remarked on where its sampling frequency is neither given nor named
+abbrev pub of_wave : Option ℕ → WaveWritten → Outcome
+of_wave rate n = record {
+  counts = n.counts;
+  remark = if is_some rate || is_some n.named then Nothing else UsualRate;
+}
+
+-- how many bits of a sample count
+abbrev pub bits_of : Width → ℕ
+bits_of Bits8 = 8
+bits_of Bits16 = 16
+bits_of Bits20 = 20
+bits_of Bits24 = 24
+bits_of Bits32 = 32
+
+-- what of the format of a WAV file the status that is made of its header does not say; nothing where options give both
+-- channels another status
+abbrev pub is_made : WaveOptions → Bool
+is_made options = not (is_some options.change.status1) || not (is_some options.change.status2)
+
+abbrev pub unsaid_format : WaveOptions → WaveFormat → UnsaidFormat
+unsaid_format options f = record {
+  rate = if is_made options && lacks_rate options.status_use f.rate then Some f.rate else None;
+  bits = if is_made options && lacks_width f.width then Some (bits_of f.width) else None;
+}
+
+-- blocks of a WAV file all have the status that is given, or the one that is made of its header
+abbrev pub wave_taken : WaveOptions → WaveFormat → Option (List ℕ) → Option GivenSettings → Taken
+wave_taken options f status settings =
+    taken_of settings (sample_status (or_status (status_for options.status_use f) status) ∷ [])
+
+abbrev pub of_converted : WaveOptions → Converted → Outcome
+of_converted options n = record {
+  counts = n.counts;
+  remark
+      = if n.counts.blocks == 0
+      then Nothing
+      else Wave (unsaid_format options n.header.format)
+      (record {
+        settings = options.change.settings1;
+        taken = wave_taken options n.header.format options.change.status1 options.change.settings1;
+      })
+      (record {
+        settings = options.change.settings2;
+        taken = wave_taken options n.header.format options.change.status2 options.change.settings2;
+      });
+}
+
+-- why a run over a WAV file is refused, as a job is
+abbrev pub refusal_of : WaveError → Refusal
+refusal_of (wave_error.Header e) = job_error.Header e
+refusal_of (wave_error.NoChannel channels) = job_error.NoChannel channels
+refusal_of (wave_error.Run e) = job_error.Run e
+
+-- the answer of a job that reads a WAV file, and that of any other
+abbrev pub wave_answer : WaveOptions → Result Converted WaveError → Result Outcome Refusal
+wave_answer options (Ok n) = Ok (of_converted options n)
+wave_answer options (Err e) = Err (refusal_of e)
+
+abbrev pub run_answer : Result Outcome RunError → Result Outcome Refusal
+run_answer (Ok n) = Ok n
+run_answer (Err e) = Err (job_error.Run e)
 
 -- the answer of a job, and what it promises, by those of the run that does it
 abbrev pub answer_as : {A : Type 0} → (A → Outcome) → Result A RunError → Result Outcome RunError

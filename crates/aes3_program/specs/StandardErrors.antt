@@ -1,17 +1,17 @@
 -- What standard error is told of a command line where nobody sits at a terminal.
 use Rattle.std.specs.Option.{is_some}
-use Rattle.std.specs.Prelude.{ℕ, [], Bool, true, false, Result, Ok, Err, IsFalse, ◌||◌, ◌≡◌, ◌≤◌}
+use Rattle.std.specs.Prelude.{ℕ, [], Bool, true, false, Result, Ok, Err, IsFalse, not, ◌||◌, ◌≡◌, ◌≤◌}
 use Rattle.aes3_cell.specs.Ends.{Grew}
-use Rattle.aes3_cell.specs.declared.refusal.RunError.{RunError}
+use Rattle.aes3_cli_jobs.specs.declared.refusal.Refusal.{Refusal}
 use Rattle.aes3_input.specs.Running.{Movement, Quiet}
 use Rattle.aes3_cli_arguments.specs.declared.job.LineFault.{LineFault}
 use Rattle.aes3_cli_arguments.specs.declared.job.LineFault.TheVariants.{Usage, Help, Refused}
 use Rattle.aes3_cli_arguments.specs.declared.line.CommandLine.{CommandLine}
 use Rattle.aes3_status_text.specs.declared.typed.TypedSettings.{TypedSettings}
 use Rattle.aes3_cli_jobs.specs.declared.job.Job.{Job}
-use Rattle.aes3_cli_jobs.specs.declared.job.Job.TheVariants.{Encode, Stream, Read, FromPcm}
+use Rattle.aes3_cli_jobs.specs.declared.job.Job.TheVariants.{Encode, Stream, Read, FromPcm, FromWav}
 use Rattle.aes3_cli_jobs.specs.declared.work.ReadWork.{ReadWork}
-use Rattle.aes3_cli_jobs.specs.declared.work.ReadWork.TheVariants.{ToExactPcm, ToFilledPcm}
+use Rattle.aes3_cli_jobs.specs.declared.work.ReadWork.TheVariants.{ToExactPcm, ToFilledPcm, ToWav}
 use Rattle.aes3_cli_jobs.specs.declared.work.StreamWork.{StreamWork}
 use Rattle.aes3_cli_jobs.specs.declared.work.StreamWork.TheVariants.{Normal, Cut, Rewrite}
 use Rattle.aes3_forms_words.specs.declared.form.Words.TheVariants.{Own, Alsa, Am824}
@@ -22,7 +22,7 @@ use Rattle.aes3_program.specs.Outcomes.{RemarkTold}
 
 -- the line of a refusal, and nothing else
 pub record RefusalTold (errors : Movement) : Type 0 where
-  pub error : RunError
+  pub error : Refusal
   pub line : Grew errors.old errors.new (refusal_line error)
 
 -- why the words are no command, and nothing else
@@ -45,6 +45,7 @@ stream_remarks (Rewrite change exact) = exact || sets_fields change
 abbrev pub read_remarks : ReadWork → Bool
 read_remarks (ToExactPcm format) = true
 read_remarks (ToFilledPcm format fill marked) = true
+read_remarks (ToWav depth rate) = not (is_some rate)
 read_remarks work = false
 
 abbrev pub remarks : Job → Bool
@@ -54,6 +55,7 @@ remarks (Encode o Am824) = true
 remarks (Stream i o work) = stream_remarks work
 remarks (Read i work) = read_remarks work
 remarks (FromPcm format exact change words) = sets_fields change
+remarks (FromWav channels mono exact professional change words) = true
 
 -- of a line that was run to its end a remark, and nothing else, and nothing at all of a job on which there is none
 pub record RemarkOf (job : Job) (typed : TypedSettings) (errors : Movement) : Type 0 where

@@ -5,6 +5,7 @@ use Rattle.aes3_cell.specs.declared.refusal.RunError.TheVariants.{Memory, Write}
 use Rattle.aes3_input.specs.Running.{Movement, Quiet, Failed}
 use Rattle.aes3_status_text.specs.declared.typed.TypedSettings.{TypedSettings}
 use Rattle.aes3_cli_jobs.specs.declared.job.Job.{Job}
+use Rattle.aes3_cli_jobs.specs.declared.refusal.Refusal.TheVariants.{Run}
 use Rattle.aes3_cli_arguments.specs.declared.job.LineFault.{LineFault}
 use Rattle.aes3_cli_arguments.specs.declared.line.CommandLine.{CommandLine}
 use Rattle.aes3_cli_arguments.specs.declared.layout.Octets.{Octets}
@@ -23,9 +24,9 @@ FaultRan (Usage text) sink errors status =
     (status ≡ 2) × Grew sink.old sink.new [] × (Quiet errors → Grew errors.old errors.new text.bytes.items)
 FaultRan (Help text) sink errors status =
     ((status ≡ 0) × Quiet sink × Grew sink.old sink.new text.bytes.items × Grew errors.old errors.new [])
-    ⊎ ((status ≡ 3) × Failed sink × IsTold errors Write)
+    ⊎ ((status ≡ 3) × Failed sink × IsTold errors (Run Write))
 FaultRan (Refused error) sink errors status =
-    (status ≡ 3) × Grew sink.old sink.new [] × IsTold errors error
+    (status ≡ 3) × Grew sink.old sink.new [] × IsTold errors (Run error)
 
 -- a line that asks for a job, which is run; or for none, which is told and nothing is read
 abbrev pub LineRan : Result CommandLine LineFault → Streams → ℕ → Type 0
@@ -33,6 +34,11 @@ LineRan (Ok line) streams status = OctetsRan line.octets line.job line.typed str
 LineRan (Err fault) streams status =
     Grew streams.source.old streams.source.new [] × Quiet streams.source
     × FaultRan fault streams.sink streams.errors status
+
+-- the line that these words are
+abbrev pub IsLineOfWords : List (List ℕ) → Result CommandLine LineFault → Type 0
+IsLineOfWords words (Ok line) = IsJobOf words line.job × HaveTyped words line.typed × HaveOctets words line.octets
+IsLineOfWords words (Err fault) = IsFaultOf words fault
 
 -- the words ask for a job, which is run; or they ask for none, which is told and nothing is read
 pub record JobOfWords (words : List (List ℕ)) (streams : Streams) (status : ℕ) : Type 0 where
@@ -57,4 +63,4 @@ WordsRan words streams status = JobOfWords words streams status ⊎ FaultOfWords
 -- words that could not be read: what is told of that
 abbrev pub UnreadTold : Unread → Movement → ℕ → Type 0
 UnreadTold unread.NotUtf8 errors status = (status ≡ 2) × (Quiet errors → Grew errors.old errors.new not_utf8_text)
-UnreadTold unread.Memory errors status = (status ≡ 3) × IsTold errors Memory
+UnreadTold unread.Memory errors status = (status ≡ 3) × IsTold errors (Run Memory)

@@ -1,6 +1,8 @@
 //! A job, its last flush and its exit status.
 
 ghost use Rattle.std.specs.Prelude.{◌≡◌, ◌≢◌, ◌<◌, ◌+◌, ◌^◌, None, Some};
+ghost use Rattle.aes3_cell.specs.declared.refusal.RunError.TheVariants.{Write};
+ghost use Rattle.aes3_cli_jobs.specs.declared.refusal.Refusal.TheVariants.{Run};
 ghost use Rattle.aes3_program.specs.Asides.{AsideOfRun};
 ghost use Rattle.aes3_program.specs.JobRuns.{Flushed, JobRan};
 ghost use Rattle.aes3_program.specs.OctetRuns.{ReadRefused};
@@ -10,22 +12,22 @@ use crate::job_run::run_job;
 use crate::refusal::refuse;
 use crate::remark::tell_outcome;
 use aes3_cell::{RunError, Sink, Source};
-use aes3_cli_jobs::{Job, Observer};
+use aes3_cli_jobs::{Job, Observer, Refusal};
 use aes3_status_text::TypedSettings;
 
 /// The refusal of a run once the sink has passed on what it holds: `Write` where that failed, else
 /// the first one.
-fn flushed<T: Sink>(error: RunError, sink: &mut T) -> RunError
-    requires room { error ≢ RunError.Write → T.failed sink.old + 1 < 2 ^ 64 }
+fn flushed<T: Sink>(error: Refusal, sink: &mut T) -> Refusal
+    requires room { error ≢ Run Write → T.failed sink.old + 1 < 2 ^ 64 }
     ensures told { Flushed error (moved T.Sink sink.old sink.new) result }
-    ensures passed_on { T.failed sink.new ≡ T.failed sink.old → error ≢ RunError.Write
+    ensures passed_on { T.failed sink.new ≡ T.failed sink.old → error ≢ Run Write
         → HasPassed T.Sink sink.new }
 {
     match error {
-        RunError::Write => error,
+        Refusal::Run(RunError::Write) => error,
         _ => match sink.flush() {
             Ok(()) => error,
-            Err(_) => RunError::Write,
+            Err(_) => Refusal::Run(RunError::Write),
         },
     }
 }
@@ -93,5 +95,9 @@ pub(crate) fn refuse_unread<T: Sink, E: Sink, O: Observer>(
     ensures aside { AsideOfRun None E.Sink errors.old errors.new
         O.Observer observer.old observer.new result }
 {
-    refuse(flushed(RunError::Read, sink), errors, observer)
+    refuse(
+        flushed(Refusal::Run(RunError::Read), sink),
+        errors,
+        observer,
+    )
 }

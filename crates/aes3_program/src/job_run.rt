@@ -2,14 +2,15 @@
 
 ghost use Rattle.std.specs.Prelude.{◌≡◌, ◌<◌, ◌≤◌, ◌+◌, ◌^◌, IfOk};
 ghost use Rattle.aes3_input.specs.Running.{movement_of};
-ghost use Rattle.aes3_cli_jobs.specs.declared.job.Job.TheVariants.{Read, Stream};
 ghost use Rattle.aes3_cli_jobs.specs.declared.work.ReadWork.TheVariants.{ToPcm};
 ghost use Rattle.aes3_cli_jobs.specs.declared.work.StreamWork.TheVariants.{Rewrite};
-ghost use Rattle.aes3_program.specs.JobRuns.{RunRan, period, status_by};
+ghost use Rattle.aes3_program.specs.JobRuns.{Answered, ReadRan, StreamRan, period, status_by, use_for};
 
-use crate::outcome::{Outcome, encoded, exact, filled, plain, rewritten, sampled};
+use crate::outcome::{
+    Outcome, encoded, exact, filled, of_file, of_run, plain, rewritten, sampled, waved,
+};
 use aes3_cell::{Counts, Form, RunError, Sink, Source};
-use aes3_cli_jobs::{Job, ReadWork, StreamWork};
+use aes3_cli_jobs::{Job, ReadWork, Refusal, StreamWork};
 use aes3_engine::{
     cut, decode_words, encode_words, from_pcm_words, normalise, rewrite, rewrite_exactly, to_bits,
     to_exact_pcm, to_filled_pcm, to_pcm, to_valid_pcm,
@@ -19,6 +20,7 @@ use aes3_info::info;
 use aes3_status::Change;
 use aes3_text::{check, scan, show_changes, show_detail};
 use aes3_watch::{account, watch, watch_sums};
+use aes3_wave_runs::{StatusUse, WaveOptions, from_wav, to_wav};
 
 /// How many bytes an input may have.
 const MAX_BYTES: u64 = 1 << 40;
@@ -60,7 +62,7 @@ fn run_samples<S: Source, T: Sink>(
 ) -> Result<Outcome, RunError>
     requires source_room { S.failed source.old + 1 < 2 ^ 64 }
     requires sink_room { T.failed sink.old + 1 < 2 ^ 64 }
-    ensures ran { RunRan (Read input (ToPcm format valid)) (S.has_ended source.new)
+    ensures ran { ReadRan input (ToPcm format valid) (S.has_ended source.new)
         (movement_of S.given S.failed source.old source.new)
         (movement_of T.taken T.failed sink.old sink.new) result }
     ensures passed_on { IfOk result (λ _. T.passed sink.new ≡ T.taken sink.new) }
@@ -83,7 +85,7 @@ fn run_change<S: Source, T: Sink>(
 ) -> Result<Outcome, RunError>
     requires source_room { S.failed source.old + 1 < 2 ^ 64 }
     requires sink_room { T.failed sink.old + 1 < 2 ^ 64 }
-    ensures ran { RunRan (Stream input output (Rewrite change.now exactly)) (S.has_ended source.new)
+    ensures ran { StreamRan input output (Rewrite change.now exactly) (S.has_ended source.new)
         (movement_of S.given S.failed source.old source.new)
         (movement_of T.taken T.failed sink.old sink.new) result }
     ensures passed_on { IfOk result (λ _. T.passed sink.new ≡ T.taken sink.new) }
@@ -108,7 +110,7 @@ fn run_stream<S: Source, T: Sink>(
 ) -> Result<Outcome, RunError>
     requires source_room { S.failed source.old + 1 < 2 ^ 64 }
     requires sink_room { T.failed sink.old + 1 < 2 ^ 64 }
-    ensures ran { RunRan (Stream input output work.now) (S.has_ended source.new)
+    ensures ran { StreamRan input output work.now (S.has_ended source.new)
         (movement_of S.given S.failed source.old source.new)
         (movement_of T.taken T.failed sink.old sink.new) result }
     ensures passed_on { IfOk result (λ _. T.passed sink.new ≡ T.taken sink.new) }
@@ -133,7 +135,7 @@ fn run_read<S: Source, T: Sink>(
 ) -> Result<Outcome, RunError>
     requires source_room { S.failed source.old + 1 < 2 ^ 64 }
     requires sink_room { T.failed sink.old + 1 < 2 ^ 64 }
-    ensures ran { RunRan (Read input work.now) (S.has_ended source.new)
+    ensures ran { ReadRan input work.now (S.has_ended source.new)
         (movement_of S.given S.failed source.old source.new)
         (movement_of T.taken T.failed sink.old sink.new) result }
     ensures passed_on { IfOk result (λ _. T.passed sink.new ≡ T.taken sink.new) }
@@ -161,9 +163,23 @@ fn run_read<S: Source, T: Sink>(
             fill,
             marked,
         } => filled(to_filled_pcm(source, sink, MAX_BYTES, input, format, fill, marked)),
+        ReadWork::ToWav { depth, rate } => {
+            waved(to_wav(source, sink, MAX_BYTES, input, depth, rate), rate)
+        }
         ReadWork::ToBits { bits, channel } => {
             plain(to_bits(source, sink, MAX_BYTES, input, bits, channel))
         }
+    }
+}
+
+/// What a channel status is for.
+fn status_use(professional: bool) -> StatusUse
+    ensures { result ≡ use_for professional }
+{
+    if professional {
+        StatusUse::Professional
+    } else {
+        StatusUse::Consumer
     }
 }
 
@@ -175,32 +191,50 @@ pub fn run_job<S: Source, T: Sink>(
     job: &Job,
     source: &mut S,
     sink: &mut T,
-) -> Result<Outcome, RunError>
+) -> Result<Outcome, Refusal>
     requires source_room { S.failed source.old + 1 < 2 ^ 64 }
     requires sink_room { T.failed sink.old + 1 < 2 ^ 64 }
-    ensures ran { RunRan job.now (S.has_ended source.new)
+    ensures ran { Answered job.now (S.has_ended source.new)
         (movement_of S.given S.failed source.old source.new)
         (movement_of T.taken T.failed sink.old sink.new) result }
     ensures passed_on { IfOk result (λ _. T.passed sink.new ≡ T.taken sink.new) }
 {
     match *job {
-        Job::Encode { output, words } => encoded(encode_words(
+        Job::Encode { output, words } => of_run(encoded(encode_words(
             source, sink, MAX_BYTES, output, words,
-        )),
+        ))),
         Job::Stream {
             input,
             output,
             work,
-        } => run_stream(source, sink, input, output, &work),
-        Job::Read { input, work } => run_read(source, sink, input, &work),
+        } => of_run(run_stream(source, sink, input, output, &work)),
+        Job::Read { input, work } => of_run(run_read(source, sink, input, &work)),
         Job::FromPcm {
             format,
             exact,
             change,
             words,
-        } => sampled(
+        } => of_run(sampled(
             from_pcm_words(source, sink, MAX_BYTES, format, exact, &change, words),
             &change,
-        ),
+        )),
+        Job::FromWav {
+            channels,
+            mono,
+            exact,
+            professional,
+            change,
+            words,
+        } => {
+            let options = WaveOptions {
+                channels,
+                mono,
+                exact,
+                status_use: status_use(professional),
+                change,
+                words,
+            };
+            of_file(from_wav(source, sink, MAX_BYTES, &options), &options)
+        }
     }
 }

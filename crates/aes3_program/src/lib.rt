@@ -23,4 +23,4 @@ pub use job_run::{DONE, FAULTY, run_job};
 pub use octets::{Ran, outputs_can_be_turned, run_octets};
 pub use outcome::{Met, Outcome, Remark};
 pub use refusal::{REFUSED, put_refusal, refuse};
-pub use run::{USAGE, Unread, run_line, run_words, tell_unread};
+pub use run::{USAGE, Unread, run_line, tell_unread};

@@ -4,11 +4,17 @@ ghost use Rattle.std.specs.Prelude.{◌≡◌, [], ◌∷◌, replicate};
 ghost use Rattle.std.specs.Option.{unwrap_or};
 ghost use Rattle.aes3_engine.specs.RewritingRuns.{taken_of};
 ghost use Rattle.aes3_program.specs.Outcomes.{answer_as, exactness, of_counts, of_exact, of_filled};
-ghost use Rattle.aes3_program.specs.Outcomes.{of_rewritten, of_samples, of_words};
+ghost use Rattle.aes3_program.specs.Outcomes.{bits_of, of_converted, of_rewritten, of_samples, of_wave, of_words};
+ghost use Rattle.aes3_program.specs.Outcomes.{refusal_of, run_answer, unsaid_format, wave_answer};
+ghost use Rattle.aes3_wave_runs.specs.FromWav.{or_status};
+ghost use Rattle.aes3_wave_runs.specs.Status.{status_for};
 
 use aes3_cell::{Counts, RunError};
+use aes3_cli_jobs::Refusal;
 use aes3_engine::{EncodedWords, Exact, Filled, Rewritten};
 use aes3_status::{Change, Settings, Taken};
+use aes3_wave::{WaveFormat, Width};
+use aes3_wave_runs::{Converted, WaveError, WaveOptions, WaveWritten, status_of, unsaid_of};
 
 /// The settings of a channel, and which of them some block took.
 #[derive(Clone, Copy, PartialEq, Eq)]
@@ -19,20 +25,47 @@ pub struct Met {
     pub taken: Taken,
 }
 
+/// What of the format of a WAV file the channel status that its header asks for has no code for.
+#[derive(Clone, Copy, PartialEq, Eq)]
+pub struct UnsaidFormat {
+    /// The sampling frequency in hertz.
+    pub rate: Option<u32>,
+    /// How many bits of a sample count.
+    pub bits: Option<u8>,
+}
+
 /// What standard error is told of a job that read its input to the end.
 #[derive(Clone, Copy, PartialEq, Eq)]
 pub enum Remark {
     /// Nothing.
     Nothing,
     /// So many frames fill the time between blocks.
-    Filled { frames: u64 },
+    Filled {
+        frames: u64,
+    },
     /// So many words stand before the first block, and are left out.
-    LeftOut { words: u64 },
+    LeftOut {
+        words: u64,
+    },
     /// These settings were given for channel 1 and channel 2: those that no block took are told.
-    Settings { first: Met, second: Met },
+    Settings {
+        first: Met,
+        second: Met,
+    },
+    /// Neither an option nor a block names the sampling frequency of the WAV file that is written.
+    UsualRate,
+    /// The status of blocks of a WAV file does not say this of its format; these settings were given for
+    /// channel 1 and channel 2: those that the status did not take are told.
+    Wave {
+        unsaid: UnsaidFormat,
+        first: Met,
+        second: Met,
+    },
     /// The block at this place could not be given exactly, and neither it nor what is behind it is:
     /// the job is refused.
-    Inexact { at: u64 },
+    Inexact {
+        at: u64,
+    },
 }
 
 /// What a job answers that read its input to the end.
@@ -167,4 +200,133 @@ pub(crate) fn sampled(ran: Result<Counts, RunError>, change: &Change) -> Result<
             },
         },
     })
+}
+
+/// The answer of a job that writes a WAV file, whose sampling frequency is this where it is given.
+pub(crate) fn waved(
+    ran: Result<WaveWritten, RunError>,
+    rate: Option<u32>,
+) -> Result<Outcome, RunError>
+    ensures { result ≡ answer_as (of_wave rate) ran }
+{
+    let written = ran?;
+    Ok(Outcome {
+        counts: written.counts,
+        remark: if rate.is_some() || written.named.is_some() {
+            Remark::Nothing
+        } else {
+            Remark::UsualRate
+        },
+    })
+}
+
+/// How many bits of a sample count.
+fn bits_of(width: Width) -> u8
+    ensures { result ≡ bits_of width }
+{
+    match width {
+        Width::Bits8 => 8,
+        Width::Bits16 => 16,
+        Width::Bits20 => 20,
+        Width::Bits24 => 24,
+        Width::Bits32 => 32,
+    }
+}
+
+/// What of a format the status that is made of it does not say; nothing where none is made of it.
+fn unsaid_format(options: &WaveOptions, format: &WaveFormat) -> UnsaidFormat
+    ensures { result ≡ unsaid_format options.now format.now }
+{
+    let unsaid = unsaid_of(format, options.status_use);
+    let is_made = options.change.status1.is_none() || options.change.status2.is_none();
+    UnsaidFormat {
+        rate: if is_made && unsaid.rate {
+            Some(format.rate)
+        } else {
+            None
+        },
+        bits: if is_made && unsaid.width {
+            Some(bits_of(format.width))
+        } else {
+            None
+        },
+    }
+}
+
+/// The status that blocks of a WAV file begin with, where this is given.
+fn wave_status(
+    given: Option<[u8; 24]>,
+    options: &WaveOptions,
+    format: &WaveFormat,
+) -> Option<[u8; 24]>
+    ensures { result ≡ or_status (status_for options.now.status_use format.now) given }
+{
+    match given {
+        Some(status) => Some(status),
+        None => Some(status_of(format, options.status_use)),
+    }
+}
+
+/// The answer of a job that makes blocks of a WAV file: their status is the same in all.
+fn converted(ran: &Converted, options: &WaveOptions) -> Outcome
+    ensures { result ≡ of_converted options.now ran.now }
+{
+    let format = &ran.header.format;
+    let change = &options.change;
+    let status1 = wave_status(change.status1, options, format);
+    let status2 = wave_status(change.status2, options, format);
+    if ran.counts.blocks == 0 {
+        return Outcome {
+            counts: ran.counts,
+            remark: Remark::Nothing,
+        };
+    }
+    Outcome {
+        counts: ran.counts,
+        remark: Remark::Wave {
+            unsaid: unsaid_format(options, format),
+            first: Met {
+                settings: change.settings1,
+                taken: taken_of(&status1, &change.settings1),
+            },
+            second: Met {
+                settings: change.settings2,
+                taken: taken_of(&status2, &change.settings2),
+            },
+        },
+    }
+}
+
+/// Why a run over a WAV file is refused, as a job is.
+fn refusal_of(error: WaveError) -> Refusal
+    ensures { result ≡ refusal_of error }
+{
+    match error {
+        WaveError::Header(error) => Refusal::Header(error),
+        WaveError::NoChannel { channels } => Refusal::NoChannel { channels },
+        WaveError::Run(error) => Refusal::Run(error),
+    }
+}
+
+/// The answer of a run over a WAV file.
+pub(crate) fn of_file(
+    ran: Result<Converted, WaveError>,
+    options: &WaveOptions,
+) -> Result<Outcome, Refusal>
+    ensures { result ≡ wave_answer options.now ran }
+{
+    match ran {
+        Ok(converted_file) => Ok(converted(&converted_file, options)),
+        Err(error) => Err(refusal_of(error)),
+    }
+}
+
+/// The answer of any other job.
+pub(crate) fn of_run(ran: Result<Outcome, RunError>) -> Result<Outcome, Refusal>
+    ensures { result ≡ run_answer ran }
+{
+    match ran {
+        Ok(outcome) => Ok(outcome),
+        Err(error) => Err(Refusal::Run(error)),
+    }
 }

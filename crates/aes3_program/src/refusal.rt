@@ -7,8 +7,8 @@ ghost use Rattle.aes3_program.specs.Asides.{Aside};
 ghost use Rattle.aes3_program.specs.Lines.{place_text, refusal_line};
 ghost use Rattle.aes3_program.specs.Streams.{PassesOn};
 
-use aes3_cell::{Fault, RunError, Sink, write_all};
-use aes3_cli_jobs::Observer;
+use aes3_cell::{Fault, Sink, write_all};
+use aes3_cli_jobs::{Observer, Refusal};
 use arrayvec::ArrayVec;
 use itoa::Buffer;
 
@@ -55,7 +55,7 @@ fn append_place(line: &mut ArrayVec<u8, LINE_LEN>, place: Option<u64>)
 ///
 /// # Errors
 /// The sink's fault; then it has taken a front of the line.
-pub fn put_refusal<T: Sink>(error: RunError, sink: &mut T) -> Result<(), Fault>
+pub fn put_refusal<T: Sink>(error: Refusal, sink: &mut T) -> Result<(), Fault>
     requires room { T.failed sink.old + 1 < 2 ^ 64 }
     ensures { Wrote T.taken T.failed sink.old sink.new (refusal_line error) result }
 {
@@ -69,7 +69,7 @@ pub fn put_refusal<T: Sink>(error: RunError, sink: &mut T) -> Result<(), Fault>
 
 /// Tells a refusal on `errors`, which are flushed and whose own faults change nothing, and then the
 /// observer, and answers its exit status.
-pub fn refuse<E: Sink, O: Observer>(error: RunError, errors: &mut E, observer: &mut O) -> u8
+pub fn refuse<E: Sink, O: Observer>(error: Refusal, errors: &mut E, observer: &mut O) -> u8
     requires { E.failed errors.old + 1 < 2 ^ 64 }
     ensures aside { Aside None (Some error) E.Sink errors.old errors.new
         O.Observer observer.old observer.new result }

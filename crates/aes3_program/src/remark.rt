@@ -6,14 +6,16 @@ ghost use Rattle.aes3_program.specs.Asides.{AsideOfRun, ErrorsLeft};
 ghost use Rattle.aes3_program.specs.JobRuns.{end_status};
 ghost use Rattle.aes3_status_text.specs.Untaken.{texts_of, told_line, untaken_line, untaken_lines};
 ghost use Rattle.aes3_program.specs.Lines.{filled_line, left_out_line, met_lines, remark_line};
+ghost use Rattle.aes3_program.specs.Lines.{no_rate_line, no_width_line, unsaid_lines, unsaid_rate_line};
+ghost use Rattle.aes3_program.specs.Lines.{unsaid_width_line, usual_rate_line};
 ghost use Rattle.aes3_program.specs.Outcomes.{RemarkTold};
 ghost use Rattle.aes3_program.specs.Streams.{PassesOn, moved};
 
 use crate::job_run::exit_status;
-use crate::outcome::{Met, Outcome, Remark};
+use crate::outcome::{Met, Outcome, Remark, UnsaidFormat};
 use crate::refusal::{LINE_LEN, append, append_number, put_refusal, refuse};
 use aes3_cell::{Fault, RunError, Sink, write_all};
-use aes3_cli_jobs::{Job, Observer};
+use aes3_cli_jobs::{Job, Observer, Refusal};
 use aes3_status::{Settings, Taken};
 use aes3_status_text::{TEXTS, TypedSettings, untaken_remedy};
 use arrayvec::ArrayVec;
@@ -45,6 +47,50 @@ fn put_left_out<T: Sink>(words: u64, sink: &mut T) -> Result<(), Fault>
     append(&mut line, b"aes3: left out ");
     append_number(&mut line, words);
     append(&mut line, b" words before the first block\n");
+    write_all(sink, line.as_slice())
+}
+
+/// Writes the line that the sampling frequency of a WAV file is neither given nor named, as one buffer.
+///
+/// # Errors
+/// The sink's fault; then it has taken a front of the line.
+fn put_usual_rate<T: Sink>(sink: &mut T) -> Result<(), Fault>
+    requires room { T.failed sink.old + 1 < 2 ^ 64 }
+    ensures { Wrote T.taken T.failed sink.old sink.new usual_rate_line result }
+{
+    let mut line: ArrayVec<u8, LINE_LEN> = ArrayVec::new();
+    append(&mut line, b"aes3: no block names a sampling frequency: ");
+    append(&mut line, b"the WAV file says 48000 Hz\n");
+    write_all(sink, line.as_slice())
+}
+
+/// Writes the line that the status has no code for a sampling frequency, as one buffer.
+///
+/// # Errors
+/// The sink's fault; then it has taken a front of the line.
+fn put_no_rate<T: Sink>(rate: u32, sink: &mut T) -> Result<(), Fault>
+    requires room { T.failed sink.old + 1 < 2 ^ 64 }
+    ensures { Wrote T.taken T.failed sink.old sink.new (no_rate_line rate) result }
+{
+    let mut line: ArrayVec<u8, LINE_LEN> = ArrayVec::new();
+    append(&mut line, b"aes3: the status has no code for ");
+    append_number(&mut line, u64::from(rate));
+    append(&mut line, b" Hz\n");
+    write_all(sink, line.as_slice())
+}
+
+/// Writes the line that it has none for a width, as one buffer.
+///
+/// # Errors
+/// The sink's fault; then it has taken a front of the line.
+fn put_no_width<T: Sink>(bits: u8, sink: &mut T) -> Result<(), Fault>
+    requires room { T.failed sink.old + 1 < 2 ^ 64 }
+    ensures { Wrote T.taken T.failed sink.old sink.new (no_width_line bits) result }
+{
+    let mut line: ArrayVec<u8, LINE_LEN> = ArrayVec::new();
+    append(&mut line, b"aes3: the status has no code for samples of ");
+    append_number(&mut line, u64::from(bits));
+    append(&mut line, b" bits\n");
     write_all(sink, line.as_slice())
 }
 
@@ -170,6 +216,66 @@ fn put_settings<T: Sink>(
     put_untaken(2, typed.second.as_slice(), second, sink)
 }
 
+/// Writes the line of a sampling frequency that the status has no code for, if there is one.
+///
+/// # Errors
+/// The sink's fault; then it has taken a front of the line.
+fn put_unsaid_rate<T: Sink>(rate: Option<u32>, sink: &mut T) -> Result<(), Fault>
+    requires room { T.failed sink.old + 1 < 2 ^ 64 }
+    ensures { Wrote T.taken T.failed sink.old sink.new (unsaid_rate_line rate) result }
+{
+    match rate {
+        None => Ok(()),
+        Some(rate) => put_no_rate(rate, sink),
+    }
+}
+
+/// Writes the line of a width that the status has no code for, if there is one.
+///
+/// # Errors
+/// The sink's fault; then it has taken a front of the line.
+fn put_unsaid_width<T: Sink>(bits: Option<u8>, sink: &mut T) -> Result<(), Fault>
+    requires room { T.failed sink.old + 1 < 2 ^ 64 }
+    ensures { Wrote T.taken T.failed sink.old sink.new (unsaid_width_line bits) result }
+{
+    match bits {
+        None => Ok(()),
+        Some(bits) => put_no_width(bits, sink),
+    }
+}
+
+/// Writes what of the format of a WAV file the status does not say.
+///
+/// # Errors
+/// The sink's fault; then it has taken a front of the lines.
+fn put_unsaid<T: Sink>(unsaid: &UnsaidFormat, sink: &mut T) -> Result<(), Fault>
+    requires room { T.failed sink.old + 1 < 2 ^ 64 }
+    ensures { Wrote T.taken T.failed sink.old sink.new (unsaid_lines unsaid.now) result }
+{
+    put_unsaid_rate(unsaid.rate, sink)?;
+    put_unsaid_width(unsaid.bits, sink)
+}
+
+/// Writes that, and then the settings that no block took.
+///
+/// # Errors
+/// The sink's fault; then it has taken a front of the lines.
+fn put_wave<T: Sink>(
+    typed: &TypedSettings<'_>,
+    unsaid: &UnsaidFormat,
+    first: &Met,
+    second: &Met,
+    sink: &mut T,
+) -> Result<(), Fault>
+    requires room { T.failed sink.old + 1 < 2 ^ 64 }
+    ensures { Wrote T.taken T.failed sink.old sink.new
+        (unsaid_lines unsaid.now ++ (met_lines 1 (texts_of typed.now.first) first.now
+        ++ met_lines 2 (texts_of typed.now.second) second.now)) result }
+{
+    put_unsaid(unsaid, sink)?;
+    put_settings(typed, first, second, sink)
+}
+
 /// Writes what there is to remark.
 ///
 /// # Errors
@@ -188,7 +294,13 @@ fn put_remark<T: Sink>(
         Remark::Filled { frames } => put_filled(*frames, sink),
         Remark::LeftOut { words } => put_left_out(*words, sink),
         Remark::Settings { first, second } => put_settings(typed, first, second, sink),
-        Remark::Inexact { at } => put_refusal(RunError::Inexact { at: *at }, sink),
+        Remark::UsualRate => put_usual_rate(sink),
+        Remark::Wave {
+            unsaid,
+            first,
+            second,
+        } => put_wave(typed, unsaid, first, second, sink),
+        Remark::Inexact { at } => put_refusal(Refusal::Run(RunError::Inexact { at: *at }), sink),
     }
 }
 
@@ -223,7 +335,7 @@ pub(crate) fn tell_outcome<E: Sink, O: Observer>(
 {
     match outcome.remark {
         Remark::Nothing => exit_status(job, &outcome.counts),
-        Remark::Inexact { at } => refuse(RunError::Inexact { at }, errors, observer),
+        Remark::Inexact { at } => refuse(Refusal::Run(RunError::Inexact { at }), errors, observer),
         _ => {
             tell_remark(&outcome.remark, typed, errors);
             exit_status(job, &outcome.counts)

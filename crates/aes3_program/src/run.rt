@@ -1,19 +1,19 @@
 //! Everything but the machine's own streams.
 
-ghost use Rattle.std.specs.Prelude.{◌≡◌, ◌<◌, ◌+◌, ◌^◌, IfOk, None, OnErr, map};
+ghost use Rattle.std.specs.Prelude.{◌≡◌, ◌<◌, ◌+◌, ◌^◌, IfOk, List, None, OnErr, ℕ};
 ghost use Rattle.aes3_cell.specs.Ends.{Grew};
 ghost use Rattle.aes3_program.specs.Asides.{AsideOfRun, AsideOfWords, job_of};
 ghost use Rattle.aes3_program.specs.StandardErrors.{ErrorsTold};
 ghost use Rattle.aes3_program.specs.Streams.{HasPassed, PassesOn, moved, streams_of};
-ghost use Rattle.aes3_program.specs.WordRuns.{FaultRan, LineRan, UnreadTold, WordsRan};
+ghost use Rattle.aes3_program.specs.WordRuns.{FaultRan, IsLineOfWords, LineRan, UnreadTold, WordsRan};
 
 use crate::job_run::DONE;
 use crate::octets::{Ran, run_octets};
 use crate::refusal::refuse;
 use aes3_cell::{Fault, RunError, Sink, Source, write_all};
-use aes3_cli_arguments::{CommandLine, LineFault, line_of_words};
-use aes3_cli_jobs::Observer;
-use std::alloc::{AllocError, Global};
+use aes3_cli_arguments::{CommandLine, LineFault};
+use aes3_cli_jobs::{Observer, Refusal};
+use std::alloc::AllocError;
 
 /// The exit status of a refused command line.
 pub const USAGE: u8 = 2;
@@ -63,9 +63,9 @@ fn tell_fault<T: Sink, E: Sink, O: Observer>(
         }
         LineFault::Help { text } => match put_text(text.as_str(), sink) {
             Ok(()) => DONE,
-            Err(_) => refuse(RunError::Write, errors, observer),
+            Err(_) => refuse(Refusal::Run(RunError::Write), errors, observer),
         },
-        LineFault::Refused(error) => refuse(error, errors, observer),
+        LineFault::Refused(error) => refuse(Refusal::Run(error), errors, observer),
     }
 }
 
@@ -98,7 +98,7 @@ pub fn tell_unread<E: Sink, O: Observer>(fault: Unread, errors: &mut E, observer
             let _ = put_text(NOT_UTF8, errors);
             USAGE
         }
-        Unread::Memory => refuse(RunError::Memory, errors, observer),
+        Unread::Memory => refuse(Refusal::Run(RunError::Memory), errors, observer),
     }
 }
 
@@ -126,6 +126,13 @@ pub fn run_line<S: Source + Drop, T: Sink + Drop, E: Sink, O: Observer>(
     ensures passed_on { HasPassed T.Sink sink → PassesOn T.Sink sink result.sink }
     ensures aside { AsideOfRun (job_of line.entry) E.Sink errors.old errors.new
         O.Observer observer.old observer.new result.status }
+    // Of the line of any words it does what they ask for.
+    ensures words { (words : List (List ℕ)) → IsLineOfWords words line.entry → WordsRan words
+        (streams_of S.Source source result.source
+        T.Sink sink result.sink E.Sink errors.old errors.new) result.status }
+    ensures words_aside { (words : List (List ℕ)) → IsLineOfWords words line.entry
+        → AsideOfWords words E.Sink errors.old errors.new
+        O.Observer observer.old observer.new result.status }
 {
     match line {
         Ok(line) => run_octets(
@@ -147,27 +154,4 @@ pub fn run_line<S: Source + Drop, T: Sink + Drop, E: Sink, O: Observer>(
             }
         }
     }
-}
-
-/// Runs a command line, without the program's name, whose input is the source, as [`run_line`] does.
-pub fn run_words<S: Source + Drop, T: Sink + Drop, E: Sink, O: Observer>(
-    alloc: Global,
-    words: &[&str],
-    source: S,
-    sink: T,
-    errors: &mut E,
-    observer: &mut O,
-) -> Ran<S, T>
-    requires source_room { S.failed source + 1 < 2 ^ 64 }
-    requires sink_room { T.failed sink + 1 < 2 ^ 64 }
-    requires errors_room { E.failed errors.old + 1 < 2 ^ 64 }
-    ensures ran { WordsRan (map (λ word. word.now) words.now)
-        (streams_of S.Source source result.source
-        T.Sink sink result.sink E.Sink errors.old errors.new) result.status }
-    ensures passed_on { HasPassed T.Sink sink → PassesOn T.Sink sink result.sink }
-    ensures aside { AsideOfWords (map (λ word. word.now) words.now)
-        E.Sink errors.old errors.new O.Observer observer.old observer.new result.status }
-{
-    let line = line_of_words(alloc, words);
-    run_line(line, source, sink, errors, observer)
 }

@@ -1,19 +1,19 @@
 -- The sentence about the refusal of which the hints have heard.
 use Rattle.std.proofs.Common.{◌≡◌, ℕ, List, Option, Some, None, Result, Ok, Err, IfOk, IfSome, inl, refl, subst}
 use Rattle.std.specs.Option.{option_or}
-use Rattle.aes3_cell.specs.declared.refusal.RunError.{RunError}
 use Rattle.aes3_input.specs.Running.{Movement}
 use Rattle.aes3_cli_arguments.specs.declared.job.LineFault.{LineFault}
 use Rattle.aes3_cli_arguments.specs.declared.line.CommandLine.{CommandLine}
 use Rattle.aes3_cli_jobs.specs.declared.job.Job.{Job}
-use Rattle.aes3_cell.specs.Refusals.{number_of}
+use Rattle.aes3_cli_jobs.specs.Refusals.{number_of_refusal}
+use Rattle.aes3_cli_jobs.specs.declared.refusal.Refusal.{Refusal}
 use Rattle.aes3_cli_arguments.specs.Explained.{advice_of}
 use Rattle.aes3_cli_hints.specs.Sentences.{Explained, ExplainedBy}
 use Rattle.aes3_program.specs.Asides.{RefusedAt, job_of}
 use Rattle.aes3_program_terminal.specs.Sentences.{RefusalExplained}
 
 -- what they hold is what they have heard, so the sentence is about the refusal whose line the errors got
-pub explained : (refused before : Option RunError) {errors : Movement} {status : ℕ} {held : Option RunError}
+pub explained : (refused before : Option Refusal) {errors : Movement} {status : ℕ} {held : Option Refusal}
     (old new : Option (List ℕ)) → held ≡ option_or refused before → RefusedAt refused errors status → status ≡ 3
     → IfSome held (λ error. Explained error old new) → RefusalExplained errors new
 explained None before old new is end three told = absurd (end three)
@@ -21,7 +21,7 @@ explained (Some error) before old new is end three told = record {
   refusal = error;
   line = end.1;
   before = old;
-  sentence = subst (λ (o : Option RunError). IfSome o (λ error. Explained error old new)) is told;
+  sentence = subst (λ (o : Option Refusal). IfSome o (λ error. Explained error old new)) is told;
 }
 
 -- the job that they hold is that of the line
@@ -31,7 +31,7 @@ job-is (Ok line) before is = is
 job-is (Err fault) before is = tt
 
 -- the advice that is always told of a refusal explains it
-pub advised : (held : Option RunError) (old new : Option (List ℕ))
-    → IfSome held (λ error. ExplainedBy (advice_of (number_of error)) old new) → IfSome held (λ error. Explained error old new)
+pub advised : (held : Option Refusal) (old new : Option (List ℕ))
+    → IfSome held (λ error. ExplainedBy (advice_of (number_of_refusal error)) old new) → IfSome held (λ error. Explained error old new)
 advised None old new told = tt
-advised (Some error) old new told = record { advice = advice_of (number_of error); fits = inl refl; told = told }
+advised (Some error) old new told = record { advice = advice_of (number_of_refusal error); fits = inl refl; told = told }

@@ -1,1 +1,2 @@
+pub mod Recognising
 pub mod Sentences

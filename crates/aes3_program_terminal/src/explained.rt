@@ -1,10 +1,10 @@
 //! A whole command line, and what a person at a terminal is told after it.
 
-ghost use Rattle.std.specs.Prelude.{◌≡◌, ◌<◌, ◌+◌, ◌^◌, ◌||◌, IfOk, IsFalse, IsTrue, None, Some};
+ghost use Rattle.std.specs.Prelude.{◌≡◌, ◌<◌, ◌+◌, ◌^◌, ◌||◌, IfOk, IsFalse, IsTrue, List, None, Some, ℕ};
 ghost use Rattle.aes3_program.specs.Asides.{ErrorsLeft};
 ghost use Rattle.aes3_program.specs.StandardErrors.{ErrorsTold};
 ghost use Rattle.aes3_program.specs.Streams.{HasPassed, PassesOn, moved, streams_of};
-ghost use Rattle.aes3_program.specs.WordRuns.{LineRan, UnreadTold};
+ghost use Rattle.aes3_program.specs.WordRuns.{IsLineOfWords, LineRan, UnreadTold, WordsRan};
 ghost use Rattle.aes3_program_terminal.specs.Sentences.{RefusalExplained};
 
 use aes3_cell::{Sink, Source};
@@ -43,6 +43,9 @@ pub fn run_and_explain<
         S.Source source.entry.source.source result.source.source.source
         T.Sink sink result.sink E.Sink errors.old errors.new) result.status }
     ensures told { ErrorsTold line.entry (moved E.Sink errors.old errors.new) result.status }
+    ensures words { (words : List (List ℕ)) → IsLineOfWords words line.entry → WordsRan words (streams_of
+        S.Source source.entry.source.source result.source.source.source
+        T.Sink sink result.sink E.Sink errors.old errors.new) result.status }
     ensures silent { IsFalse (hints.old.terminals.errors || hints.old.names_file)
         → H.taken hints.new.sink ≡ H.taken hints.old.sink }
     ensures explained { IsTrue hints.old.terminals.errors → hints.old.refusal ≡ None

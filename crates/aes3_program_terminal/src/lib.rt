@@ -3,5 +3,8 @@
 
 /// A line, and what is explained after it.
 mod explained;
+/// The form of a recording by its first octets.
+mod recognised;
 
 pub use explained::{report_unread, run_and_explain};
+pub use recognised::recognise;

@@ -1,8 +1,9 @@
 //! Worked command lines, run.
 
 use aes3_cell::{MemorySink, MemorySource, Source};
+use aes3_cli_arguments::line_of_words;
 use aes3_cli_jobs::Nobody;
-use aes3_program::{Unread, run_words, tell_unread};
+use aes3_program::{Unread, run_line, tell_unread};
 use std::alloc::Global;
 
 /// Words, an input, its output, the line of its refusal and the exit status.
@@ -44,7 +45,8 @@ fn is_run(alloc: Global, line: &Line) -> bool {
     let source = MemorySource::new(input, 1);
     let sink = MemorySink::new(alloc);
     let mut lines = MemorySink::new(alloc);
-    let answer = run_words(alloc, words, source, sink, &mut lines, &mut Nobody);
+    let line = line_of_words(alloc, words);
+    let answer = run_line(line, source, sink, &mut lines, &mut Nobody);
     answer.status == status && answer.sink.bytes() == output && lines.bytes() == errors
 }
 
@@ -61,7 +63,8 @@ fn unread_behind_a_bad_status(alloc: Global) -> Option<usize> {
     let source = MemorySource::new(b"2", 1);
     let sink = MemorySink::new(alloc);
     let mut lines = MemorySink::new(alloc);
-    let mut answer = run_words(alloc, &words, source, sink, &mut lines, &mut Nobody);
+    let line = line_of_words(alloc, &words);
+    let mut answer = run_line(line, source, sink, &mut lines, &mut Nobody);
     if answer.status == 3 && lines.bytes() == b"aes3: refused 9\n".as_slice() {
         answer.source.read(&mut [0]).ok()
     } else {

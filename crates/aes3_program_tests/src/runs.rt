@@ -5,7 +5,7 @@ ghost use Rattle.std.specs.Prelude.{◌<◌};
 
 use crate::bytes::{Bytes, bytes_of};
 use aes3_cell::{FailingSink, FailingSource, Form, MemorySink, MemorySource, RunError, ShortSink};
-use aes3_cli_jobs::{Job, ReadWork, StreamWork};
+use aes3_cli_jobs::{Job, ReadWork, Refusal, StreamWork};
 use aes3_engine::Change;
 use aes3_forms_samples::SampleFormat;
 use aes3_forms_words::Words;
@@ -91,7 +91,7 @@ fn tells_failed_read(alloc: Global, job: &Job, input: &[u8], call: usize, front:
     let mut source = FailingSource::new(input, PIECE, call as u64);
     let mut sink = MemorySink::new(alloc);
     let answer = run_job(job, &mut source, &mut sink);
-    answer == Err(RunError::Read) && sink.bytes() == front
+    answer == Err(Refusal::Run(RunError::Read)) && sink.bytes() == front
 }
 
 fn tells_failed_reads(
@@ -117,7 +117,7 @@ fn tells_failed_write(alloc: Global, job: &Job, input: &[u8], call: usize, front
     let mut source = MemorySource::new(input, 4_096);
     let mut sink = FailingSink::new(alloc, call as u64);
     let answer = run_job(job, &mut source, &mut sink);
-    answer == Err(RunError::Write) && sink.bytes() == front
+    answer == Err(Refusal::Run(RunError::Write)) && sink.bytes() == front
 }
 
 fn tells_failed_writes(

@@ -1,8 +1,8 @@
 -- A reader that follows a header.
-use Rattle.std.proofs.Common.{inl, inr, ◌≡◌, true, false, ℕ, ◌+◌, ◌-◌, ◌<◌, ◌≤◌, List, [], ◌∷◌, ◌++◌, length, take, drop, get_or, refl, sym, ap}
+use Rattle.std.proofs.Common.{inl, inr, ◌≡◌, true, false, Bool, ℕ, ◌+◌, ◌-◌, ◌<◌, ◌≤◌, List, [], ◌∷◌, ◌++◌, length, take, drop, get_or, refl, sym, ap}
 use Rattle.std.proofs.Common.{subst, ◌∙◌, arith, append_assoc, append-nil}
-use Rattle.std.specs.Prelude.{Some, None, Ok, Err}
-use Rattle.std.proofs.lemmas.Bool.{cases_lt}
+use Rattle.std.specs.Prelude.{Some, None, Ok, Err, if◌then◌else◌}
+use Rattle.std.proofs.lemmas.Bool.{cases_lt, lt-ltb, le-ltb}
 use Rattle.std.proofs.lemmas.List.{drop_all, length-append, length-drop, length-take-le}
 use Rattle.std.proofs.Math.Seq.{drop-append-add, take-add}
 use Rattle.aes3_wave.specs.declared.error.HeaderError.{HeaderError}
@@ -10,11 +10,11 @@ use Rattle.aes3_wave.specs.declared.chunk.Known.{Known}
 use Rattle.aes3_wave.specs.declared.chunk.WaveHeader.{WaveHeader}
 use Rattle.aes3_wave.specs.declared.state.Stage.{Stage}
 use Rattle.aes3_wave.specs.declared.state.Stage.TheVariants.{First, Chunks, Whole}
-use Rattle.aes3_wave.specs.Chunks.{chunk_len, is_data}
-use Rattle.aes3_wave.specs.Headers.{judged, judged_from}
+use Rattle.aes3_wave.specs.Chunks.{chunk_len, head_len, is_data}
+use Rattle.aes3_wave.specs.Headers.{Judged, judged, judged_from}
 use Rattle.aes3_wave.specs.Following.{FollowsAt, Holds, IsNext, IsOpen, IsOpenChunk}
-use Rattle.aes3_wave.specs.Following.{IsRefused, IsRefusedOctet, IsWhole, goes_on, header_of, part_at, part_len}
-use Rattle.aes3_wave.proofs.Chunks.{chunk-append, data-append, head_len-most}
+use Rattle.aes3_wave.specs.Following.{IsRefused, IsRefusedOctet, IsWhole, goes_on, header_of, missing, part_at, part_len}
+use Rattle.aes3_wave.proofs.Chunks.{chunk-append, data-append, from-more, from-short, head_len-append, head_len-most}
 use Rattle.aes3_wave.proofs.Steps.{judged-short, open-none}
 
 -- ---- what is judged of all that was taken
@@ -235,3 +235,69 @@ piece-refused b p place e h r = record {
       (ap (λ m. b ++ take m p) (let q : place + r.n + 1 ≡ place + (r.n + 1) = omega arith in q)
       ∙ sym (joined b p place (r.n + 1))) ∙ r.on c;
 }
+
+-- ---- how many octets more it takes
+
+missing-short : (k : Known) (f : List ℕ) → length f < 8 → missing k f ≡ 8 - length f
+missing-short k f h = ap (λ (t : Bool). if t then 8 - length f else head_len k f - length f) (lt-ltb (length f) 8 h)
+
+missing-long : (k : Known) (f : List ℕ) → 8 ≤ length f → missing k f ≡ head_len k f - length f
+missing-long k f h = ap (λ (t : Bool). if t then 8 - length f else head_len k f - length f) (le-ltb (length f) 8 h)
+
+missing-some : (k : Known) (f : List ℕ) → IsOpenChunk k f → 0 < missing k f
+missing-some k f o =
+    elim (cases_lt (length f) 8) [
+      | inl h ↦ let e = missing-short k f h in omega (arith, h)
+      | inr h ↦ let e = missing-long k f h in omega (arith, h, o.head h)
+    ]
+
+missing-open : (at : ℕ) (k : Known) (f c : List ℕ) → IsOpenChunk k f → length c < missing k f
+    → judged_from at k (f ++ c) ≡ Ok None
+missing-open at k f c o few =
+    let l = length-append f c in
+    elim (cases_lt (length f) 8) [
+      | inl h ↦ let e = missing-short k f h in from-short at k (f ++ c) (omega (arith, h))
+      | inr h ↦
+          (let e = missing-long k f h in
+          let n = head_len-append k f c h in
+          from-more at k (f ++ c) (omega (arith, h)) (data-append f c h ∙ o.other h) (omega (arith, h)))
+    ]
+
+pub first-open : (seen at : ℕ) (f : List ℕ) (left : ℕ) (b piece : List ℕ) (stage : Stage) → stage ≡ First
+    → FollowsAt seen stage at f left b → length piece < 12 - length f → judged (b ++ piece) ≡ Ok None
+first-open seen at f left b piece stage e w few =
+    let v : FollowsAt seen First at f left b = subst (λ t. FollowsAt seen t at f left b) e w in
+    let l = length-append f piece in
+    v.on piece ∙ judged-short (f ++ piece) (omega arith)
+
+pub first-some : (seen at : ℕ) (f : List ℕ) (left : ℕ) (b : List ℕ) (stage : Stage) → stage ≡ First
+    → FollowsAt seen stage at f left b → 0 < 12 - length f
+first-some seen at f left b stage e w =
+    let v : FollowsAt seen First at f left b = subst (λ t. FollowsAt seen t at f left b) e w in
+    let few = v.holds.begun.few in
+    omega arith
+
+pub chunks-open : (seen at : ℕ) (f : List ℕ) (left : ℕ) (b piece : List ℕ) (stage : Stage) (k : Known)
+    → stage ≡ Chunks k → FollowsAt seen stage at f left b → length piece < left + missing k f
+    → judged (b ++ piece) ≡ Ok None
+chunks-open seen at f left b piece stage k e w few =
+    let v : FollowsAt seen (Chunks k) at f left b = subst (λ t. FollowsAt seen t at f left b) e w in
+    let l = length-drop left piece in
+    let some = missing-some k f v.holds.begun in
+    v.on piece ∙ missing-open at k f (drop left piece) v.holds.begun (omega arith)
+
+pub chunks-some : (seen at : ℕ) (f : List ℕ) (left : ℕ) (b : List ℕ) (stage : Stage) (k : Known)
+    → stage ≡ Chunks k → FollowsAt seen stage at f left b → 0 < missing k f
+chunks-some seen at f left b stage k e w =
+    let v : FollowsAt seen (Chunks k) at f left b = subst (λ t. FollowsAt seen t at f left b) e w in
+    missing-some k f v.holds.begun
+
+pub whole-some : (seen at : ℕ) (f : List ℕ) (left : ℕ) (b : List ℕ) (stage : Stage) (header : WaveHeader)
+    → stage ≡ Whole header → FollowsAt seen stage at f left b → judged b ≡ Ok None → ⊥
+whole-some seen at f left b stage header e w h =
+    let q = answered seen stage at f left b w in
+    let r : Ok (Some header) ≡ Ok None = ap (λ t. Ok (header_of t)) (sym e) ∙ sym q ∙ h in
+    absurd (some-none r)
+  where
+    some-none : ◌≡◌ {A = Judged} (Ok (Some header)) (Ok None) → ⊥
+    some-none r = cc

@@ -1,6 +1,6 @@
 -- A reader that follows a header, in pieces of any size.
-use Rattle.std.specs.Prelude.{ℕ, true, false, List, [], ◌∷◌, ◌++◌, ◌+◌, ◌≡◌, ◌<◌, ◌≤◌, ◌^◌, drop, length, take}
-use Rattle.std.specs.Prelude.{Option, Some, None, Result, Ok, Err}
+use Rattle.std.specs.Prelude.{ℕ, true, false, List, [], ◌∷◌, ◌++◌, ◌+◌, ◌-◌, ◌≡◌, ◌<◌, ◌≤◌, ◌^◌, drop, length, take}
+use Rattle.std.specs.Prelude.{Option, Some, None, Result, Ok, Err, if◌then◌else◌, nat_lt}
 use Rattle.aes3_wave.specs.declared.error.HeaderError.{HeaderError}
 use Rattle.aes3_wave.specs.declared.chunk.Known.{Known}
 use Rattle.aes3_wave.specs.declared.chunk.WaveHeader.{WaveHeader}
@@ -98,6 +98,10 @@ abbrev pub header_of : Stage → Option WaveHeader
 header_of First = None
 header_of (Chunks k) = None
 header_of (Whole header) = Some header
+
+-- how many octets of a chunk's head come after these
+abbrev pub missing : Known → List ℕ → ℕ
+missing k f = if nat_lt (length f) 8 then 8 - length f else head_len k f - length f
 
 -- a piece after the octets b is refused: with the first n of its octets, and not before, whatever comes after these
 pub record IsRefused (b piece : List ℕ) (e : HeaderError) : Type 0 where

@@ -8,6 +8,8 @@ use Rattle.aes3_wave.specs.declared.format.Width.{Width}
 use Rattle.aes3_wave.specs.declared.format.Width.TheVariants.{Bits8, Bits16, Bits20, Bits24, Bits32}
 use Rattle.aes3_wave.specs.declared.format.WaveFormat.{WaveFormat}
 use Rattle.aes3_wave.specs.declared.samples.Channels.{Channels}
+use Rattle.aes3_wave.specs.declared.samples.Mono.{Mono}
+use Rattle.aes3_wave.specs.declared.samples.Mono.TheVariants.{Both, First}
 use Rattle.aes3_wave.specs.Formats.{container_len}
 
 -- octets up to so many, or all
@@ -43,13 +45,21 @@ abbrev pub sample_at : WaveFormat → ℕ → List ℕ → List ℕ
 sample_at f at b =
     counted f.width (wide f.container (get_or b at 0) (get_or b (at + 1) 0) (get_or b (at + 2) 0) (get_or b (at + 3) 0))
 
--- that of a channel of a frame, of which the first is 0, and those of two channels
+-- that of a channel of a frame, of which the first is 0; zero in place of none; and those of two channels
 abbrev pub sample_of : WaveFormat → ℕ → List ℕ → List ℕ
 sample_of f channel b = sample_at f (channel * container_len f.container) b
 
-abbrev pub two_samples : WaveFormat → Channels → List ℕ → List ℕ
-two_samples f channels b = sample_of f channels.first b ++ sample_of f channels.second b
+abbrev pub sample_or_zero : WaveFormat → Option ℕ → List ℕ → List ℕ
+sample_or_zero f (Some channel) b = sample_of f channel b
+sample_or_zero f None b = 0 ∷ 0 ∷ 0 ∷ 0 ∷ []
 
--- the channels that are taken where none are chosen: the first two, or of one that one twice
-abbrev pub usual_channels : WaveFormat → Channels
-usual_channels f = record { first = 0; second = if nat_lt f.channels 2 then 0 else 1 }
+abbrev pub two_samples : WaveFormat → Channels → List ℕ → List ℕ
+two_samples f channels b = sample_of f channels.first b ++ sample_or_zero f channels.second b
+
+-- the channels that are taken where none are chosen: the first two; or the only one, twice or as the first alone
+abbrev pub usual_second : Mono → Option ℕ
+usual_second Both = Some 0
+usual_second First = None
+
+abbrev pub usual_channels : WaveFormat → Mono → Channels
+usual_channels f mono = record { first = 0; second = if nat_lt f.channels 2 then usual_second mono else Some 1 }

@@ -26,7 +26,7 @@ mod written;
 pub use chunk::WaveHeader;
 pub use error::{Cause, HeaderError};
 pub use format::{Container, WaveFormat, Width};
-pub use samples::Channels;
+pub use samples::{Channels, Mono};
 pub use span::SampleSpan;
 pub use state::HeaderReader;
 pub use written::{Depth, HeaderOctets, header_of};

@@ -1,8 +1,8 @@
 //! The reader of a header.
 
-ghost use Rattle.std.specs.Prelude.{◌≡◌, ◌<◌, ◌≤◌, ◌+◌, ◌^◌, List, ℕ, [], None, Ok, length, IfOk};
+ghost use Rattle.std.specs.Prelude.{◌≡◌, ◌<◌, ◌≤◌, ◌+◌, ◌++◌, ◌^◌, List, ℕ, [], None, Ok, length, IfOk, take};
 ghost use Rattle.aes3_wave.specs.Following.{Decided, Follows, TookFront, TookOctet, TookPiece};
-ghost use Rattle.aes3_wave.specs.Following.{header_of};
+ghost use Rattle.aes3_wave.specs.Following.{header_of, missing};
 ghost use Rattle.aes3_wave.specs.Headers.{judged, judged_at_end};
 
 use crate::chunk::{FIRST_LEN, HEAD_LEN, Known, MOST_HEAD, Step, WaveHeader, chunk_len, is_data};
@@ -80,6 +80,33 @@ impl HeaderReader {
             Stage::First => None,
             Stage::Chunks(_) => None,
             Stage::Whole(header) => Some(header),
+        }
+    }
+
+    /// How many octets of a chunk's head are still to come.
+    fn missing(&self, known: &Known) -> usize
+        ensures missing { result ≡ missing known.now (take self.now.len self.now.held) }
+        ensures few { result ≤ MOST_HEAD }
+    {
+        let front = &self.held[..self.len];
+        if front.len() < HEAD_LEN {
+            HEAD_LEN - front.len()
+        } else {
+            known.head_len(front).saturating_sub(front.len())
+        }
+    }
+
+    /// How many octets more it takes at least until the header is whole or refused; 0 once it is
+    /// whole. A read of so many octets at most goes no further than the header.
+    pub fn wanted(&self) -> u64
+        ensures some { (b : List ℕ) → Follows self.now b → judged b ≡ Ok None → 0 < result }
+        ensures open { (b piece : List ℕ) → Follows self.now b → length piece < result
+            → judged (b ++ piece) ≡ Ok None }
+    {
+        match self.stage {
+            Stage::First => FIRST_LEN.saturating_sub(self.len) as u64,
+            Stage::Chunks(known) => self.left.saturating_add(self.missing(&known) as u64),
+            Stage::Whole(_) => 0,
         }
     }
 

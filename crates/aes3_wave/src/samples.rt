@@ -1,9 +1,10 @@
 //! The samples of frames.
 
 ghost use Rattle.std.specs.Prelude.{◌≡◌, ◌≤◌, ◌<◌, ◌+◌, length};
+ghost use Rattle.std.specs.Option.{ForSome};
 ghost use Rattle.aes3_wave.specs.Formats.{container_len, frame_len};
-ghost use Rattle.aes3_wave.specs.Samples.{counted, sample_at, sample_of, signed, two_samples};
-ghost use Rattle.aes3_wave.specs.Samples.{usual_channels, wide};
+ghost use Rattle.aes3_wave.specs.Samples.{counted, sample_at, sample_of, sample_or_zero, signed};
+ghost use Rattle.aes3_wave.specs.Samples.{two_samples, usual_channels, usual_second, wide};
 
 use crate::format::{Container, WaveFormat, Width};
 
@@ -17,7 +18,17 @@ const FRAME_LEN: usize = 8;
 #[derive(Clone, Copy, PartialEq, Eq)]
 pub struct Channels {
     pub first: u16,
-    pub second: u16,
+    /// `None` has samples that are zero in its place.
+    pub second: Option<u16>,
+}
+
+/// Which channels the samples of a file are for that has one.
+#[derive(Clone, Copy, PartialEq, Eq)]
+pub enum Mono {
+    /// Both.
+    Both,
+    /// Channel 1; those of the other are zero.
+    First,
 }
 
 /// The highest octet of a number with a sign, of one that has 128 for its zero.
@@ -45,6 +56,18 @@ fn counted(width: Width, sample: [u8; SAMPLE_LEN]) -> [u8; SAMPLE_LEN]
     }
 }
 
+impl Mono {
+    /// The second channel of a file that has one.
+    fn usual_second(self) -> Option<u16>
+        ensures { result ≡ usual_second self }
+    {
+        match self {
+            Mono::Both => Some(0),
+            Mono::First => None,
+        }
+    }
+}
+
 impl WaveFormat {
     /// The sample whose octets begin at place `at`, as one of 32 bits.
     fn sample_at(self, frame: &[u8], at: usize) -> [u8; SAMPLE_LEN]
@@ -69,26 +92,42 @@ impl WaveFormat {
         self.sample_at(frame, channel as usize * self.container.len())
     }
 
+    /// That of a channel, or where there is none a sample that is zero.
+    fn sample_or_zero(self, frame: &[u8], channel: Option<u16>) -> [u8; SAMPLE_LEN]
+        requires frame { length frame.now ≡ frame_len self }
+        requires channel { ForSome channel (λ n. n < self.channels) }
+        ensures { result ≡ sample_or_zero self channel frame.now }
+    {
+        match channel {
+            Some(channel) => self.sample_of(frame, channel),
+            None => [0; SAMPLE_LEN],
+        }
+    }
+
     /// The samples of two channels of a frame, each as one of 32 bits with the lowest octet first: the
     /// bits that it has count most, and those that don't count are 0.
     pub fn two_samples(self, channels: Channels, frame: &[u8]) -> [u8; FRAME_LEN]
         requires frame { length frame.now ≡ frame_len self }
         requires first { channels.first < self.channels }
-        requires second { channels.second < self.channels }
+        requires second { ForSome channels.second (λ n. n < self.channels) }
         ensures { result ≡ two_samples self channels frame.now }
     {
         let [a, b, c, d] = self.sample_of(frame, channels.first);
-        let [e, f, g, h] = self.sample_of(frame, channels.second);
+        let [e, f, g, h] = self.sample_or_zero(frame, channels.second);
         [a, b, c, d, e, f, g, h]
     }
 
-    /// The channels that are taken where none are chosen: the first two, or of one that one twice.
-    pub fn usual_channels(self) -> Channels
-        ensures { result ≡ usual_channels self }
+    /// The channels that are taken where none are chosen: the first two, or of one what `mono` says.
+    pub fn usual_channels(self, mono: Mono) -> Channels
+        ensures { result ≡ usual_channels self mono }
     {
         Channels {
             first: 0,
-            second: if self.channels < 2 { 0 } else { 1 },
+            second: if self.channels < 2 {
+                mono.usual_second()
+            } else {
+                Some(1)
+            },
         }
     }
 }

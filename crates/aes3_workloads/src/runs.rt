@@ -7,8 +7,9 @@ use crate::numbers::Numbers;
 use crate::pieces::Pieces;
 use aes3_capture_recovery::{Progress, Recovery, Refusal, Unit, recover};
 use aes3_cell::{BufferedSink, Form, MemorySink, MemorySource};
+use aes3_cli_arguments::line_of_words;
 use aes3_cli_jobs::Nobody;
-use aes3_program::run_words;
+use aes3_program::run_line;
 use std::alloc::{AllocError, Global};
 
 /// Takes the digest of a run into that of all.
@@ -28,7 +29,8 @@ pub fn run_command(
 ) -> Result<(), AllocError> {
     let sink = BufferedSink::new(alloc, Digest::new())?;
     let mut errors = Digest::new();
-    let ran = run_words(alloc, words, source, sink, &mut errors, &mut Nobody);
+    let line = line_of_words(alloc, words);
+    let ran = run_line(line, source, sink, &mut errors, &mut Nobody);
     take_digest(digest, ran.sink.sink(), u64::from(ran.status));
     take_digest(digest, &errors, 0);
     Ok(())
@@ -74,7 +76,8 @@ pub fn output_of(alloc: Global, words: &[&str], bytes: &[u8]) -> Result<Vec<u8>,
     let source = MemorySource::new(bytes, 1 << 17);
     let mut errors = Digest::new();
     let sink = MemorySink::new(alloc);
-    let ran = run_words(alloc, words, source, sink, &mut errors, &mut Nobody);
+    let line = line_of_words(alloc, words);
+    let ran = run_line(line, source, sink, &mut errors, &mut Nobody);
     let mut output = Vec::new(alloc);
     output.extend_from_slice(ran.sink.bytes())?;
     Ok(output)

@@ -93,13 +93,13 @@ returns-in-rewrite-clause-fault c =
 
 pub to_bits-requires-clause-bits : goal.to_bits-requires-clause-bits
 to_bits-requires-clause-bits c =
-    bits_stand c.requires.stands.0 c.args.name.now (options_of c.args.options.now) c.requires.stands.1 c.in-text-3.is
+    bits_stand c.requires.stands.0 c.args.name.now (options_of c.args.options.now) c.requires.stands.1 c.in-text-5.is
     (no_unknown_bits (options_of c.args.options.now) c.requires.fit)
 
 pub to_bits-requires-clause-channel : goal.to_bits-requires-clause-channel
 to_bits-requires-clause-channel c =
     channel_stands c.requires.stands.0 c.args.name.now (options_of c.args.options.now) c.requires.stands.1
-    c.in-text-3.is
+    c.in-text-5.is
 
 pub returns-in-encode-clause-job : goal.returns-in-encode-clause-job
 returns-in-encode-clause-job c = (c.in-encode.is, c.form-output.ensures, c.words.ensures)
@@ -121,6 +121,27 @@ pub returns-in-cut-clause-job : goal.returns-in-cut-clause-job
 returns-in-cut-clause-job c =
     (c.input_form-input.ensures, c.form-output.ensures, (c.in-cut.is, c.number.ensures, c.number-in-cut.ensures))
 
+pub returns-in-text-5-clause-job : goal.returns-in-text-5-clause-job
+returns-in-text-5-clause-job c =
+    (c.input_form-input.ensures, subst (λ n. AsksToRead n (options_of c.args.options.now) c.to_bits.result) (sym c.in-text-5.is) c.to_bits.ensures)
+
+pub to_wav-requires : goal.to_wav-requires
+to_wav-requires c =
+    options_taken c.requires.stands.0 c.args.name.now (options_of c.args.options.now) c.requires.stands.1
+
 pub returns-in-text-3-clause-job : goal.returns-in-text-3-clause-job
 returns-in-text-3-clause-job c =
-    (c.input_form-input.ensures, subst (λ n. AsksToRead n (options_of c.args.options.now) c.to_bits.result) (sym c.in-text-3.is) c.to_bits.ensures)
+    (c.input_form-input.ensures, subst (λ n. AsksToRead n (options_of c.args.options.now) c.to_wav.result) (sym c.in-text-3.is) c.to_wav.ensures)
+
+pub from_wav-requires : goal.from_wav-requires
+from_wav-requires c =
+    options_taken c.requires.stands.0 c.args.name.now (options_of c.args.options.now) c.requires.stands.1
+
+pub returns-in-text-4-clause-job : goal.returns-in-text-4-clause-job
+returns-in-text-4-clause-job c = subst (λ n. IfOk c.from_wav.result (AsksFor n (options_of c.args.options.now)))
+    (sym c.in-text-4.is) c.from_wav.ensures.job
+
+pub returns-in-text-4-clause-fault : goal.returns-in-text-4-clause-fault
+returns-in-text-4-clause-fault c =
+    subst (λ n. IfErr c.from_wav.result (IsBadOptionOf n (options_of c.args.options.now)))
+    (sym c.in-text-4.is) c.from_wav.ensures.fault

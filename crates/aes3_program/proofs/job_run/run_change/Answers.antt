@@ -1,16 +1,15 @@
 use Rattle.std.proofs.Common.{Bool, ap}
-use Rattle.aes3_cli_jobs.specs.declared.job.Job.TheVariants.{Stream}
 use Rattle.aes3_cli_jobs.specs.declared.work.StreamWork.TheVariants.{Rewrite}
 use Rattle.aes3_program.specs.Outcomes.{of_exact, of_rewritten}
-use Rattle.aes3_program.proofs.Flushes.{run-of, told-ran}
+use Rattle.aes3_program.proofs.Flushes.{stream-of, told-ran}
 use Rattle.aes3_program.proofs.job_run.run_change.Goals as goal
 
 pub returns-then-exactly-clause-ran : goal.returns-then-exactly-clause-ran
 returns-then-exactly-clause-ran g c =
-    run-of (ap (λ (v : Bool). Stream c.args.input c.args.output (Rewrite c.args.change.now v)) c.if-exactly.true)
+    stream-of c.args.input c.args.output (ap (λ (v : Bool). Rewrite c.args.change.now v) c.if-exactly.true)
     (told-ran of_exact c.exact.ensures c.rewrite_exactly.ensures.run)
 
 pub returns-else-exactly-clause-ran : goal.returns-else-exactly-clause-ran
 returns-else-exactly-clause-ran g c =
-    run-of (ap (λ (v : Bool). Stream c.args.input c.args.output (Rewrite c.args.change.now v)) c.if-exactly.false)
+    stream-of c.args.input c.args.output (ap (λ (v : Bool). Rewrite c.args.change.now v) c.if-exactly.false)
     (told-ran (of_rewritten c.args.change.now) c.rewritten.ensures c.rewrite.ensures.run)

@@ -1,6 +1,6 @@
 //! The form of a recording by its first octets.
 
-ghost use Rattle.std.specs.Prelude.{◌≡◌, IfErr, IfOk};
+ghost use Rattle.aes3_program_terminal.specs.Recognising.{Recognised};
 
 use aes3_cell::Form;
 use aes3_cli_arguments::{CommandLine, LineFault};
@@ -16,11 +16,13 @@ const LOOKED_AT: usize = 4096;
 /// first octets have: packed cells where they are no text and of no other kind of file.
 ///
 /// # Errors
-/// Memory was refused.
-pub(crate) fn recognise<R: Read + Drop>(
+/// Memory was refused; then the line is as it was.
+pub fn recognise<R: Read + Drop>(
     line: &mut Result<CommandLine<'_>, LineFault>,
     input: &mut Preview<R>,
-) -> Result<(), AllocError> {
+) -> Result<(), AllocError>
+    ensures recognised { Recognised line.old line.new }
+{
     let Ok(line) = line else {
         return Ok(());
     };

@@ -1,0 +1,14 @@
+//! Numbers that values of options write.
+
+ghost use Rattle.std.specs.Prelude.{◌≡◌};
+ghost use Rattle.aes3_cli.specs.Numbers.{number_in};
+
+/// The number within these bounds that the text writes, a plus before it or none.
+pub fn number_of_text(text: &str, least: u64, most: u64) -> Option<u64>
+    ensures { result ≡ number_in least most text.now }
+{
+    match text.parse::<u64>() {
+        Ok(number) if least <= number && number <= most => Some(number),
+        _ => None,
+    }
+}

@@ -1,0 +1,211 @@
+//! What `to-wav` and `from-wav` do with WAV files.
+
+ghost use Rattle.std.specs.Prelude.{◌≡◌, codes};
+ghost use Rattle.aes3_cli_arguments.specs.Jobs.{AreTaken, AsksToRead, channel_in, channels_by, channels_in};
+ghost use Rattle.aes3_cli_arguments.specs.Jobs.{channels_of_two, depth_by, depth_in, depth_named};
+ghost use Rattle.aes3_cli_arguments.specs.Jobs.{has_preset_beside_use, has_unknown_channels};
+ghost use Rattle.aes3_cli_arguments.specs.Jobs.{has_unknown_depth, has_unknown_mono, has_unknown_use};
+ghost use Rattle.aes3_cli_arguments.specs.Jobs.{is_professional, mono_by, mono_in, mono_named};
+ghost use Rattle.aes3_cli_arguments.specs.Jobs.{options_of, use_in, use_named};
+
+use crate::preset::preset;
+use crate::style::rate;
+use aes3_cli_jobs::ReadWork;
+use aes3_wave::{Channels, Depth, Mono};
+use clap::ArgMatches;
+
+/// What `to-wav` does, with its options.
+pub(crate) fn to_wav(options: &ArgMatches<'_>) -> ReadWork
+    requires { AreTaken (options_of options.now) }
+    ensures { AsksToRead (codes "to-wav") (options_of options.now) result }
+{
+    ReadWork::ToWav {
+        depth: depth(options),
+        rate: rate(options),
+    }
+}
+
+/// The width that the options give the samples of a WAV file: 24 bits where none is named.
+fn depth(options: &ArgMatches<'_>) -> Depth
+    ensures { result ≡ depth_by (options_of options.now) }
+{
+    match depth_if_named(options) {
+        Some(depth) => depth,
+        None => Depth::TwentyFour,
+    }
+}
+
+/// The width that they name.
+fn depth_if_named(options: &ArgMatches<'_>) -> Option<Depth>
+    ensures { result ≡ depth_named (options_of options.now) }
+{
+    let Some(text) = options.get_str("bits") else {
+        return None;
+    };
+    depth_of_text(text)
+}
+
+/// Whether a width is named that there is none of.
+pub(crate) fn has_unknown_depth(options: &ArgMatches<'_>) -> bool
+    ensures { result ≡ has_unknown_depth (options_of options.now) }
+{
+    let Some(text) = options.get_str("bits") else {
+        return false;
+    };
+    depth_of_text(text).is_none()
+}
+
+/// The width of this name.
+fn depth_of_text(text: &str) -> Option<Depth>
+    ensures { result ≡ depth_in text.now }
+{
+    match text {
+        "16" => Some(Depth::Sixteen),
+        "24" => Some(Depth::TwentyFour),
+        "32" => Some(Depth::ThirtyTwo),
+        _ => None,
+    }
+}
+
+/// Whether the channel status that a header asks for is for professional use: else for consumer use.
+pub(crate) fn is_professional(options: &ArgMatches<'_>) -> bool
+    ensures { result ≡ is_professional (options_of options.now) }
+{
+    match use_if_named(options) {
+        Some(is_professional) => is_professional,
+        None => false,
+    }
+}
+
+/// Whether the use that the options name is professional.
+fn use_if_named(options: &ArgMatches<'_>) -> Option<bool>
+    ensures { result ≡ use_named (options_of options.now) }
+{
+    let Some(text) = options.get_str("use") else {
+        return None;
+    };
+    use_of_text(text)
+}
+
+/// Whether a use is named that there is none of.
+pub(crate) fn has_unknown_use(options: &ArgMatches<'_>) -> bool
+    ensures { result ≡ has_unknown_use (options_of options.now) }
+{
+    let Some(text) = options.get_str("use") else {
+        return false;
+    };
+    use_of_text(text).is_none()
+}
+
+/// Whether the use of this name is professional.
+fn use_of_text(text: &str) -> Option<bool>
+    ensures { result ≡ use_in text.now }
+{
+    match text {
+        "consumer" => Some(false),
+        "professional" => Some(true),
+        _ => None,
+    }
+}
+
+/// Which channels the only one of a WAV file is for by the options: both where none are named.
+pub(crate) fn mono(options: &ArgMatches<'_>) -> Mono
+    ensures { result ≡ mono_by (options_of options.now) }
+{
+    match mono_if_named(options) {
+        Some(mono) => mono,
+        None => Mono::Both,
+    }
+}
+
+/// Which channels they name for it.
+fn mono_if_named(options: &ArgMatches<'_>) -> Option<Mono>
+    ensures { result ≡ mono_named (options_of options.now) }
+{
+    let Some(text) = options.get_str("mono") else {
+        return None;
+    };
+    mono_of_text(text)
+}
+
+/// Whether channels are named for the only one that there are none of.
+pub(crate) fn has_unknown_mono(options: &ArgMatches<'_>) -> bool
+    ensures { result ≡ has_unknown_mono (options_of options.now) }
+{
+    let Some(text) = options.get_str("mono") else {
+        return false;
+    };
+    mono_of_text(text).is_none()
+}
+
+/// Which channels the only one is for by this name.
+fn mono_of_text(text: &str) -> Option<Mono>
+    ensures { result ≡ mono_in text.now }
+{
+    match text {
+        "both" => Some(Mono::Both),
+        "first" => Some(Mono::First),
+        _ => None,
+    }
+}
+
+/// Whether a use is named for the status that a header asks for, and a preset gives another status.
+pub(crate) fn has_preset_beside_use(options: &ArgMatches<'_>) -> bool
+    ensures { result ≡ has_preset_beside_use (options_of options.now) }
+{
+    use_if_named(options).is_some() && preset(options).is_some()
+}
+
+/// The channels of a WAV file that the options choose.
+pub(crate) fn channels(options: &ArgMatches<'_>) -> Option<Channels>
+    ensures { result ≡ channels_by (options_of options.now) }
+{
+    let Some(text) = options.get_str("channels") else {
+        return None;
+    };
+    channels_of_text(text)
+}
+
+/// Whether channels are chosen by a text that names no two of them.
+pub(crate) fn has_unknown_channels(options: &ArgMatches<'_>) -> bool
+    ensures { result ≡ has_unknown_channels (options_of options.now) }
+{
+    let Some(text) = options.get_str("channels") else {
+        return false;
+    };
+    channels_of_text(text).is_none()
+}
+
+/// The two channels whose numbers, from 1 on, a text has with a comma between them.
+fn channels_of_text(text: &str) -> Option<Channels>
+    ensures { result ≡ channels_in text.now }
+{
+    match text.split_once(',') {
+        Some((first, second)) => channels_of_two(channel_of_text(first), channel_of_text(second)),
+        None => None,
+    }
+}
+
+/// Both channels, where there are both.
+fn channels_of_two(first: Option<u16>, second: Option<u16>) -> Option<Channels>
+    ensures { result ≡ channels_of_two first second }
+{
+    match (first, second) {
+        (Some(first), Some(second)) => Some(Channels {
+            first,
+            second: Some(second),
+        }),
+        (Some(_), None) => None,
+        (None, _) => None,
+    }
+}
+
+/// The channel whose number, from 1 on, a text is.
+fn channel_of_text(text: &str) -> Option<u16>
+    ensures { result ≡ channel_in text.now }
+{
+    match text.parse::<u16>() {
+        Ok(number) => number.checked_sub(1),
+        Err(_) => None,
+    }
+}

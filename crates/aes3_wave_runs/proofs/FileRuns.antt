@@ -1,0 +1,220 @@
+-- A run over a WAV file: its header, and then its samples.
+use Rattle.std.proofs.Common.{inl, inr, ◌≡◌, ℕ, ◌+◌, ◌<◌, ◌≤◌, Bool, true, false, List, ◌++◌, Option, Some, None}
+use Rattle.std.proofs.Common.{Result, Ok, Err, IsOk, ◌≢◌, get_or, length, nat_lt, refl, sym, ap, ◌∙◌, subst, arith}
+use Rattle.std.specs.Option.{ForSome}
+use Rattle.std.proofs.lemmas.Bool.{and_parts, ltb-true}
+use Rattle.std.proofs.lemmas.List.{length-append, take_all}
+use Rattle.aes3_cell.specs.Ends.{Grew, Told}
+use Rattle.aes3_cell.specs.declared.counts.Counts.{Counts}
+use Rattle.aes3_cell.specs.declared.refusal.RunError.{RunError}
+use Rattle.aes3_cell.specs.declared.refusal.RunError.TheVariants.{BadLength, BadSample, Read, SoundHeader, TooLong, Write}
+use Rattle.aes3_cell.proofs.Growing.{grew-join, told-is}
+use Rattle.aes3_input.specs.Running.{InputRan, InputRun, Movement, Promise, Quiet}
+use Rattle.aes3_input.proofs.InputRuns.{run-owed}
+use Rattle.aes3_input.proofs.Pieces.{changed}
+use Rattle.aes3_forms_samples.specs.declared.format.SampleFormat.TheVariants.{S32}
+use Rattle.aes3_engine.specs.Sampling.{IsSound, pcm_words}
+use Rattle.aes3_wave.specs.declared.chunk.WaveHeader.{WaveHeader}
+use Rattle.aes3_wave.specs.declared.error.HeaderError.{HeaderError}
+use Rattle.aes3_wave.specs.declared.format.WaveFormat.{WaveFormat}
+use Rattle.aes3_wave.specs.Headers.{at_end, judged}
+use Rattle.aes3_wave.specs.declared.samples.Channels.{Channels}
+use Rattle.aes3_wave.proofs.Parts.{decided-stays}
+use Rattle.aes3_wave_runs.specs.declared.error.WaveError.{WaveError}
+use Rattle.aes3_wave_runs.specs.declared.error.WaveError.TheVariants.{Header, NoChannel, Run}
+use Rattle.aes3_wave_runs.specs.declared.options.Converted.{Converted}
+use Rattle.aes3_wave_runs.specs.declared.options.WaveOptions.{WaveOptions}
+use Rattle.aes3_wave_runs.specs.FromWav.{RanOn, WaveRan, WaveRun, change_for, channels_for, has_channels, has_second, promise_for}
+use Rattle.aes3_wave_runs.specs.Headers.{HeaderRan, HeaderRun}
+use Rattle.aes3_wave_runs.specs.Wave.{IsWave, IsWaveCause, SamplesRun, file_samples, limit_of}
+use Rattle.aes3_wave_runs.proofs.HeaderRuns.{some-none}
+
+has-second : (f : WaveFormat) (second : Option ℕ) → has_second f second ≡ true → ForSome second (λ n. n < f.channels)
+has-second f None h = λ n e. cc
+has-second f (Some second) h = λ n e.
+    let q : second ≡ n = cc in subst (λ v. v < f.channels) q (ltb-true second f.channels h)
+
+pub has-both : (f : WaveFormat) (channels : Channels) → has_channels f channels ≡ true
+    → (channels.first < f.channels) × ForSome channels.second (λ n. n < f.channels)
+has-both f channels h =
+    let p = and_parts (nat_lt channels.first f.channels) (has_second f channels.second) h in
+    (ltb-true channels.first f.channels p.0, has-second f channels.second p.1)
+
+-- a source that had not failed before
+source-from : {A : Type 0} (p : Promise A) (max : ℕ) (b : List ℕ) (ended : Bool) (s₀ s₁ s : Option (List ℕ))
+    (n₀ n₁ n : ℕ) (sink : Movement) (r : Result A RunError) → n₁ ≡ n₀
+    → InputRan p max b ended (changed s₁ s n₁ n) sink r → InputRan p max b ended (changed s₀ s n₀ n) sink r
+source-from p max b ended s₀ s₁ s n₀ n₁ n sink (Ok x) e r = (r.0, r.1, r.2 ∙ e, r.3, r.4)
+source-from p max b ended s₀ s₁ s n₀ n₁ n sink (Err Write) e r = (r.0 ∙ e, r.1, r.2)
+source-from p max b ended s₀ s₁ s n₀ n₁ n sink (Err Read) e r = (r.0, r.1 ∙ ap (λ k. k + 1) e, r.2, r.3)
+source-from p max b ended s₀ s₁ s n₀ n₁ n sink (Err x) e r = (r.0, r.1 ∙ e, r.2, r.3)
+
+-- a whole header, and then a run over the samples
+file-ran : (options : WaveOptions) (max : ℕ) (header : WaveHeader) (ended₁ ended : Bool) (s₀ s₁ s : Option (List ℕ))
+    (n₀ n₁ n : ℕ) (sink : Movement) (r : Result Counts RunError)
+    → (h : HeaderRun max ended₁ (changed s₀ s₁ n₀ n₁) (Ok header))
+    → (u : SamplesRun header (promise_for options header) max ended (changed s₁ s n₁ n) sink r)
+    → RanOn options max header (h.bytes ++ u.rest) ended (changed s₀ s n₀ n) sink r
+file-ran options max header ended₁ ended s₀ s₁ s n₀ n₁ n sink r h u = record {
+  header_is = decided-stays h.bytes u.rest (λ q. some-none (sym h.ran.0 ∙ q)) ∙ h.ran.0;
+  ran = source-from (promise_for options header) (limit_of header max) (h.bytes ++ u.rest) ended s₀ s₁ s n₀ n₁ n sink r
+      h.ran.3 (u.ran h.bytes h.ran.1);
+}
+
+file-few : (options : WaveOptions) (max : ℕ) (header : WaveHeader) (ended₁ ended : Bool) (s₀ s₁ s : Option (List ℕ))
+    (n₀ n₁ n : ℕ) (sink : Movement) (r : Result Counts RunError)
+    → (h : HeaderRun max ended₁ (changed s₀ s₁ n₀ n₁) (Ok header))
+    → (u : SamplesRun header (promise_for options header) max ended (changed s₁ s n₁ n) sink r)
+    → length (h.bytes ++ u.rest) ≤ max + 1
+file-few options max header ended₁ ended s₀ s₁ s n₀ n₁ n sink r h u =
+    let l = length-append h.bytes u.rest in
+    let start = h.ran.1 in
+    let short = h.ran.2 in
+    let few = u.few in
+    omega arith
+
+pub file-ok : (options : WaveOptions) (max : ℕ) (header : WaveHeader) (ended₁ ended : Bool)
+    (s₀ s₁ s : Option (List ℕ)) (n₀ n₁ n : ℕ) (sink : Movement) (x : Counts)
+    → HeaderRun max ended₁ (changed s₀ s₁ n₀ n₁) (Ok header)
+    → SamplesRun header (promise_for options header) max ended (changed s₁ s n₁ n) sink (Ok x)
+    → WaveRun options max ended (changed s₀ s n₀ n) sink (Ok (record { header = header; counts = x }))
+file-ok options max header ended₁ ended s₀ s₁ s n₀ n₁ n sink x h u = record {
+  bytes = h.bytes ++ u.rest;
+  given = grew-join h.given u.given;
+  few = file-few options max header ended₁ ended s₀ s₁ s n₀ n₁ n sink (Ok x) h u;
+  ran = file-ran options max header ended₁ ended s₀ s₁ s n₀ n₁ n sink (Ok x) h u;
+}
+
+pub file-err : (options : WaveOptions) (max : ℕ) (header : WaveHeader) (ended₁ ended : Bool)
+    (s₀ s₁ s : Option (List ℕ)) (n₀ n₁ n : ℕ) (sink : Movement) (e : RunError)
+    → HeaderRun max ended₁ (changed s₀ s₁ n₀ n₁) (Ok header)
+    → SamplesRun header (promise_for options header) max ended (changed s₁ s n₁ n) sink (Err e)
+    → WaveRun options max ended (changed s₀ s n₀ n) sink (Err (Run e))
+file-err options max header ended₁ ended s₀ s₁ s n₀ n₁ n sink e h u = record {
+  bytes = h.bytes ++ u.rest;
+  given = grew-join h.given u.given;
+  few = file-few options max header ended₁ ended s₀ s₁ s n₀ n₁ n sink (Err e) h u;
+  ran = inr (header, file-ran options max header ended₁ ended s₀ s₁ s n₀ n₁ n sink (Err e) h u);
+}
+
+-- a channel that there is not
+pub no-channel : (options : WaveOptions) (max : ℕ) (header : WaveHeader) (ended : Bool) (source : Movement)
+    (t : Option (List ℕ)) (k : ℕ) → HeaderRun max ended source (Ok header)
+    → has_channels header.format (channels_for options header.format) ≡ false
+    → WaveRun options max ended source (changed t t k k) (Err (NoChannel header.format.channels))
+no-channel options max header ended source t k h none = record {
+  bytes = h.bytes;
+  given = h.given;
+  few = let short = h.ran.2 in omega arith;
+  ran = ((header, h.ran.0, refl, none), h.ran.3, (refl, refl));
+}
+
+-- a header that is refused
+header-few : (max : ℕ) (b : List ℕ) (ended : Bool) (source : Movement) (e : RunError)
+    → HeaderRan max b ended source (Err (Run e)) → length b ≤ max + 1
+header-few max b ended source Read r = let short = r.1 in omega arith
+header-few max b ended source TooLong r = let long = r.1 in omega arith
+header-few max b ended source e r = absurd r
+
+pub no-header : (options : WaveOptions) (max : ℕ) (ended : Bool) (source : Movement) (t : Option (List ℕ)) (k : ℕ)
+    (e : WaveError) → HeaderRun max ended source (Err e)
+    → WaveRun options max ended source (changed t t k k) (Err e)
+no-header options max ended source t k (Header e) h = record {
+  bytes = h.bytes;
+  given = h.given;
+  few = let short = h.ran.1 in omega arith;
+  ran = (h.ran.0, h.ran.1, h.ran.2, (refl, refl));
+}
+no-header options max ended source t k (NoChannel n) h = absurd h.ran
+no-header options max ended source t k (Run e) h = record {
+  bytes = h.bytes;
+  given = h.given;
+  few = header-few max h.bytes ended source e h.ran;
+  ran = inl (h.ran, (refl, refl));
+}
+
+-- of a source that tells its octets
+pub file-written : {options : WaveOptions} {max : ℕ} {ended : Bool} {source sink : Movement} {n : Converted}
+    → WaveRun options max ended source sink (Ok n) → (b : List ℕ) → Told source.old source.new b
+    → Grew sink.old sink.new (pcm_words S32 options.words (change_for options n.header.format)
+    (file_samples n.header (channels_for options n.header.format) b))
+file-written {options} {sink = sink} {n = n} r b t =
+    subst (λ v. Grew sink.old sink.new (pcm_words S32 options.words (change_for options n.header.format)
+    (file_samples n.header (channels_for options n.header.format) v))) (told-is r.given t) r.ran.ran.4
+
+-- ---- what is owed
+
+-- samples that fit have no cause
+no-wave-cause : (header : WaveHeader) (channels : Channels) (exact : Bool) (max : ℕ) (b : List ℕ) (ended : Bool)
+    → IsWave header channels exact b → length b ≤ max
+    → (e : RunError) → e ≢ Read → e ≢ Write → IsWaveCause header channels exact max b ended e → ⊥
+no-wave-cause header channels exact max b ended i l Read r w h = r refl
+no-wave-cause header channels exact max b ended i l Write r w h = w refl
+no-wave-cause header channels exact max b ended i l TooLong r w h = let n = h.1 in omega arith
+no-wave-cause header channels exact max b ended i l (BadSample at) r w h =
+    let e = ap (file_samples header channels) (take_all max b l) in
+    h.some (ap (λ v. get_or v at 0) e ∙ i.samples.clean.bits h.asked at h.lowest)
+no-wave-cause header channels exact max b ended i l SoundHeader r w h = absurd
+    (let s = subst (IsSound exact) (ap (file_samples header channels) (take_all max b l)) h in
+    let t = s.header in
+    let f = i.samples.clean.samples in
+    cc)
+no-wave-cause header channels exact max b ended i l (BadLength n) r w h =
+    let z = i.whole in
+    let c = h.0.count in
+    let s = h.0.some in
+    omega arith
+no-wave-cause header channels exact max b ended i l e r w h = h
+
+same-header : {h k : WaveHeader} (b : List ℕ) → judged b ≡ Ok (Some h) → judged b ≡ Ok (Some k) → h ≡ k
+same-header b p q = cc
+
+-- octets with a header, and how a run over them is refused
+owed-ran : (options : WaveOptions) (max : ℕ) (header : WaveHeader) (b : List ℕ) (ended : Bool) (source sink : Movement)
+    (r : Result Converted WaveError) → Grew source.old source.new b → Told source.old source.new b
+    → judged b ≡ Ok (Some header) → has_channels header.format (channels_for options header.format) ≡ true
+    → IsWave header (channels_for options header.format) options.exact b → length b ≤ limit_of header max
+    → Quiet source → Quiet sink → WaveRan options max b ended source sink r → IsOk r
+owed-ran options max header b ended source sink (Ok n) g t j have i l q k w = refl
+owed-ran options max header b ended source sink (Err (Header e)) g t j have i l q k w =
+    absurd (wrong (sym (ap (at_end (length b)) j) ∙ w.0.says))
+  where
+    wrong : {x : WaveHeader} {y : HeaderError} → ◌≡◌ {A = Result WaveHeader HeaderError} (Ok x) (Err y) → ⊥
+    wrong q = cc
+owed-ran options max header b ended source sink (Err (NoChannel n)) g t j have i l q k w =
+    let none : has_channels header.format (channels_for options header.format) ≡ false
+    = subst (λ (h : WaveHeader). has_channels h.format (channels_for options h.format) ≡ false) (same-header b w.0.1 j) w.0.3 in
+    absurd (differ (sym have ∙ none))
+  where
+    differ : true ≡ false → ⊥
+    differ e = cc
+owed-ran options max header b ended source sink (Err (Run e)) g t j have i l q k w = elim w [
+  | inl h ↦ absurd (unread e h.0)
+  | inr h ↦
+      (let u : InputRun (promise_for options header) (limit_of header max) ended source sink (Err e)
+      = record {
+        bytes = b;
+        given = g;
+        few = omega (arith, l);
+        ran = subst (λ (v : WaveHeader). InputRan (promise_for options v) (limit_of v max) b ended source sink (Err e))
+            (same-header b h.1.header_is j) h.1.ran;
+      } in
+      run-owed u b t
+      (no-wave-cause header (channels_for options header.format) options.exact (limit_of header max) b ended i l) q k)
+]
+  where
+    unread : (e : RunError) → HeaderRan max b ended source (Err (Run e)) → ⊥
+    unread Read h = some-none (sym j ∙ h.0)
+    unread TooLong h = let n = h.1 in omega arith
+    unread e h = h
+
+pub file-owed : {options : WaveOptions} {max : ℕ} {ended : Bool} {source sink : Movement}
+    {r : Result Converted WaveError} → WaveRun options max ended source sink r
+    → (b : List ℕ) (header : WaveHeader) → Told source.old source.new b
+    → judged b ≡ Ok (Some header) → has_channels header.format (channels_for options header.format) ≡ true
+    → IsWave header (channels_for options header.format) options.exact b → length b ≤ limit_of header max
+    → Quiet source → Quiet sink → IsOk r
+file-owed {options} {max} {ended} {source} {sink} {r} run b header t j have i l q k =
+    let e = told-is run.given t in
+    owed-ran options max header b ended source sink r (subst (Grew source.old source.new) e run.given) t j have i l q k
+    (subst (λ v. WaveRan options max v ended source sink r) e run.ran)

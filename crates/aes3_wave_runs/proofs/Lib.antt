@@ -1,0 +1,11 @@
+pub mod Parts
+pub mod Through
+pub mod FramePairs
+pub mod FrameSteps
+pub mod WaveRuns
+pub mod HeaderRuns
+pub mod FileRuns
+pub mod Rates
+pub mod Says
+pub mod WaveBlocks
+pub mod SamplesBack

@@ -1,0 +1,23 @@
+-- The samples of frames: those of two channels of each, as samples of 32 bits.
+use Rattle.std.specs.Prelude.{ℕ, zero, suc, List, [], ◌++◌, ◌/◌, ◌%◌, drop, length, take}
+use Rattle.aes3_wave.specs.declared.format.WaveFormat.{WaveFormat}
+use Rattle.aes3_wave.specs.declared.samples.Channels.{Channels}
+use Rattle.aes3_wave.specs.Formats.{frame_len}
+use Rattle.aes3_wave.specs.Samples.{two_samples}
+
+-- what is made of each of the first n parts of octets, of so many octets each
+unfoldable pub parts_of : (List ℕ → List ℕ) → ℕ → ℕ → List ℕ → List ℕ
+parts_of made len zero b = []
+parts_of made len (suc n) b = made (take len b) ++ parts_of made len n (drop len b)
+
+-- and of all whole ones
+unfoldable pub all_parts : (List ℕ → List ℕ) → ℕ → List ℕ → List ℕ
+all_parts made len b = parts_of made len (length b / len) b
+
+-- the samples of all whole frames in octets
+abbrev pub frame_samples : WaveFormat → Channels → List ℕ → List ℕ
+frame_samples f channels b = all_parts (two_samples f channels) (frame_len f) b
+
+-- how many octets come after the last whole frame
+abbrev pub left_over : WaveFormat → List ℕ → ℕ
+left_over f b = length b % frame_len f

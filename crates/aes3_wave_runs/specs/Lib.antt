@@ -1,0 +1,9 @@
+pub mod Frames
+pub mod Through
+pub mod Wave
+pub mod States
+pub mod Headers
+pub mod Status
+pub mod FromWav
+pub mod ToWav
+pub mod Laws

@@ -1,0 +1,30 @@
+//! Sound files: from WAV files to block files, and from cells to WAV files.
+#![tactic(auto)]
+
+/// Why a run over a WAV file is refused.
+mod error;
+/// The samples of frames.
+mod frames;
+/// The header of a WAV file, read from a source.
+mod header;
+/// The laws of sound files.
+pub mod laws;
+/// What the runs are asked for, and what they answer.
+mod options;
+/// What an input of frames keeps.
+mod state;
+/// The channel status that the format of samples asks for.
+mod status;
+/// The octets after the header as an input.
+mod wave_input;
+/// From a WAV file to a block file.
+mod wave_reading;
+/// From cells to a WAV file.
+mod wave_writing;
+
+pub use error::WaveError;
+pub use header::read_header;
+pub use options::{Converted, WaveOptions, WaveWritten};
+pub use status::{StatusUse, Unsaid, rate_named, status_of, unsaid_of};
+pub use wave_reading::from_wav;
+pub use wave_writing::to_wav;

@@ -1,0 +1,179 @@
+//! The octets after the header of a WAV file as an input: the samples of two channels of each frame
+//! are handed on as samples of 32 bits.
+
+ghost use Rattle.std.specs.Prelude.{◌≡◌, ◌<◌, ◌≤◌, ◌+◌, ◌^◌, ℕ, List, [], Option, length, take};
+ghost use Rattle.std.specs.Option.{ForSome};
+ghost use Rattle.aes3_wave.specs.Formats.{frame_len};
+ghost use Rattle.aes3_forms_samples.specs.declared.format.SampleFormat.TheVariants.{S32};
+ghost use Rattle.aes3_status.specs.declared.change.Change.{Change};
+ghost use Rattle.aes3_input.specs.Running.{FrontRan, movement_of};
+ghost use Rattle.aes3_wave_runs.specs.States.{state_of};
+ghost use Rattle.aes3_wave_runs.specs.Wave.{frames_most, taken_len};
+
+use crate::frames::{PAIR_LEN, put_frames};
+use crate::state::{FRAME_MOST, WaveInput};
+use aes3_cell::{RunError, Sink};
+use aes3_engine::SampleInput;
+use aes3_forms_samples::{BLOCK_BYTES, SampleFormat};
+use aes3_forms_words::Words;
+use aes3_input::{Input, feed_fronts};
+use aes3_status::Change;
+use aes3_wave::{Channels, WaveFormat};
+
+/// How many frames are taken at most: their samples of 32 bits have 2^40 octets.
+const FRAMES_MOST: u64 = 137_438_953_472;
+
+/// How many frames are handed on at once.
+const BLOCK_FRAMES: usize = 192;
+
+fn blank_frame() -> [u8; FRAME_MOST]
+    ensures { length result ≡ FRAME_MOST }
+{
+    [0; FRAME_MOST]
+}
+
+/// How many octets the samples of so many frames have.
+pub(crate) fn frames_most(format: WaveFormat) -> u64
+    ensures most { result ≡ frames_most format }
+    ensures few { result < 2 ^ 55 }
+{
+    FRAMES_MOST * format.frame_len() as u64
+}
+
+/// How many octets are taken for samples at most, where so many are named.
+pub(crate) fn taken_len(format: WaveFormat, len: Option<u64>) -> u64
+    ensures { result ≡ taken_len format len }
+{
+    match len {
+        Some(len) => len.min(frames_most(format)),
+        None => frames_most(format),
+    }
+}
+
+impl WaveInput {
+    /// An input of these two channels that has taken nothing; `exact` refuses samples of more than 24
+    /// bits, and `words` is the form of the words that are written.
+    pub(crate) fn new(
+        format: WaveFormat,
+        channels: Channels,
+        len: Option<u64>,
+        exact: bool,
+        words: Words,
+    ) -> Self
+        requires first { channels.first < format.channels }
+        requires second { ForSome channels.second (λ n. n < format.channels) }
+        ensures format { result.format ≡ format }
+        ensures channels { result.channels ≡ channels }
+        ensures len { result.len ≡ taken_len format len }
+        ensures samples { result.samples.format ≡ S32 }
+        ensures exact { result.samples.exact ≡ exact }
+        ensures words { result.samples.words ≡ words }
+        ensures start { (change : Change) → (state_of result change).follows [] }
+    {
+        let len = taken_len(format, len);
+        WaveInput {
+            samples: SampleInput::new(SampleFormat::S32, exact, words),
+            format,
+            channels,
+            len,
+            left: len,
+            begun: blank_frame(),
+            at: 0,
+        }
+    }
+
+    /// Takes whole frames, where none is begun, and answers how many octets they are.
+    fn take_frames<T: Sink>(
+        &mut self,
+        change: &mut Change,
+        sink: &mut T,
+        octets: &[u8],
+    ) -> Result<usize, RunError>
+        requires some { frame_len self.old.format ≤ length octets.now }
+        requires samples { length octets.now ≤ self.old.left }
+        requires none { self.old.at ≡ 0 }
+        requires room { T.failed sink.old + 1 < 2 ^ 64 }
+        requires following { (b : List ℕ) × (length b + length octets.now ≤ 2 ^ 40)
+            × (state_of self.old change.old).follows b }
+        ensures { FrontRan (state_of self.old change.old) (state_of self.new change.new) octets.now
+            (movement_of T.taken T.failed sink.old sink.new) result }
+    {
+        let len = self.format.frame_len();
+        let count = (octets.len() / len).min(BLOCK_FRAMES);
+        let mut wide = [0; BLOCK_BYTES];
+        put_frames(self.format, self.channels, octets, count, &mut wide);
+        match feed_fronts(&mut self.samples, change, sink, &wide[..PAIR_LEN * count]) {
+            Ok(()) => {
+                self.left -= (count * len) as u64;
+                Ok(count * len)
+            }
+            Err(error) => Err(error),
+        }
+    }
+
+    /// Takes a part of a frame, up to its end at most, and answers how many octets it is.
+    fn take_part<T: Sink>(
+        &mut self,
+        change: &mut Change,
+        sink: &mut T,
+        octets: &[u8],
+    ) -> Result<usize, RunError>
+        requires some { 0 < length octets.now }
+        requires samples { length octets.now ≤ self.old.left }
+        requires room { T.failed sink.old + 1 < 2 ^ 64 }
+        requires following { (b : List ℕ) × (length b + length octets.now ≤ 2 ^ 40)
+            × (state_of self.old change.old).follows b }
+        ensures { FrontRan (state_of self.old change.old) (state_of self.new change.new) octets.now
+            (movement_of T.taken T.failed sink.old sink.new) result }
+    {
+        let len = self.format.frame_len();
+        let at = self.at;
+        let count = octets.len().min(len - at);
+        self.begun[at..at + count].copy_from_slice(&octets[..count]);
+        if at + count < len {
+            self.left -= count as u64;
+            self.at = at + count;
+            return Ok(count);
+        }
+        let pair = self.format.two_samples(self.channels, &self.begun[..len]);
+        match feed_fronts(&mut self.samples, change, sink, &pair) {
+            Ok(()) => {
+                self.left -= count as u64;
+                self.at = 0;
+                Ok(count)
+            }
+            Err(error) => Err(error),
+        }
+    }
+}
+
+impl Input<Change> for WaveInput {
+    ghost state = { state_of };
+
+    /// Takes whole frames, or a part of one; octets after the samples are left out.
+    fn take_front<T: Sink>(
+        &mut self,
+        change: &mut Change,
+        sink: &mut T,
+        piece: &[u8],
+    ) -> Result<usize, RunError> {
+        let samples = self.left.min(piece.len() as u64) as usize;
+        if samples == 0 {
+            return Ok(piece.len());
+        }
+        if self.at == 0 && self.format.frame_len() <= samples {
+            self.take_frames(change, sink, &piece[..samples])
+        } else {
+            self.take_part(change, sink, &piece[..samples])
+        }
+    }
+
+    fn finish<T: Sink>(&mut self, change: &mut Change, sink: &mut T) -> Result<(), RunError> {
+        if self.at > 0 {
+            return Err(RunError::BadLength {
+                left: self.at as u64,
+            });
+        }
+        self.samples.finish(change, sink)
+    }
+}

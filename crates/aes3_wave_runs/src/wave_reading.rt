@@ -1,0 +1,201 @@
+//! A WAV file to a block file.
+
+ghost use Rattle.std.specs.Prelude.{◌≡◌, ◌<◌, ◌≤◌, ◌+◌, ◌^◌, List, ℕ, IfOk, IsOk, Ok, Some, length};
+ghost use Rattle.std.specs.Prelude.{true};
+ghost use Rattle.std.specs.Option.{ForSome};
+ghost use Rattle.aes3_cell.specs.Ends.{Grew, Told};
+ghost use Rattle.aes3_engine.specs.Sampling.{pcm_words};
+ghost use Rattle.aes3_input.specs.Running.{movement_of};
+ghost use Rattle.aes3_forms_samples.specs.declared.format.SampleFormat.TheVariants.{S32};
+ghost use Rattle.aes3_wave_runs.specs.FromWav.{WaveRun, change_for, channels_for, has_channels, has_second};
+ghost use Rattle.aes3_wave.specs.Formats.{frame_len};
+ghost use Rattle.aes3_wave_runs.specs.Wave.{IsWave, SamplesRun, file_samples, frames_in, limit_of};
+ghost use Rattle.aes3_wave_runs.specs.Wave.{wave_file};
+ghost use Rattle.aes3_wave.specs.declared.chunk.WaveHeader.{WaveHeader};
+ghost use Rattle.aes3_wave.specs.Headers.{judged};
+
+use crate::error::WaveError;
+use crate::frames::PAIR_LEN;
+use crate::header::read_header;
+use crate::options::{Converted, WaveOptions};
+use crate::state::WaveInput;
+use crate::status::status_of;
+use crate::wave_input::{frames_most, taken_len};
+use aes3_cell::{Counts, RunError, Sink, Source};
+use aes3_forms_samples::SampleFormat;
+use aes3_forms_words::Words;
+use aes3_input::convert;
+use aes3_status::Change;
+use aes3_wave::{Channels, WaveFormat, WaveHeader};
+
+/// How many whole frames are among so many octets after a header.
+fn frames_in(header: &WaveHeader, octets: u64) -> u64
+    requires { 0 < frame_len header.now.format }
+    ensures frames { result ≡ frames_in header.now octets }
+    ensures few { result ≤ 2 ^ 37 }
+{
+    octets.min(taken_len(header.format, header.len)) / header.format.frame_len() as u64
+}
+
+/// Converts what comes after a header that was read: writes a block file of the samples of two
+/// channels, as `from_pcm_words` writes one of samples of 32 bits.
+///
+/// # Errors
+/// Those of `from_pcm_words`; `BadLength` where the samples end inside a frame, and `TooLong` where the
+/// file has more than `max_bytes` octets, or more of them after its header than 2^37 frames have.
+fn convert_samples<S: Source, T: Sink>(
+    source: &mut S,
+    sink: &mut T,
+    max_bytes: u64,
+    header: &WaveHeader,
+    channels: Channels,
+    exact: bool,
+    change: &Change,
+    words: Words,
+) -> Result<Counts, RunError>
+    requires source_room { S.failed source.old + 1 < 2 ^ 64 }
+    requires sink_room { T.failed sink.old + 1 < 2 ^ 64 }
+    requires limit { max_bytes ≤ 2 ^ 40 }
+    requires start { header.now.start ≤ max_bytes }
+    requires first { channels.first < header.now.format.channels }
+    requires second { ForSome channels.second (λ n. n < header.now.format.channels) }
+    ensures run { SamplesRun header.now (wave_file header.now channels exact words change.now) max_bytes
+        (S.has_ended source.new) (movement_of S.given S.failed source.old source.new)
+        (movement_of T.taken T.failed sink.old sink.new) result }
+    ensures passed_on { IfOk result (λ _. T.passed sink.new ≡ T.taken sink.new) }
+{
+    let block_len = SampleFormat::S32.block_len() as u64;
+    let limit = (max_bytes - header.start).min(frames_most(header.format));
+    let mut input = WaveInput::new(header.format, channels, header.len, exact, words);
+    let mut change = *change;
+    match convert(source, sink, limit, &mut input, &mut change) {
+        Ok(bytes) => Ok(Counts {
+            bytes: header.start + bytes,
+            cells: 0,
+            blocks: (PAIR_LEN as u64 * frames_in(header, bytes)).div_ceil(block_len),
+            faults: 0,
+            unfinished: 0,
+            marks: 0,
+        }),
+        Err(error) => Err(error),
+    }
+}
+
+/// The channels that are taken.
+fn channels_for(options: &WaveOptions, format: WaveFormat) -> Channels
+    ensures { result ≡ channels_for options.now format }
+{
+    match options.channels {
+        Some(channels) => channels,
+        None => format.usual_channels(options.mono),
+    }
+}
+
+/// Whether a frame has the second one, where there is one.
+fn has_second(format: WaveFormat, second: Option<u16>) -> bool
+    ensures { result ≡ has_second format second }
+{
+    match second {
+        Some(second) => second < format.channels,
+        None => true,
+    }
+}
+
+/// Whether a frame has both.
+fn has_channels(format: WaveFormat, channels: Channels) -> bool
+    ensures { result ≡ has_channels format channels }
+{
+    channels.first < format.channels && has_second(format, channels.second)
+}
+
+/// The change of each block: with the status that the format asks for, where none is given.
+fn change_for(options: &WaveOptions, format: WaveFormat) -> Change
+    ensures { result ≡ change_for options.now format }
+{
+    let status = status_of(&format, options.status_use);
+    let change = options.change;
+    Change {
+        status1: Some(change.status1.unwrap_or(status)),
+        status2: Some(change.status2.unwrap_or(status)),
+        settings1: change.settings1,
+        settings2: change.settings2,
+        validity1: change.validity1,
+        validity2: change.validity2,
+        clear_user1: change.clear_user1,
+        clear_user2: change.clear_user2,
+        mend: change.mend,
+    }
+}
+
+/// Writes a block file of the samples of a WAV file: two channels of each frame, as `from_pcm_words`
+/// writes one of samples of 32 bits whose other bits are 0. The channel status says the sampling
+/// frequency and the width, as far as [`crate::unsaid_of`] does not say otherwise. What comes after the
+/// samples is left out. Each block leaves as soon as its samples have come.
+///
+/// # Errors
+/// `Header` where the header is refused, `NoChannel` where a channel is asked for that a frame has not.
+/// Then nothing is written. `Run` where a run over samples is refused: `BadLength` where they end inside
+/// a frame, `BadSample` where `exact` is set and one has more than 24 bits, `SoundHeader` where they
+/// begin with the head of a sound file, `TooLong` where the file has more than `max_bytes` octets, or
+/// more of them after its header than 2^37 frames have, `Read` and `Write` where an end failed. Then
+/// the blocks that were whole before are written, and after `Write` a front of the output.
+// Not inlined, so that the stack of other commands has no room for a frame, which can have 262,140
+// octets.
+#[inline(never)]
+pub fn from_wav<S: Source, T: Sink>(
+    source: &mut S,
+    sink: &mut T,
+    max_bytes: u64,
+    options: &WaveOptions,
+) -> Result<Converted, WaveError>
+    requires source_room { S.failed source.old + 1 < 2 ^ 64 }
+    requires sink_room { T.failed sink.old + 1 < 2 ^ 64 }
+    requires limit { max_bytes ≤ 2 ^ 40 }
+
+    // Where it answers Ok, the block file of the samples is written, filled up with zero samples to whole
+    // blocks.
+    ensures file { IfOk result (λ n. (b : List ℕ) → Told (S.given source.old) (S.given source.new) b
+        → Grew (T.taken sink.old) (T.taken sink.new)
+        (pcm_words S32 options.now.words (change_for options.now n.header.format)
+        (file_samples n.header (channels_for options.now n.header.format) b))) }
+    ensures passed_on { IfOk result (λ _. T.passed sink.new ≡ T.taken sink.new) }
+
+    // It owes Ok where the file has a header with the channels that are taken, ends with a frame, has
+    // samples that `from_pcm` takes, and fits, and neither end failed.
+    ensures owed { (b : List ℕ) (header : WaveHeader) → Told (S.given source.old) (S.given source.new) b
+        → judged b ≡ Ok (Some header)
+        → has_channels header.format (channels_for options.now header.format) ≡ true
+        → IsWave header (channels_for options.now header.format) options.now.exact b
+        → length b ≤ limit_of header max_bytes
+        → S.failed source.new ≡ S.failed source.old → T.failed sink.new ≡ T.failed sink.old
+        → IsOk result }
+
+    // What it answers to every file, and has written then.
+    ensures run { WaveRun options.now max_bytes (S.has_ended source.new)
+        (movement_of S.given S.failed source.old source.new)
+        (movement_of T.taken T.failed sink.old sink.new) result }
+{
+    let header = match read_header(source, max_bytes) {
+        Ok(header) => header,
+        Err(error) => return Err(error),
+    };
+    let channels = channels_for(options, header.format);
+    if !has_channels(header.format, channels) {
+        let channels = header.format.channels;
+        return Err(WaveError::NoChannel { channels });
+    }
+    let change = change_for(options, header.format);
+    match convert_samples(
+        source,
+        sink,
+        max_bytes,
+        &header,
+        channels,
+        options.exact,
+        &change,
+        options.words,
+    ) {
+        Ok(counts) => Ok(Converted { header, counts }),
+        Err(error) => Err(WaveError::Run(error)),
+    }
+}
