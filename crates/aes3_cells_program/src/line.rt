@@ -1,11 +1,23 @@
-//! The words of the command line.
+//! What the words of a command line ask for.
 
-use crate::frequency::frequency_of_text;
-use aes3_capture_recovery::{LONGEST_PERIOD, SHORTEST_PERIOD};
+ghost use Rattle.std.specs.Prelude.{◌≡◌, [], IfErr, IfOk, None, Some, codes, map};
+ghost use Rattle.aes3_cli.specs.CommandLine.{IsDefinedAs};
+ghost use Rattle.aes3_cli.specs.Options.{options_of};
+ghost use Rattle.clap.specs.Walk.{first_of, one_of};
+ghost use Rattle.aes3_cell.specs.declared.form.Form.TheVariants as form;
+ghost use Rattle.aes3_cells_program.specs.Asks.{AsksFor, FitTogether, IsChosen, IsJobOf, IsValueBy};
+ghost use Rattle.aes3_cells_program.specs.Asks.{at_by, octets_by, period_of, rate_by, value_by};
+ghost use Rattle.aes3_cells_program.specs.CellsLine.{cells_line, line_with};
+ghost use Rattle.aes3_cells_program.specs.Faults.{AreApart, HasNoValue, IsFaultOf, IsOptionFault, IsWrongWith};
+ghost use Rattle.aes3_cells_program.specs.Values.{bit_in, frequency_in, octets_in};
+
+use crate::argument::ARGUMENTS;
+use crate::help::{ABOUT, MORE, USAGE, VERSION};
+use crate::value::{bit_of_text, frequency_of_text, octets_of_text, period_of};
+use crate::wrong::{Wrong, wrong_fault};
 use aes3_cell::Form;
-use aes3_cli::wording::{add_usage, own_text};
-use clap::error::ErrorKind;
-use clap::{Arg, ArgAction, ArgMatches, Command, Error};
+use aes3_cli::{LineFault, file_of_options};
+use clap::{ArgMatches, Command};
 use std::alloc::{AllocError, Global};
 
 /// What a run is to do.
@@ -25,216 +37,222 @@ pub struct Job<'a> {
     pub file: Option<&'a str>,
 }
 
-/// Why words are no job: the text is told.
-#[derive(Drop)]
-pub enum LineFault {
-    Usage(String),
-    Help(String),
-    Memory,
-}
-
-impl From<AllocError> for LineFault {
-    fn from(_error: AllocError) -> LineFault {
-        LineFault::Memory
-    }
-}
-
-const ABOUT: &str =
-    "From samples of an AES3 / IEC 60958 line to its cells, from standard input to standard output";
-
-const USAGE: &str = "aes3-cells [OPTIONS] [FILE] > CELLS";
-
-const MORE: &str =
-    "Reads the samples of a logic analyser or of a pin, one octet each or two, lowest first,
-and writes the cells of the line in one of their bits, as `aes3` reads them. Without --bit
-it takes the lowest bit with an AES3 line among the first 1,048,576 octets, else bit 0. A
-cell has 2.015625 to 8000 samples. How many is measured, and anew after each stretch
-without a line, unless --rate and --at say it: --rate / (128 * --at). HZ is a number, as
-24000000, 24M, 24000k or 44.1k.
-
-At the end a line on standard error tells what was found: the samples a cell, the line's
-sampling frequency with --rate, how far edges lie from their places in parts of a cell,
-and how often the line was dead, with the sample at which it was so last. With --tell it
-comes every --rate samples too, and when the line dies. A further line warns where cells
-are likely to be wrong. What begins like another kind of file is no capture: a sound file,
-VCD, CSV, a sigrok session, a compressed file, a program, or cells.
-
-Exit status:
-  0  done
-  1  no line was found, and cells by --rate and --at are written then too; or the input is
-     no capture
-  2  the words are no command line
-  3  the input or the output failed
-";
-
 /// The command line.
-fn command_line<'a>(alloc: Global) -> Result<Command<'a>, AllocError> {
-    let line = Command::new(alloc, "aes3-cells")
+fn command_line<'a>(alloc: Global) -> Result<Command<'a>, AllocError>
+    ensures { IfOk result (IsDefinedAs cells_line) }
+{
+    let mut line = program(alloc);
+    for argument in ARGUMENTS.iter() {
+        line = line.arg(argument.define(alloc))?;
+    }
+    Ok(line)
+}
+
+/// The command line that takes no word yet.
+fn program<'a>(alloc: Global) -> Command<'a>
+    ensures { IsDefinedAs (line_with []) result }
+{
+    Command::new(alloc, "aes3-cells")
         .about(ABOUT)
         .override_usage(USAGE)
         .after_help(MORE)
         .no_binary_name(true)
-        .version("0.1.0")
-        .arg(number(alloc, "rate", "HZ", "Samples a second"))?
-        .arg(number(
-            alloc,
-            "at",
-            "HZ",
-            "The line's sampling frequency; wants --rate",
-        ))?
-        .arg(number(
-            alloc,
-            "unit",
-            "OCTETS",
-            "Octets a sample, 1 or 2; 1 if not given",
-        ))?
-        .arg(number(alloc, "bit", "BIT", "The line's bit in a sample"))?
-        .arg(
-            Arg::new(alloc, "packed-out")
-                .long("packed-out")
-                .action(ArgAction::SetTrue)
-                .help("Write packed cells, eight an octet"),
-        )?
-        .arg(
-            Arg::new(alloc, "tell")
-                .long("tell")
-                .action(ArgAction::SetTrue)
-                .help("Tell once a second what was found; wants --rate"),
-        )?
-        .arg(Arg::new(alloc, "FILE").help(
-            "The samples; standard input if it is not given, or `-`",
-        ))?;
-    Ok(line)
+        .version(VERSION)
 }
 
-/// The option `--name` with a value.
-fn number<'a>(alloc: Global, name: &'a str, value: &'a str, help: &'a str) -> Arg<'a> {
-    Arg::new(alloc, name)
-        .long(name)
-        .value_name(value)
-        .help(help)
-}
-
-/// What the words ask for, without the program's name.
-pub fn job_of_words<'a>(alloc: Global, words: &'a [&'a str]) -> Result<Job<'a>, LineFault> {
+/// What the words ask for, without the program's name. It reads no input.
+///
+/// # Errors
+/// `Usage` where the definitions of the command line don't take the words or a value among them is
+/// wrong, `Help` where they ask for help or the version, and `Memory` where memory was refused.
+pub fn job_of_words<'a>(alloc: Global, words: &'a [&'a str]) -> Result<Job<'a>, LineFault>
+    ensures job { IfOk result (IsJobOf (map (λ word. word.now) words.now)) }
+    ensures fault { IfErr result (IsFaultOf (map (λ word. word.now) words.now)) }
+{
     let command = command_line(alloc)?;
     match command.try_get_matches_from(words) {
-        Ok(matches) => job_of_matches(alloc, &matches),
-        Err(error) => Err(fault_of(alloc, &error)),
+        Ok(options) => job_of_options(alloc, &options),
+        Err(error) => Err(LineFault::of_error(alloc, &error, USAGE)),
     }
 }
 
-/// What is told of words that are no command line, which `clap` told so.
-fn fault_of(alloc: Global, error: &Error) -> LineFault {
-    let Ok(text) = error.to_string(alloc) else {
-        return LineFault::Memory;
-    };
-    match error.kind() {
-        ErrorKind::OutOfMemory => LineFault::Memory,
-        ErrorKind::DisplayHelp | ErrorKind::DisplayVersion => LineFault::Help(text),
-        _ => match own_text(alloc, &text, USAGE) {
-            Ok(text) => LineFault::Usage(text),
-            Err(_) => LineFault::Memory,
-        },
+/// The job that options ask for.
+///
+/// # Errors
+/// `Usage` where a value of them is wrong, and `Memory` where memory was refused.
+fn job_of_options<'a>(alloc: Global, options: &ArgMatches<'a>) -> Result<Job<'a>, LineFault>
+    ensures job { IfOk result (AsksFor (options_of options.now)) }
+    ensures fault { IfErr result (IsOptionFault (options_of options.now)) }
+{
+    match job_by(options) {
+        Ok(job) => Ok(job),
+        Err(wrong) => Err(wrong_fault(alloc, wrong)),
     }
 }
 
-/// The job of words that are a command line.
-fn job_of_matches<'a>(alloc: Global, matches: &ArgMatches<'a>) -> Result<Job<'a>, LineFault> {
-    let rate = frequency(alloc, matches, "rate")?;
-    let at = frequency(alloc, matches, "at")?;
-    let octets = match matches.get_str("unit") {
-        None | Some("1") => 1,
-        Some("2") => 2,
-        Some(_) => return usage(alloc, "--unit is 1 or 2 octets a sample"),
-    };
-    let bit = match matches.get_str("bit") {
-        None => None,
-        Some(text) => match bit_of_text(text, octets) {
-            Some(bit) => Some(bit),
-            None => {
-                return usage(alloc, "--bit is 0 to 7, or with --unit 2 to 15");
-            }
-        },
-    };
-    if at.is_some() && rate.is_none() {
-        return usage(alloc, "--at wants --rate");
-    }
-    if matches.get_flag("tell") && rate.is_none() {
-        return usage(alloc, "--tell wants --rate");
-    }
-    let period = period_of(rate, at);
-    if period.is_none() && at.is_some() {
-        return usage(
-            alloc,
-            "a cell has 2.015625 to 8000 samples: --rate over 128 times --at",
-        );
-    }
-    let form = if matches.get_flag("packed-out") {
-        Form::Packed
-    } else {
-        Form::Text
-    };
+/// The same job.
+///
+/// # Errors
+/// What is wrong with the options.
+fn job_by<'a>(options: &ArgMatches<'a>) -> Result<Job<'a>, Wrong>
+    ensures job { IfOk result (AsksFor (options_of options.now)) }
+    ensures wrong { IfErr result (IsWrongWith (options_of options.now)) }
+{
+    let rate = rate(options)?;
+    let at = at(options)?;
+    let octets = octets(options)?;
+    let bit = bit(options, octets)?;
+    want_rate(options)?;
+    let period = period(rate, at)?;
     Ok(Job {
-        form,
+        form: form(options),
         octets,
         bit,
         rate,
         period,
-        tell_each: rate.filter(|_| matches.get_flag("tell")),
-        file: matches.get_str("FILE").filter(|name| *name != "-"),
+        tell_each: tell_each(options, rate),
+        file: file_of_options(options),
     })
 }
 
-/// The frequency that the option `--name` gives.
-fn frequency(
-    alloc: Global,
-    matches: &ArgMatches<'_>,
-    name: &str,
-) -> Result<Option<u64>, LineFault> {
-    let Some(text) = matches.get_str(name) else {
+/// The form of the cells that are written.
+fn form(options: &ArgMatches<'_>) -> Form
+    ensures { IsChosen (options_of options.now) (codes "packed-out") form.Packed form.Text result }
+{
+    if options.get_flag("packed-out") {
+        Form::Packed
+    } else {
+        Form::Text
+    }
+}
+
+/// How many samples come between two lines of what was found, at this rate.
+fn tell_each(options: &ArgMatches<'_>, rate: Option<u64>) -> Option<u64>
+    ensures { IsChosen (options_of options.now) (codes "tell") rate None result }
+{
+    if options.get_flag("tell") { rate } else { None }
+}
+
+/// The frequency that the option of this name gives, if it stands.
+///
+/// # Errors
+/// Its text is no frequency.
+fn frequency(options: &ArgMatches<'_>, name: &str, wrong: Wrong) -> Result<Option<u64>, Wrong>
+    ensures value { IfOk result (λ _. IsValueBy frequency_in name.now (options_of options.now)) }
+    ensures frequency { IfOk result (λ frequency. frequency
+        ≡ value_by frequency_in name.now (options_of options.now)) }
+    ensures is { IfErr result (λ error. error ≡ wrong) }
+    ensures none { IfErr result (λ _. HasNoValue frequency_in name.now (options_of options.now)) }
+{
+    let Some(text) = options.get_str(name) else {
         return Ok(None);
     };
     match frequency_of_text(text) {
         Some(frequency) => Ok(Some(frequency)),
-        None => {
-            let why = format!(in alloc;
-                "--{name} is a frequency in Hz from 1 on, as 24000000, 24M, 24000k or 44.1k"
-            )?;
-            usage(alloc, &why)
-        }
+        None => Err(wrong),
     }
 }
 
-/// The bit of samples of so many octets that a text names.
-fn bit_of_text(text: &str, octets: usize) -> Option<u8> {
-    let bit: u8 = text.parse().ok()?;
-    if usize::from(bit) < octets.saturating_mul(8) {
-        Some(bit)
-    } else {
-        None
-    }
+/// How many samples come in a second, where that is said.
+///
+/// # Errors
+/// What is wrong with the option.
+fn rate(options: &ArgMatches<'_>) -> Result<Option<u64>, Wrong>
+    ensures value { IfOk result (λ _. IsValueBy frequency_in (codes "rate") (options_of options.now)) }
+    ensures rate { IfOk result (λ rate. rate ≡ rate_by (options_of options.now)) }
+    ensures wrong { IfErr result (IsWrongWith (options_of options.now)) }
+{
+    frequency(options, "rate", Wrong::Rate)
 }
 
-/// A command line that is refused for this.
-fn usage<T: Drop>(alloc: Global, why: &str) -> Result<T, LineFault> {
-    let mut text = format!(in alloc; "aes3-cells: {why}")?;
-    add_usage(&mut text, USAGE)?;
-    Err(LineFault::Usage(text))
+/// The line's sampling frequency, where that is said.
+///
+/// # Errors
+/// What is wrong with the option.
+fn at(options: &ArgMatches<'_>) -> Result<Option<u64>, Wrong>
+    ensures value { IfOk result (λ _. IsValueBy frequency_in (codes "at") (options_of options.now)) }
+    ensures at { IfOk result (λ at. at ≡ at_by (options_of options.now)) }
+    ensures wrong { IfErr result (IsWrongWith (options_of options.now)) }
+{
+    frequency(options, "at", Wrong::At)
 }
 
-/// How long a cell is, in parts of a sample: 128 cells make a frame.
-fn period_of(rate: Option<u64>, at: Option<u64>) -> Option<u64> {
-    let (Some(rate), Some(at)) = (rate, at) else {
-        return None;
+/// How many octets a sample has.
+///
+/// # Errors
+/// What is wrong with the option.
+fn octets(options: &ArgMatches<'_>) -> Result<usize, Wrong>
+    ensures value { IfOk result (λ _. IsValueBy octets_in (codes "unit") (options_of options.now)) }
+    ensures octets { IfOk result (λ octets. octets ≡ octets_by (options_of options.now)) }
+    ensures wrong { IfErr result (IsWrongWith (options_of options.now)) }
+{
+    let Some(text) = options.get_str("unit") else {
+        return Ok(1);
     };
-    if at == 0 {
-        return None;
+    match octets_of_text(text) {
+        Some(octets) => Ok(octets),
+        None => Err(Wrong::Unit),
     }
-    let period = (u128::from(rate) * 512 + u128::from(at / 2)) / u128::from(at);
-    if period < u128::from(SHORTEST_PERIOD) || period > u128::from(LONGEST_PERIOD) {
-        None
-    } else {
-        Some(period as u64)
+}
+
+/// The bit of samples of so many octets in which the line lies, where that is said.
+///
+/// # Errors
+/// What is wrong with the option.
+fn bit(options: &ArgMatches<'_>, octets: usize) -> Result<Option<u8>, Wrong>
+    requires { octets ≡ octets_by (options_of options.now) }
+    ensures value { IfOk result (λ _. IsValueBy (bit_in (octets_by (options_of options.now))) (codes "bit")
+        (options_of options.now)) }
+    ensures bit { IfOk result (λ bit. bit ≡ value_by (bit_in (octets_by (options_of options.now))) (codes "bit")
+        (options_of options.now)) }
+    ensures wrong { IfErr result (IsWrongWith (options_of options.now)) }
+{
+    let Some(text) = options.get_str("bit") else {
+        return Ok(None);
+    };
+    match bit_of_text(text, octets) {
+        Some(bit) => Ok(Some(bit)),
+        None => Err(Wrong::Bit),
+    }
+}
+
+/// Looks whether `--rate` stands where other options want it.
+///
+/// # Errors
+/// The first option that wants it.
+fn want_rate(options: &ArgMatches<'_>) -> Result<(), Wrong>
+    ensures at { IfOk result (λ _. first_of (codes "rate") (options_of options.now) ≡ None
+        → first_of (codes "at") (options_of options.now) ≡ None) }
+    ensures tell { IfOk result (λ _. first_of (codes "rate") (options_of options.now) ≡ None
+        → one_of (codes "tell") (options_of options.now) ≡ Some (codes "true") → ⊥) }
+    ensures wrong { IfErr result (IsWrongWith (options_of options.now)) }
+{
+    if options.get_str("rate").is_some() {
+        return Ok(());
+    }
+    if options.get_str("at").is_some() {
+        return Err(Wrong::AtAlone);
+    }
+    if options.get_flag("tell") {
+        return Err(Wrong::TellAlone);
+    }
+    Ok(())
+}
+
+/// How long a cell is at this rate and sampling frequency, where both are said.
+///
+/// # Errors
+/// It is too short or too long.
+fn period(rate: Option<u64>, at: Option<u64>) -> Result<Option<u64>, Wrong>
+    ensures fit { IfOk result (λ _. FitTogether rate at) }
+    ensures period { IfOk result (λ period. period ≡ period_of rate at) }
+    ensures wrong { IfErr result (λ error. AreApart rate at error) }
+{
+    let (Some(rate), Some(at)) = (rate, at) else {
+        return Ok(None);
+    };
+    match period_of(rate, at) {
+        Some(period) => Ok(Some(period)),
+        None => Err(Wrong::Period),
     }
 }

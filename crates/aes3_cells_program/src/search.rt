@@ -1,5 +1,6 @@
 //! The bit of the samples in which the line lies, where none is asked for.
 
+use crate::samples::unit_of;
 use aes3_capture_recovery::{Recovery, Unit, feed};
 use aes3_cell::{Form, MemorySink};
 use aes3_files::Preview;
@@ -16,15 +17,6 @@ const FEWEST_EDGES: u64 = 256;
 /// A line has a preamble 64 cells behind each preamble, and no more edges than cells. So it has one
 /// such pair to 64 edges, or more; cells of noise have one to a thousand.
 const EDGES_A_PAIR: u64 = 256;
-
-/// How the samples lie, with the line in this bit.
-pub fn unit_of(octets: usize, bit: u8) -> Unit {
-    if octets == 1 {
-        Unit::Octets(bit & 7)
-    } else {
-        Unit::Pairs(bit & 15)
-    }
-}
 
 /// The lowest bit that has a line in the first samples of so many octets each, if one has.
 ///

@@ -1,6 +1,4 @@
 mod Adding
 mod Lines
-mod Numbers
-mod Options
 mod Reported
 mod Wrongs

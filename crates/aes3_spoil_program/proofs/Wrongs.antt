@@ -1,27 +1,17 @@
--- What is wrong with one of several values, with the options that have them, and with the words.
-use Rattle.std.proofs.Common.{◌≡◌, ◌∙◌, ◌<◌, ◌+◌, ◌++◌, arith, ℕ, List, [], ap, get_or, length, map, subst, sym, take}
-use Rattle.std.proofs.Common.{append_assoc, inl, inr, None}
+-- What is wrong with one of several values, and with the options that have them.
+use Rattle.std.proofs.Common.{◌≡◌, ◌∙◌, ◌<◌, ◌++◌, arith, ℕ, List, ap, get_or, length, map, subst, sym, take}
+use Rattle.std.proofs.Common.{append_assoc, None}
 use Rattle.std.proofs.lemmas.List.{get_or-map, length-append, length-map, take-map}
 use Rattle.std.proofs.lemmas.List.Elements.{All-contains_itself}
 use Rattle.std.proofs.lemmas.List.Folds.{length-flat_map-take}
 use Rattle.std.specs.List.{Contains, flat_map}
-use Rattle.clap.specs.Kinds.{HasKind, IsAmong}
-use Rattle.clap.specs.Simple.{matches_of}
-use Rattle.clap.specs.Values.{kind_of}
 use Rattle.clap.specs.Walk.{Text}
-use Rattle.clap.specs.declared.error.Error.{Error}
-use Rattle.clap.specs.declared.error.kind.ErrorKind.{ErrorKind}
 use Rattle.aes3_spoil.specs.declared.kinds.CellError.{CellError}
-use Rattle.aes3_spoil_program.specs.Asks.{Options, errors_by, errors_in, faults_in, named_errors}
-use Rattle.aes3_spoil_program.specs.Asks.{values_by}
-use Rattle.aes3_spoil_program.specs.Faults.{IsFaultBy, IsFaultOf, IsOptionFault, IsWrongAfter, IsWrongAt, IsWrongIn}
-use Rattle.aes3_spoil_program.specs.Faults.{IsWrongWith, SaysWrong}
-use Rattle.aes3_spoil_program.specs.SpoilLine.{spoil_line}
+use Rattle.aes3_cli.specs.Options.{Options}
+use Rattle.aes3_spoil_program.specs.Asks.{errors_by, errors_in, named_errors, values_by}
+use Rattle.aes3_spoil_program.specs.Faults.{IsWrongAfter, IsWrongAt, IsWrongIn, IsWrongWith}
 use Rattle.aes3_spoil_program.specs.Values.{spot_in}
-use Rattle.aes3_spoil_program.specs.declared.line.LineFault.{LineFault}
-use Rattle.aes3_spoil_program.specs.declared.line.LineFault.TheVariants as fault
 use Rattle.aes3_spoil_program.specs.declared.named.NamedError.{NamedError}
-use Rattle.aes3_spoil_program.specs.declared.named.NamedError.TheVariants as named
 use Rattle.aes3_spoil_program.specs.declared.wrong.Wrong.{Wrong}
 use Rattle.aes3_spoil_program.specs.declared.wrong.Wrong.TheVariants as wrong
 
@@ -74,27 +64,3 @@ option_wrong options mid i d wrong.TooMany below old w =
     let before = ap length old in
     let many = w in
     omega arith
-
--- what is said of an error that `clap` found
-pub error_said : (words : List Text) (e : Error) (said : LineFault) → HasKind (faults_in words) e
-    → IsFaultBy (kind_of e) said → IsFaultOf words said
-error_said words e (fault.Usage text) kind says = elim kind [
-  | inl memory ↦ absurd (says.0 memory)
-  | inr among ↦ inl ((kind_of e, among, says.1, says.2), says.3)
-]
-error_said words e (fault.Help text) kind says = elim kind [
-  | inl memory ↦ elim says [ inl help ↦ cc | inr version ↦ cc ]
-  | inr among ↦ elim says [
-    | inl help ↦ inl (subst (λ (k : ErrorKind). IsAmong k (faults_in words)) help among)
-    | inr version ↦ inr (subst (λ (k : ErrorKind). IsAmong k (faults_in words)) version among)
-  ]
-]
-error_said words e fault.Memory kind says = tt
-
--- what is said of options that have a wrong value
-pub option_said : (words : List Text) (options : Options) (said : LineFault) → faults_in words ≡ []
-    → options ≡ matches_of spoil_line words → IsOptionFault options said → IsFaultOf words said
-option_said words options (fault.Usage text) none is says =
-    inr (none, subst (λ (o : Options). SaysWrong o text.bytes.items) is says)
-option_said words options (fault.Help text) none is says = absurd says
-option_said words options fault.Memory none is says = tt

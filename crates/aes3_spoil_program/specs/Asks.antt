@@ -1,15 +1,13 @@
 -- What a command line asks for, by what `clap` makes of its words.
-use Rattle.std.specs.Prelude.{ℕ, List, [], ◌∷◌, ◌≡◌, Option, Some, None, codes, if◌then◌else◌, option_and_then}
+use Rattle.std.specs.Prelude.{ℕ, List, [], ◌∷◌, ◌≡◌, Option, Some, None, codes, option_and_then}
 use Rattle.std.specs.Prelude.{IfSome, is_some, true, unwrap_or}
 use Rattle.std.specs.List.{All, flat_map}
 use Rattle.std.specs.Option.{option_map}
-use Rattle.std.specs.Str.{bytes_eq}
 use Rattle.clap.specs.Faults.{fault_of}
 use Rattle.clap.specs.Kinds.{Kinds}
 use Rattle.clap.specs.Simple.{matches_of}
-use Rattle.clap.specs.Walk.{Row, Text, all_of, first_of, one_of, rows_of}
-use Rattle.clap.specs.Matches.{found_of}
-use Rattle.clap.specs.declared.parser.matches.ArgMatches.{ArgMatches}
+use Rattle.clap.specs.Walk.{Text, all_of, first_of, one_of}
+use Rattle.aes3_cli.specs.Options.{Options, file_by}
 use Rattle.aes3_cell.specs.declared.form.Form.{Form}
 use Rattle.aes3_cell.specs.declared.form.Form.TheVariants as form
 use Rattle.aes3_spoil.specs.Errors.{errors_of}
@@ -23,24 +21,10 @@ use Rattle.aes3_spoil_program.specs.declared.named.NamedError.{NamedError}
 use Rattle.aes3_spoil_program.specs.declared.named.NamedError.TheVariants.{Cell, Invert, Lost, Double, Parity, Biphase}
 use Rattle.aes3_spoil_program.specs.declared.named.NamedError.TheVariants.{Preamble, CheckByte}
 
--- the options that stand in the words, by their names, with their values
-abbrev pub Options : Type 0
-Options = List Row
-
-abbrev pub options_of : ArgMatches → Options
-options_of matches = rows_of (found_of matches)
-
 -- the form of the cells of which a flag speaks: packed where it stands, else text
 pub record IsFormOf (options : Options) (flag : Text) (answer : Form) : Type 0 where
   pub given : one_of flag options ≡ Some (codes "true") → answer ≡ form.Packed
   pub left_out : one_of flag options ≡ Some (codes "false") → answer ≡ form.Text
-
--- the file that is read in place of standard input; a minus sign alone is none
-abbrev pub named_file : Text → Option Text
-named_file text = if bytes_eq text (codes "-") then None else Some text
-
-abbrev pub file_by : Options → Option Text
-file_by options = option_and_then named_file (first_of (codes "FILE") options)
 
 -- the errors at a spot, and those of an option's value
 abbrev pub errors_at_spot : NamedError → Option (ℕ × ℕ) → List CellError

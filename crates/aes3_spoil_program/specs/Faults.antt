@@ -1,19 +1,17 @@
 -- Why words ask for no job, and the text that says so.
-use Rattle.std.specs.Prelude.{List, [], ◌++◌, ◌≡◌, ◌≢◌, ◌<◌, ◌⊎◌, Some, None, codes, length}
+use Rattle.std.specs.Prelude.{List, ◌++◌, ◌≡◌, ◌<◌, Some, None, codes, length}
 use Rattle.std.specs.List.{Contains, flat_map}
-use Rattle.clap.specs.Kinds.{IsAmong}
 use Rattle.clap.specs.Simple.{matches_of}
 use Rattle.clap.specs.Walk.{Text, first_of}
-use Rattle.clap.specs.declared.error.kind.ErrorKind.{ErrorKind}
-use Rattle.clap.specs.declared.error.kind.ErrorKind.TheVariants.{DisplayHelp, DisplayVersion, OutOfMemory}
-use Rattle.aes3_cli.specs.Wording.{EndsWithUsage, usage_end}
+use Rattle.aes3_cli.specs.LineFaults.{IsFaultIn, IsValueFault}
+use Rattle.aes3_cli.specs.Wording.{usage_end}
+use Rattle.aes3_cli.specs.declared.fault.LineFault.{LineFault}
+use Rattle.aes3_cli.specs.Options.{Options}
 use Rattle.aes3_spoil.specs.declared.kinds.CellError.{CellError}
-use Rattle.aes3_spoil_program.specs.Asks.{Options, all_errors, errors_in, faults_in, values_by}
+use Rattle.aes3_spoil_program.specs.Asks.{all_errors, errors_in, faults_in, values_by}
 use Rattle.aes3_spoil_program.specs.Named.{name_of}
 use Rattle.aes3_spoil_program.specs.SpoilLine.{spoil_line}
 use Rattle.aes3_spoil_program.specs.Values.{every_in, spot_in}
-use Rattle.aes3_spoil_program.specs.declared.line.LineFault.{LineFault}
-use Rattle.aes3_spoil_program.specs.declared.line.LineFault.TheVariants as fault
 use Rattle.aes3_spoil_program.specs.declared.named.NamedError.{NamedError}
 use Rattle.aes3_spoil_program.specs.declared.named.NamedError.TheVariants as named
 use Rattle.aes3_spoil_program.specs.declared.wrong.Wrong.{Wrong}
@@ -91,39 +89,15 @@ SaysWrong options text = (what : Wrong) × IsWrongWith options what × (text ≡
 
 -- ---- words
 
--- the definitions do not take the words, and these ask for no help and no version
-abbrev pub IsNotTaken : List Text → Type 0
-IsNotTaken words = (kind : ErrorKind) × IsAmong kind (faults_in words) × (kind ≢ DisplayHelp) × (kind ≢ DisplayVersion)
-
 -- why the words ask for no job: they are not taken, or a value among them is wrong; or help or the version is asked
 -- for; or memory was refused
 abbrev pub IsFaultOf : List Text → LineFault → Type 0
-IsFaultOf words (fault.Usage text) = (IsNotTaken words × EndsWithUsage usage text.bytes.items)
-    ⊎ ((faults_in words ≡ []) × SaysWrong (matches_of spoil_line words) text.bytes.items)
-IsFaultOf words (fault.Help text) = IsAmong DisplayHelp (faults_in words) ⊎ IsAmong DisplayVersion (faults_in words)
-IsFaultOf words fault.Memory = Unit {0}
-
--- what is said of an error of this kind that `clap` found in the words
-abbrev pub IsFaultBy : ErrorKind → LineFault → Type 0
-IsFaultBy kind (fault.Usage text) = (kind ≢ OutOfMemory) × (kind ≢ DisplayHelp) × (kind ≢ DisplayVersion)
-    × EndsWithUsage usage text.bytes.items
-IsFaultBy kind (fault.Help text) = (kind ≡ DisplayHelp) ⊎ (kind ≡ DisplayVersion)
-IsFaultBy kind fault.Memory = Unit {0}
-
--- the text ends with the usage; or memory was refused
-abbrev pub IsUsage : LineFault → Type 0
-IsUsage (fault.Usage text) = EndsWithUsage usage text.bytes.items
-IsUsage (fault.Help text) = ⊥
-IsUsage fault.Memory = Unit {0}
+IsFaultOf words = IsFaultIn (faults_in words) usage (SaysWrong (matches_of spoil_line words))
 
 -- the text says that this is wrong; or memory was refused
 abbrev pub IsFaultFor : Wrong → LineFault → Type 0
-IsFaultFor what (fault.Usage text) = text.bytes.items ≡ wrong_text what
-IsFaultFor what (fault.Help text) = ⊥
-IsFaultFor what fault.Memory = Unit {0}
+IsFaultFor what = IsValueFault (λ text. text ≡ wrong_text what)
 
 -- the text says what is wrong with the options; or memory was refused
 abbrev pub IsOptionFault : Options → LineFault → Type 0
-IsOptionFault options (fault.Usage text) = SaysWrong options text.bytes.items
-IsOptionFault options (fault.Help text) = ⊥
-IsOptionFault options fault.Memory = Unit {0}
+IsOptionFault options = IsValueFault (SaysWrong options)

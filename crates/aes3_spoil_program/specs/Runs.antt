@@ -1,5 +1,7 @@
 -- What the program does for a job, and for words that ask for none.
 use Rattle.std.specs.Prelude.{ℕ, List, Bool, Result, Ok, Err, IsTrue, ◌≡◌, ◌≢◌, ◌≤◌, ◌+◌, ◌^◌, ◌⊎◌, length}
+use Rattle.aes3_cli.specs.declared.fault.LineFault.{LineFault}
+use Rattle.aes3_cli.specs.declared.fault.LineFault.TheVariants as fault
 use Rattle.aes3_cell.specs.Ends.{Grew}
 use Rattle.aes3_cell.specs.Written.{bytes_of}
 use Rattle.aes3_cell.specs.declared.counts.Counts.{Counts}
@@ -13,8 +15,6 @@ use Rattle.aes3_spoil.specs.Spoiled.{spoiled}
 use Rattle.aes3_spoil.specs.Spoiling.{spoil_counts, whole_words}
 use Rattle.aes3_spoil_program.specs.Lines.{not_utf8_text, refusal_line}
 use Rattle.aes3_spoil_program.specs.declared.line.Job.{Job}
-use Rattle.aes3_spoil_program.specs.declared.line.LineFault.{LineFault}
-use Rattle.aes3_spoil_program.specs.declared.line.LineFault.TheVariants as fault
 use Rattle.aes3_spoil_program.specs.declared.run.Unread.{Unread}
 use Rattle.aes3_spoil_program.specs.declared.run.Unread.TheVariants as unread
 

@@ -1,8 +1,8 @@
 -- The command line of `aes3-spoil`, as a definition of `clap`.
-use Rattle.std.specs.Prelude.{List, [], ◌∷◌, true, codes, map}
+use Rattle.std.specs.Prelude.{List, [], ◌∷◌, codes, map}
 use Rattle.clap.specs.Walk.{Rule}
-use Rattle.clap.specs.Simple.{App, new_shape}
-use Rattle.aes3_cli.specs.CommandLine.{file, packed_in, packed_out, settings_option, text_option}
+use Rattle.clap.specs.Simple.{App}
+use Rattle.aes3_cli.specs.CommandLine.{file, packed_in, packed_out, program_with, settings_option, text_option}
 use Rattle.aes3_spoil_program.specs.Named.{name_of}
 use Rattle.aes3_spoil_program.specs.declared.argument.Argument.{Argument}
 use Rattle.aes3_spoil_program.specs.declared.named.NamedError.TheVariants as named
@@ -17,18 +17,8 @@ rule Every = text_option (codes "every")
 rule File = file
 
 -- the program with these
-abbrev pub line_of : List Rule → App
-line_of rules = record {
-  top = record (new_shape (codes "aes3-spoil")) {
-    rules = rules;
-    no_binary_name = true;
-    has_version = true;
-  };
-  subs = [];
-}
-
 abbrev pub line_with : List Argument → App
-line_with arguments = line_of (map rule arguments)
+line_with arguments = program_with (codes "aes3-spoil") (map rule arguments)
 
 -- the program
 abbrev pub spoil_line : App

@@ -3,18 +3,12 @@ use Rattle.std.specs.Prelude.{ℕ, List, Option, Some, None, Bool, ◌==◌, len
 use Rattle.std.specs.Prelude.{option_and_then, option_map}
 use Rattle.std.specs.List.{before_first, after_first, position_or_len}
 use Rattle.std.specs.Str.{bytes_eq}
-use Rattle.std.specs.Str.Parse.{digits_value, without_leading_plus}
-use Rattle.clap.specs.ValueTests.{is_unsigned_in}
+use Rattle.aes3_cli.specs.Numbers.{number_in}
 use Rattle.aes3_spoil.specs.declared.kinds.ErrorKind.{ErrorKind}
 use Rattle.aes3_spoil.specs.declared.kinds.ErrorKind.TheVariants.{Changed, Inverted, Lost, Doubled}
 use Rattle.aes3_spoil.specs.declared.kinds.Every.{Every}
 use Rattle.aes3_spoil_program.specs.declared.named.NamedError.{NamedError}
 use Rattle.aes3_spoil_program.specs.declared.named.NamedError.TheVariants as named
-
--- the number within these bounds that the text writes
-abbrev pub number_in : ℕ → ℕ → List ℕ → Option ℕ
-number_in least most text =
-    if is_unsigned_in least most text then Some (digits_value 10 (without_leading_plus text)) else None
 
 -- the greatest number of a cell: 2^43
 abbrev pub most_cells : ℕ

@@ -1,6 +1,6 @@
 //! The options and values that the program takes, each with its line of help.
 
-ghost use Rattle.aes3_cli.specs.CommandLine.{IsOption, file_name, flag, settings_option, text_option};
+ghost use Rattle.aes3_cli.specs.CommandLine.{IsOption, flag, settings_option};
 ghost use Rattle.aes3_spoil_program.specs.Faults.{value_name};
 ghost use Rattle.aes3_spoil_program.specs.SpoilLine.{rule};
 ghost use Rattle.std.specs.Prelude.{◌≡◌};

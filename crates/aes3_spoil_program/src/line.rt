@@ -3,17 +3,15 @@
 ghost use Rattle.std.specs.Prelude.{◌≡◌, ◌++◌, [], IfErr, IfOk, IfSome, None, codes, map};
 ghost use Rattle.std.specs.List.{All, flat_map};
 ghost use Rattle.std.specs.Option.{option_map};
-ghost use Rattle.clap.specs.Values.{kind_of};
 ghost use Rattle.clap.specs.Walk.{first_of};
 ghost use Rattle.aes3_cli.specs.CommandLine.{IsDefinedAs};
+ghost use Rattle.aes3_cli.specs.Options.{file_by, options_of};
 ghost use Rattle.aes3_spoil.specs.Errors.{errors_of};
 ghost use Rattle.aes3_spoil_program.specs.Asks.{AreValues, AsksFor, IsEvery, IsFormOf, IsJobOf, IsValue};
-ghost use Rattle.aes3_spoil_program.specs.Asks.{all_errors, errors_by, errors_in, every_by, file_by};
-ghost use Rattle.aes3_spoil_program.specs.Asks.{named_errors, options_of};
-ghost use Rattle.aes3_spoil_program.specs.Faults.{IsFaultBy, IsFaultOf, IsOptionFault, IsUsage, IsWrongAfter};
+ghost use Rattle.aes3_spoil_program.specs.Asks.{all_errors, errors_by, errors_in, every_by, named_errors};
+ghost use Rattle.aes3_spoil_program.specs.Faults.{IsFaultOf, IsOptionFault, IsWrongAfter};
 ghost use Rattle.aes3_spoil_program.specs.Faults.{IsWrongAt, IsWrongIn, IsWrongWith};
 ghost use Rattle.aes3_spoil_program.specs.SpoilLine.{line_with, spoil_line};
-ghost use Rattle.aes3_spoil_program.specs.declared.line.LineFault.TheVariants.{Memory};
 
 use crate::argument::ARGUMENTS;
 use crate::help::{ABOUT, MORE, USAGE, VERSION};
@@ -21,10 +19,9 @@ use crate::named::{NAMED, NamedError};
 use crate::value::{every_of_text, spot_of_text};
 use crate::wrong::{Wrong, wrong_fault};
 use aes3_cell::Form;
-use aes3_cli::wording::own_text;
+use aes3_cli::{LineFault, file_of_options};
 use aes3_spoil::Errors;
-use clap::error::ErrorKind;
-use clap::{ArgMatches, Command, Error};
+use clap::{ArgMatches, Command};
 use std::alloc::{AllocError, Global};
 
 /// What a run is to do.
@@ -36,26 +33,6 @@ pub struct Job<'a> {
     /// The name of the file that is read in place of standard input; none where the words name none,
     /// or name it `-`.
     pub file: Option<&'a str>,
-}
-
-/// Why words ask for no job.
-#[derive(Drop)]
-pub enum LineFault {
-    /// The definitions of the command line don't take the words, or a value among them is wrong; the
-    /// text says why.
-    Usage { text: String },
-    /// The words ask for help or for the version, which the text is.
-    Help { text: String },
-    /// Memory was refused.
-    Memory,
-}
-
-impl From<AllocError> for LineFault {
-    ghost from_gives = { λ _ fault. fault ≡ Memory };
-
-    fn from(_error: AllocError) -> LineFault {
-        LineFault::Memory
-    }
 }
 
 /// The command line.
@@ -94,31 +71,7 @@ pub fn job_of_words<'a>(alloc: Global, words: &'a [&'a str]) -> Result<Job<'a>, 
     let command = command_line(alloc)?;
     match command.try_get_matches_from(words) {
         Ok(options) => job_of_options(alloc, &options),
-        Err(error) => Err(fault_of(alloc, &error)),
-    }
-}
-
-/// Why words ask for no job that `clap` doesn't take, or that ask it for help.
-fn fault_of(alloc: Global, error: &Error) -> LineFault
-    ensures { IsFaultBy (kind_of error.now) result }
-{
-    let Ok(text) = error.to_string(alloc) else {
-        return LineFault::Memory;
-    };
-    match error.kind() {
-        ErrorKind::OutOfMemory => LineFault::Memory,
-        ErrorKind::DisplayHelp | ErrorKind::DisplayVersion => LineFault::Help { text },
-        _ => usage_fault(alloc, &text),
-    }
-}
-
-/// The usage error for words of which `clap` says this.
-fn usage_fault(alloc: Global, text: &str) -> LineFault
-    ensures { IsUsage result }
-{
-    match own_text(alloc, text, USAGE) {
-        Ok(text) => LineFault::Usage { text },
-        Err(_) => LineFault::Memory,
+        Err(error) => Err(LineFault::of_error(alloc, &error, USAGE)),
     }
 }
 
@@ -148,7 +101,7 @@ fn job_with<'a>(options: &ArgMatches<'a>, errors: Errors) -> Job<'a>
         input: form(options, "packed-in"),
         output: form(options, "packed-out"),
         errors,
-        file: file(options),
+        file: file_of_options(options),
     }
 }
 
@@ -161,16 +114,6 @@ fn form(options: &ArgMatches<'_>, flag: &str) -> Form
     } else {
         Form::Text
     }
-}
-
-/// The file that the options name.
-fn file<'a>(options: &ArgMatches<'a>) -> Option<&'a str>
-    ensures { option_map (λ name. name.now) result ≡ file_by (options_of options.now) }
-{
-    let Some(name) = options.get_str("FILE") else {
-        return None;
-    };
-    if name == "-" { None } else { Some(name) }
 }
 
 /// The file that a line's job reads in place of standard input; none where the line asks for no job.

@@ -8,9 +8,10 @@ ghost use Rattle.aes3_capture_recovery.specs.Endings.{finished};
 ghost use Rattle.aes3_spoil.specs.Spoiled.{spoiled};
 ghost use Rattle.aes3_spoil_program.specs.Runs.{FaultRan, Flushed, IsDone, JobRan, LineRan, UnreadReported};
 
-use crate::line::{Job, LineFault};
+use crate::line::Job;
 use crate::refusal::refuse;
 use aes3_cell::{Fault, RunError, Sink, Source, write_all};
+use aes3_cli::LineFault;
 use aes3_spoil::spoil;
 use std::alloc::AllocError;
 

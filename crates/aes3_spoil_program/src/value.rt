@@ -2,9 +2,10 @@
 
 ghost use Rattle.std.specs.Prelude.{◌≡◌};
 ghost use Rattle.std.specs.Option.{option_map};
-ghost use Rattle.aes3_spoil_program.specs.Values.{every_in, kind_in, number_in, parts_in, spot_in};
+ghost use Rattle.aes3_spoil_program.specs.Values.{every_in, kind_in, parts_in, spot_in};
 
 use crate::named::{NamedError, Spot};
+use aes3_cli::number_of_text;
 use aes3_spoil::{ErrorKind, Every};
 
 /// The greatest number of a cell: so many the longest input has, which no cell has.
@@ -14,16 +15,6 @@ const MOST_CELLS: u64 = 1 << 43;
 const FIRST_SLOT: u64 = 4;
 
 const LAST_SLOT: u64 = 31;
-
-/// The number within these bounds that the text writes.
-fn number_of_text(text: &str, least: u64, most: u64) -> Option<u64>
-    ensures { result ≡ number_in least most text.now }
-{
-    match text.parse::<u64>() {
-        Ok(number) if least <= number && number <= most => Some(number),
-        _ => None,
-    }
-}
 
 /// What stands before the first colon and behind it.
 fn parts_of_text(text: &str) -> Option<(&str, &str)>

@@ -5,8 +5,8 @@ ghost use Rattle.aes3_spoil_program.specs.Faults.{IsFaultFor, place_needed, valu
 
 use crate::argument::value_name;
 use crate::help::USAGE;
-use crate::line::LineFault;
 use crate::named::NamedError;
+use aes3_cli::LineFault;
 use aes3_cli::wording::add_usage;
 use std::alloc::{AllocError, Global};
 

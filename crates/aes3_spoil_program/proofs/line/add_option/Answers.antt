@@ -5,10 +5,11 @@ use Rattle.std.specs.Prelude.{[], unwrap_or}
 use Rattle.std.specs.List.{All, flat_map}
 use Rattle.clap.specs.Walk.{Text, all_of}
 use Rattle.aes3_spoil.specs.Errors.{errors_of}
-use Rattle.aes3_spoil_program.specs.Asks.{IsValue, errors_in, options_of}
+use Rattle.aes3_cli.specs.Options.{options_of}
+use Rattle.aes3_cli.proofs.OptionReads.{texts_are, texts_in}
+use Rattle.aes3_spoil_program.specs.Asks.{IsValue, errors_in}
 use Rattle.aes3_spoil_program.specs.Faults.{IsWrongAfter}
 use Rattle.aes3_spoil_program.specs.Named.{name_of}
-use Rattle.aes3_spoil_program.proofs.Options.{texts_are, texts_in}
 use Rattle.aes3_spoil_program.proofs.line.add_option.Goals as goal
 
 pub returns-in-Some-clause-list : goal.returns-in-Some-clause-list

@@ -4,7 +4,8 @@ use Rattle.std.proofs.lemmas.List.{take_all}
 use Rattle.std.proofs.lemmas.Result.{err_from_is_err_and}
 use Rattle.std.proofs.lemmas.List.Elements.{All-more}
 use Rattle.aes3_spoil.specs.Errors.{errors_of}
-use Rattle.aes3_spoil_program.specs.Asks.{AreValues, errors_by, named_errors, options_of}
+use Rattle.aes3_cli.specs.Options.{options_of}
+use Rattle.aes3_spoil_program.specs.Asks.{AreValues, errors_by, named_errors}
 use Rattle.aes3_spoil_program.proofs.Adding.{one_more_of}
 use Rattle.aes3_spoil_program.proofs.Wrongs.{option_wrong}
 use Rattle.aes3_spoil_program.proofs.line.errors_of_options.Goals as goal

@@ -1,7 +1,8 @@
 use Rattle.std.proofs.Common.{◌≡◌, None, take}
 use Rattle.std.specs.List.{All, flat_map}
 use Rattle.aes3_spoil.specs.Errors.{errors_of}
-use Rattle.aes3_spoil_program.specs.Asks.{AreValues, errors_by, options_of}
+use Rattle.aes3_cli.specs.Options.{options_of}
+use Rattle.aes3_spoil_program.specs.Asks.{AreValues, errors_by}
 use Rattle.aes3_spoil_program.proofs.line.errors_of_options.Given as goal
 
 abbrev pub invariant-loop-named : goal.invariant-loop-named

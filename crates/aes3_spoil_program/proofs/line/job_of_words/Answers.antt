@@ -2,10 +2,13 @@ use Rattle.std.proofs.Common.{◌≡◌, ◌∙◌, [], ap, map, subst}
 use Rattle.std.proofs.lemmas.Result.{IfErr-weaker, IfOk-weaker}
 use Rattle.clap.specs.Faults.{fault_of, is_simple_and_free}
 use Rattle.clap.specs.Kinds.{HasKind}
-use Rattle.clap.specs.Simple.{App, HasMatchesOf}
-use Rattle.aes3_spoil_program.specs.Asks.{AsksFor, Options, options_of}
+use Rattle.clap.specs.Simple.{App, HasMatchesOf, matches_of}
+use Rattle.aes3_cli.specs.Options.{Options}
+use Rattle.aes3_cli.proofs.LineFaultLemmas.{error_said, value_said}
+use Rattle.aes3_spoil_program.specs.Asks.{AsksFor, faults_in}
+use Rattle.aes3_spoil_program.specs.Faults.{SaysWrong, IsOptionFault, usage}
+use Rattle.aes3_spoil_program.specs.SpoilLine.{spoil_line}
 use Rattle.aes3_spoil_program.proofs.Lines.{line_is_free, line_is_simple}
-use Rattle.aes3_spoil_program.proofs.Wrongs.{error_said, option_said}
 use Rattle.aes3_spoil_program.proofs.line.job_of_words.Goals as goal
 
 pub returns-in-Ok-clause-job : goal.returns-in-Ok-clause-job
@@ -29,7 +32,8 @@ returns-in-Ok-clause-fault c =
     (c.in-Ok.ensures.kinds (ap is_simple_and_free is ∙ line_is_free)) in
     let matches = subst (λ (a : App). HasMatchesOf a words c.in-Ok.options) is c.in-Ok.ensures.matches in
     IfErr-weaker c.job_of_options.result _ _
-    (λ said says. option_said words (options_of c.in-Ok.options) said none (matches line_is_simple).0 says)
+    (λ said says. value_said (faults_in words) usage (SaysWrong (matches_of spoil_line words)) said none
+    (subst (λ (o : Options). IsOptionFault o said) (matches line_is_simple).0 says))
     c.job_of_options.ensures.fault
 
 pub returns-in-Err-clause-fault : goal.returns-in-Err-clause-fault
@@ -37,5 +41,5 @@ returns-in-Err-clause-fault c =
     let words = map (λ word. word.now) c.args.words.now in
     let is = c.in_ok-command.ensures.0 in
     let kind = c.in-Err.ensures.kinds (ap is_simple_and_free is ∙ line_is_free) in
-    error_said words c.in-Err.error c.fault_of.result
-    (subst (λ (a : App). HasKind (fault_of a words) c.in-Err.error) is kind) c.fault_of.ensures
+    error_said (faults_in words) usage (SaysWrong (matches_of spoil_line words)) c.in-Err.error c.of_error.result
+    (subst (λ (a : App). HasKind (fault_of a words) c.in-Err.error) is kind) c.of_error.ensures

@@ -1,9 +1,10 @@
 use Rattle.std.proofs.Common.{◌≡◌, ◌∙◌, Option, codes, None, Some, is_some, subst, sym, ap}
 use Rattle.std.specs.Prelude.{IfSome, option_and_then}
 use Rattle.clap.specs.Walk.{Text, first_of}
-use Rattle.aes3_spoil_program.specs.Asks.{IsEvery, options_of}
+use Rattle.aes3_cli.specs.Options.{options_of}
+use Rattle.aes3_cli.proofs.OptionReads.{text_is}
+use Rattle.aes3_spoil_program.specs.Asks.{IsEvery}
 use Rattle.aes3_spoil_program.specs.Values.{every_in}
-use Rattle.aes3_spoil_program.proofs.Options.{text_is}
 use Rattle.aes3_spoil_program.proofs.line.set_every.Goals as goal
 
 pub returns-in_default-clause-value : goal.returns-in_default-clause-value
