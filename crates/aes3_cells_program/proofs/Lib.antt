@@ -1,0 +1,5 @@
+mod Lines
+mod OptionValues
+mod Pushes
+mod Said
+mod Telling
