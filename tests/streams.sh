@@ -217,10 +217,10 @@ for command in check 'check --gaps' watch normal decode show scan to-pcm to-wav 
 done
 "$program" to-wav < "$folder/cells" > "$folder/wave"
 "$program" from-wav < "$folder/wave" > "$folder/expected"
-if (ulimit -s 512 && ulimit -v 5120 && exec "$program" from-wav) < "$folder/wave" 2>&1 | cmp -s - "$folder/expected"; then
+if (ulimit -s 1024 && ulimit -v 5120 && exec "$program" from-wav) < "$folder/wave" 2>&1 | cmp -s - "$folder/expected"; then
     well "from-wav in little memory"
 else
-    wrong "from-wav in 5 MB of address space, with 512 KB of stack"
+    wrong "from-wav in 5 MB of address space, with 1 MB of stack"
 fi
 
 # A stream that is set not to wait is not waited for.
