@@ -11,6 +11,7 @@ headers that are put together by hand, 200 damaged ones, input in small pieces, 
 The last line is `N passed, M failed`; the exit status is 1 if one failed. Programs that are not installed are named and left out.
 """
 
+import argparse
 import os
 import random
 import shutil
@@ -409,10 +410,7 @@ def main():
 
 
 if __name__ == "__main__":
-    if sys.argv[1:] in (["--help"], ["-h"]):
-        print(__doc__)
-        sys.exit(0)
-    if len(sys.argv) > 2:
-        sys.exit("tests/wave.py: it takes one word, PROGRAM")
-    PROGRAM = os.path.realpath(sys.argv[1] if len(sys.argv) > 1 else f"{ROOT}/crates/aes3/out/aes3")
+    parser = argparse.ArgumentParser(description=__doc__, formatter_class=argparse.RawDescriptionHelpFormatter)
+    parser.add_argument("program", nargs="?", metavar="PROGRAM", default=f"{ROOT}/crates/aes3/out/aes3")
+    PROGRAM = os.path.realpath(parser.parse_args().program)
     sys.exit(main())
