@@ -214,13 +214,21 @@ fn blank_piece() -> [u8; PIECE_LEN]
     [0; PIECE_LEN]
 }
 
-/// Reads octets of a piece from `from` up to `to`, and answers how many.
-fn read_some<S: Source>(
+/// Reads octets of a piece from `from` up to `to`, and answers how many. After the first of the `reads`
+/// before it, what is decided has left: the sink, which is here for that clause alone, has passed on all
+/// that it took.
+///
+/// # Errors
+/// The source's fault.
+fn read_some<S: Source, T: Sink>(
     source: &mut S,
+    _sink: &T,
     piece: &mut [u8; PIECE_LEN],
     from: usize,
     to: usize,
+    _reads: u64,
 ) -> Result<usize, Fault>
+    requires passed { 0 < _reads → T.passed _sink.now ≡ T.taken _sink.now }
     requires failures { S.failed source.old + 1 < 2 ^ 64 }
     requires some { from < to }
     requires within { to ≤ 131072 }
@@ -275,7 +283,8 @@ pub fn recover<S: Source, T: Sink>(
         recovery.old recovery.new sink.old sink.new result }
     ensures to_the_end { until ≡ None → IfOk result (λ progress. progress ≡ Ended) }
 
-    // At Ok the sink has passed on all that it took, and so it had before a read that failed.
+    // At Ok the sink has passed on all that it took, and so it had before a read that failed. `read_some`
+    // requires it before each read but the first.
     ensures passed { IfOk result (λ _. T.passed sink.new ≡ T.taken sink.new) }
     ensures passed_before { S.failed source.new ≡ S.failed source.old + 1
         → T.passed sink.old ≡ T.taken sink.old → T.passed sink.new ≡ T.taken sink.new }
@@ -284,11 +293,12 @@ pub fn recover<S: Source, T: Sink>(
     let mut piece = blank_piece();
     let mut places = Places::new();
     let mut kept = 0;
-    'pieces: for _reads in 0..u64::MAX {
+    'pieces: for reads in 0..u64::MAX {
         let left = until
             .unwrap_or(u64::MAX)
             .saturating_sub(recovery.figures().samples);
-        let n = match read_some(source, &mut piece, kept, piece_len(unit, left)) {
+        let to = piece_len(unit, left);
+        let n = match read_some(source, sink, &mut piece, kept, to, reads) {
             Ok(n) => n,
             Err(_) => return Err(Refusal::Read),
         };

@@ -14,8 +14,12 @@ pieces-init g c = record {
   quiet_source = refl;
   quiet_sink = refl;
   passed = λ h. h;
+  gone = λ some. absurd (omega (arith, some));
   upto = upto-none c.args.unit (g.S.Source.given c.args.source.now) g.T.Sink.taken c.args.recovery.now c.args.sink.now;
 }
+
+pub read_some-requires-clause-passed : goal.read_some-requires-clause-passed
+read_some-requires-clause-passed g c = c.pieces.invariant.gone
 
 pub returns-in-Err-clause-read : goal.returns-in-Err-clause-read
 returns-in-Err-clause-read g c =
@@ -49,7 +53,7 @@ returns-then-is_due-clause-read g c =
     let bits = c.len.ensures.bits in
     let some = c.if-n-eq0.false in
     let bound = c.in-Ok.ensures.bound in
-    let most = c.piece_len.ensures.most in
+    let most = c.piece_len-to.ensures.most in
     let long : length piece ≡ 131072 = search rules in
     let none = kept-none c.args.unit k (kept-part c.args.unit size (kept + n) k bits refl) c.if-kept-eq1.false in
     run-paused (g.S.Source.has_ended c.read_some.new.source)
@@ -74,7 +78,7 @@ pieces-preserved g c =
     let few = c.len.ensures.few in
     let some = c.if-n-eq0.false in
     let bound = c.in-Ok.ensures.bound in
-    let most = c.piece_len.ensures.most in
+    let most = c.piece_len-to.ensures.most in
     let long : length piece ≡ 131072 = search rules in
     let part = kept-part c.args.unit size (kept + n) k bits refl in
     let left : take k c.if-kept-eq1.piece ≡ take k (drop len piece)
@@ -96,6 +100,7 @@ pieces-preserved g c =
       quiet_source = c.in-Ok.ensures.count ∙ v.quiet_source;
       quiet_sink = c.in-Ok-pass_on.ensures.count ∙ c.in-Ok-feed_blocks.ensures.count ∙ v.quiet_sink;
       passed = λ h. c.in-Ok-pass_on.ensures.passed;
+      gone = λ h. c.in-Ok-pass_on.ensures.passed;
       upto = upto-piece c.pieces.piece piece c.if-kept-eq1.piece kept n size _ _ v.upto c.in-Ok.ensures.octets
           c.read_some.ensures.front (omega (arith, some)) (omega (arith, bound, most, long)) bits (omega arith) (omega arith) left
           c.in-Ok-feed_blocks.ensures.took
