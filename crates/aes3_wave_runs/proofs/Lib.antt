@@ -8,4 +8,5 @@ pub mod FileRuns
 pub mod Rates
 pub mod Says
 pub mod WaveBlocks
+pub mod WrittenFrames
 pub mod SamplesBack

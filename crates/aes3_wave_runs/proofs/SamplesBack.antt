@@ -6,19 +6,18 @@ use Rattle.std.specs.List.{All}
 use Rattle.std.specs.Option.{ForSome}
 use Rattle.std.specs.Prelude.{if◌then◌else◌}
 use Rattle.std.proofs.lemmas.Bool.{and_parts, ltb-true}
-use Rattle.std.proofs.lemmas.List.{drop_at, length-append, length-map, nil_from_length}
+use Rattle.std.proofs.lemmas.List.{drop_at, length-append, length-map}
 use Rattle.aes3_frame.specs.Blocks.{IsBlock, block_slots}
 use Rattle.aes3_frame.specs.Samples.{block_samples, sample_of, samples}
 use Rattle.aes3_frame.proofs.FileLaws.{length-bytes}
 use Rattle.aes3_forms_samples.specs.declared.format.SampleFormat.TheVariants.{S16, S24}
-use Rattle.aes3_forms_samples.specs.Formats.{fours, narrow_one, narrowed, wide_threes, wide_twos, widened}
+use Rattle.aes3_forms_samples.specs.Formats.{fours, narrow_one, narrowed, widened}
 use Rattle.aes3_status.specs.Consumer as con
 use Rattle.aes3_status.specs.Professional as pro
 use Rattle.aes3_status.specs.Statuses.{is_professional}
 use Rattle.aes3_wave.specs.declared.written.Depth.{Depth}
 use Rattle.aes3_wave.specs.declared.written.Depth.TheVariants.{Sixteen, TwentyFour, ThirtyTwo}
 use Rattle.aes3_wave.specs.Formats.{frame_len}
-use Rattle.aes3_wave.specs.Samples.{two_samples}
 use Rattle.aes3_wave.specs.Written.{written_format}
 use Rattle.aes3_wave.proofs.ReadBack.{written-read}
 use Rattle.aes3_wave_runs.specs.Frames.{all_parts, parts_of}
@@ -26,36 +25,9 @@ use Rattle.aes3_wave_runs.specs.Laws.{SamplesComeBack}
 use Rattle.aes3_wave_runs.specs.Status.{consumer_rates, or_else, professional_frequencies, professional_rates, rate_in, rate_named}
 use Rattle.aes3_wave_runs.specs.ToWav.{format_of, header_for, named_by, rate_for}
 use Rattle.aes3_wave_runs.proofs.Parts.{all-whole, left-whole}
+use Rattle.aes3_wave_runs.proofs.WrittenFrames.{none-there, pair_of, sixteen, thirty-two, twenty-four}
 
 -- ---- frames of two samples
-
--- the samples of frames of two channels, of so many octets each
-abbrev pair_of : Depth → ℕ → List ℕ → List ℕ
-pair_of depth rate = two_samples (written_format depth rate) (record { first = 0; second = Some 1 })
-
-none-there : (c : List ℕ) → length c ≡ 0 → c ≡ []
-none-there c h = nil_from_length c h
-
-sixteen : (rate n : ℕ) (c : List ℕ) → length c ≡ n * 4 → parts_of (pair_of Sixteen rate) 4 n c ≡ wide_twos c
-unfolding parts_of
-sixteen rate zero c h = ap wide_twos (sym (none-there c (omega arith)))
-sixteen rate (suc n) (a ∷ b ∷ c ∷ d ∷ r) h =
-    ap (λ v. 0 ∷ 0 ∷ a ∷ b ∷ 0 ∷ 0 ∷ c ∷ d ∷ v) (sixteen rate n r (omega arith))
-sixteen rate (suc n) _ h = absurd (omega arith)
-
-twenty-four : (rate n : ℕ) (c : List ℕ) → length c ≡ n * 6 → parts_of (pair_of TwentyFour rate) 6 n c ≡ wide_threes c
-unfolding parts_of
-twenty-four rate zero c h = ap wide_threes (sym (none-there c (omega arith)))
-twenty-four rate (suc n) (a ∷ b ∷ c ∷ d ∷ e ∷ f ∷ r) h =
-    ap (λ v. 0 ∷ a ∷ b ∷ c ∷ 0 ∷ d ∷ e ∷ f ∷ v) (twenty-four rate n r (omega arith))
-twenty-four rate (suc n) _ h = absurd (omega arith)
-
-thirty-two : (rate n : ℕ) (c : List ℕ) → length c ≡ n * 8 → parts_of (pair_of ThirtyTwo rate) 8 n c ≡ c
-unfolding parts_of
-thirty-two rate zero c h = sym (none-there c (omega arith))
-thirty-two rate (suc n) (a ∷ b ∷ c ∷ d ∷ e ∷ f ∷ g ∷ i ∷ r) h =
-    ap (λ v. a ∷ b ∷ c ∷ d ∷ e ∷ f ∷ g ∷ i ∷ v) (thirty-two rate n r (omega arith))
-thirty-two rate (suc n) _ h = absurd (omega arith)
 
 -- how many octets samples have in a form
 narrowed-len : (f : ℕ → ℕ → ℕ → ℕ → List ℕ) (m n : ℕ) (s : List ℕ)

@@ -1,25 +1,61 @@
 //! The samples of frames.
 
-ghost use Rattle.std.specs.Prelude.{◌≡◌, ◌≤◌, ◌<◌, ◌*◌, length, take};
+ghost use Rattle.std.specs.Prelude.{◌≡◌, ◌≤◌, ◌<◌, ◌*◌, IfSome, length, take, true};
 ghost use Rattle.std.specs.Option.{ForSome};
 ghost use Rattle.aes3_wave.specs.Formats.{frame_len};
 ghost use Rattle.aes3_wave.specs.Samples.{two_samples};
-ghost use Rattle.aes3_wave_runs.specs.Frames.{parts_of};
+ghost use Rattle.aes3_wave_runs.specs.Frames.{IsForm, parts_of};
 
-use aes3_wave::{Channels, WaveFormat};
+use aes3_forms_samples::{BLOCK_BYTES, SampleFormat};
+use aes3_wave::{Channels, Container, WaveFormat, Width};
 
 /// How many octets two samples of 32 bits have.
 pub(crate) const PAIR_LEN: usize = 8;
 
-/// Puts the samples of two channels of the first frames into the front of a piece, each as one of 32
-/// bits.
-pub(crate) fn put_frames(
+/// How many frames a block has.
+pub(crate) const BLOCK_FRAMES: usize = 192;
+
+/// The form in which the octets of frames are samples as `from_pcm_words` takes them: both channels of a
+/// frame of two are taken in their order, and all bits count.
+fn form_of(format: WaveFormat, channels: Channels) -> Option<SampleFormat>
+    ensures { IfSome result (IsForm format channels) }
+{
+    if format.channels != 2 || channels.first != 0 {
+        return None;
+    }
+    match (channels.second, format.container, format.width) {
+        (Some(1), Container::Octets2, Width::Bits16) => Some(SampleFormat::S16),
+        (Some(1), Container::Octets3, Width::Bits24) => Some(SampleFormat::S24),
+        (Some(1), Container::Octets4, Width::Bits32) => Some(SampleFormat::S32),
+        _ => None,
+    }
+}
+
+/// Puts the samples of the block of frames that octets begin with, each as one of 32 bits, into a piece.
+/// Answers whether it did: where the frames have a form of `from_pcm_words`, and there are octets enough.
+/// It equals [`put_each`], which takes four times as long.
+fn put_block(
     format: WaveFormat,
     channels: Channels,
     octets: &[u8],
-    count: usize,
-    wide: &mut [u8],
-)
+    wide: &mut [u8; BLOCK_BYTES],
+) -> bool
+    ensures { result ≡ true → wide.new
+        ≡ parts_of (two_samples format channels) (frame_len format) BLOCK_FRAMES octets.now }
+{
+    let Some(form) = form_of(format, channels) else {
+        return false;
+    };
+    let Some(block) = octets.first_chunk() else {
+        return false;
+    };
+    *wide = form.widen(block);
+    true
+}
+
+/// Puts the samples of two channels of the first frames into the front of a piece, each as one of 32
+/// bits, frame by frame.
+fn put_each(format: WaveFormat, channels: Channels, octets: &[u8], count: usize, wide: &mut [u8])
     requires first { channels.first < format.channels }
     requires second { ForSome channels.second (λ n. n < format.channels) }
     requires frames { count * frame_len format ≤ length octets.now }
@@ -33,5 +69,26 @@ pub(crate) fn put_frames(
         let pair = format.two_samples(channels, &octets[at..at + len]);
         wide[PAIR_LEN * i..PAIR_LEN * i + PAIR_LEN].copy_from_slice(&pair);
         at += len;
+    }
+}
+
+/// Puts the samples of two channels of the first frames, of a block at most, into the front of a piece,
+/// each as one of 32 bits.
+pub(crate) fn put_frames(
+    format: WaveFormat,
+    channels: Channels,
+    octets: &[u8],
+    count: usize,
+    wide: &mut [u8; BLOCK_BYTES],
+)
+    requires first { channels.first < format.channels }
+    requires second { ForSome channels.second (λ n. n < format.channels) }
+    requires frames { count * frame_len format ≤ length octets.now }
+    requires room { count ≤ BLOCK_FRAMES }
+    ensures { take (PAIR_LEN * count) wide.new
+        ≡ parts_of (two_samples format channels) (frame_len format) count octets.now }
+{
+    if count < BLOCK_FRAMES || !put_block(format, channels, octets, wide) {
+        put_each(format, channels, octets, count, wide);
     }
 }

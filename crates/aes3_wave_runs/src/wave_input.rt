@@ -10,7 +10,7 @@ ghost use Rattle.aes3_input.specs.Running.{FrontRan, movement_of};
 ghost use Rattle.aes3_wave_runs.specs.States.{state_of};
 ghost use Rattle.aes3_wave_runs.specs.Wave.{frames_most, taken_len};
 
-use crate::frames::{PAIR_LEN, put_frames};
+use crate::frames::{BLOCK_FRAMES, PAIR_LEN, put_frames};
 use crate::state::{FRAME_MOST, WaveInput};
 use aes3_cell::{RunError, Sink};
 use aes3_engine::SampleInput;
@@ -22,9 +22,6 @@ use aes3_wave::{Channels, WaveFormat};
 
 /// How many frames are taken at most: their samples of 32 bits have 2^40 octets.
 const FRAMES_MOST: u64 = 137_438_953_472;
-
-/// How many frames are handed on at once.
-const BLOCK_FRAMES: usize = 192;
 
 fn blank_frame() -> [u8; FRAME_MOST]
     ensures { length result ≡ FRAME_MOST }

@@ -6,7 +6,7 @@ use Rattle.aes3_wave.specs.Samples.{two_samples}
 use Rattle.aes3_wave_runs.specs.Frames.{parts_of}
 use Rattle.aes3_wave_runs.proofs.FrameSteps.{eight}
 use Rattle.aes3_wave_runs.proofs.Parts.{parts-more}
-use Rattle.aes3_wave_runs.proofs.frames.put_frames.Goals as goal
+use Rattle.aes3_wave_runs.proofs.frames.put_each.Goals as goal
 
 pub loop-i-init : goal.loop-i-init
 unfolding parts_of

@@ -2,7 +2,7 @@ use Rattle.std.proofs.Common.{◌≡◌, ◌*◌, length, take}
 use Rattle.aes3_wave.specs.Formats.{frame_len}
 use Rattle.aes3_wave.specs.Samples.{two_samples}
 use Rattle.aes3_wave_runs.specs.Frames.{parts_of}
-use Rattle.aes3_wave_runs.proofs.frames.put_frames.Given as goal
+use Rattle.aes3_wave_runs.proofs.frames.put_each.Given as goal
 
 abbrev pub invariant-loop-i : goal.invariant-loop-i
 invariant-loop-i l = record {
