@@ -121,11 +121,12 @@ if [ -e crates/aes3_c/out/libaes3_c.a ]; then
     part examples/c/test.sh "$program"
     part_with python3 examples/cpp/test.sh "$program"
     part_with python3 examples/python/test.sh "$program"
+    part_with python3 tests/python.sh
     part_with cargo examples/rust/test.sh "$program"
     part_with cc tests/install.sh
     part_with sigrok-cli tests/sigrok.sh "$program" "$root/crates/aes3_cells_program/out/aes3_cells_program"
 else
-    echo "left out: examples/c/test.sh, examples/c/arm.sh and those of cpp, python and rust, tests/install.sh, tests/packages.sh, tests/sigrok.sh (no C library is built: bin/build aes3_c)" | tee -a "$folder/left"
+    echo "left out: examples/c/test.sh, examples/c/arm.sh and those of cpp, python and rust, tests/python.sh, tests/install.sh, tests/packages.sh, tests/sigrok.sh (no C library is built: bin/build aes3_c)" | tee -a "$folder/left"
 fi
 
 number=0

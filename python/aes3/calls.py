@@ -1,14 +1,31 @@
 """The calls of aes3.h, by ctypes over the shared library libaes3.so.1."""
 
+from __future__ import annotations
+
 import ctypes as c
 import operator
 import os
+import struct
 import sys
+from typing import TYPE_CHECKING, Any, Callable, Dict, Iterable, List, Optional, Tuple, Union
 
 try:
     import numpy
 except ImportError:
-    numpy = None
+    numpy = None  # type: ignore[assignment]
+
+if TYPE_CHECKING:
+    import array
+
+    import numpy.typing as npt
+
+    # What calls take, and what they give: without numpy a list is given for each array of words or samples.
+    Octets = Union[bytes, bytearray, memoryview, "array.array[int]", "npt.NDArray[numpy.uint8]", Iterable[int]]
+    Numbers = Union["array.array[int]", "npt.NDArray[Any]", memoryview, Iterable[int]]
+    CellWords = npt.NDArray[numpy.uint64]
+    BlockWords = npt.NDArray[numpy.uint32]
+    BlockSamples = npt.NDArray[numpy.int32]
+    Rest = Tuple[int, int]
 
 NONE, WHOLE, MARKED, FAULT, UNFINISHED = range(5)
 WHYS = "preamble", "biphase", "unclosed"
@@ -20,7 +37,7 @@ _Samples = c.c_int32 * 384
 _Status = c.c_uint8 * 24
 
 
-def _library():
+def _library() -> c.CDLL:
     name = "libaes3.so.1"
     places = [os.path.join(os.path.dirname(os.path.abspath(__file__)), name), name, os.path.join(sys.prefix, "lib", name)]
     if os.environ.get("AES3_LIB"):
@@ -45,6 +62,9 @@ class _Report(c.Structure):
                 ("kind", c.c_uint8), ("before", c.c_uint8), ("why", c.c_uint8)]
 
 
+_REPORT = struct.Struct("=QQ1536xHBBB")  # of all but its words
+
+
 class _Account(c.Structure):
     _fields_ = [("state", c.c_uint64 * 2)]
 
@@ -57,39 +77,39 @@ class _Capture(c.Structure):
     _fields_ = [(name, c.c_uint64) for name in ("octets", *FOUND)]
 
 
-def _declare(name, result, *arguments):
-    function = getattr(_lib, name)
+def _declare(name: str, result: Any, *arguments: Any) -> Callable[..., int]:
+    function: Any = getattr(_lib, name)
     function.restype, function.argtypes = result, arguments
-    return function
+    call: Callable[..., int] = function
+    return call
 
+
+_at = c.c_void_p  # a pointer: an address, what byref gives, or an array
 
 _version = _declare("aes3_version", c.c_uint32)
-_init = _declare("aes3_lock_init", None, c.POINTER(_Lock))
-_seen = _declare("aes3_lock_seen", c.c_uint64, c.POINTER(_Lock))
-_take_words = _declare("aes3_lock_take_words", c.c_size_t, c.POINTER(_Lock), c.c_void_p, c.c_size_t)
-_push = _declare("aes3_lock_push", c.c_uint32, c.POINTER(_Lock), c.c_uint64, c.c_uint32, c.POINTER(_Report))
-_take_octets = _declare(
-    "aes3_lock_take_octets", c.c_size_t, c.POINTER(_Lock), c.c_void_p, c.c_size_t, c.c_size_t, c.POINTER(_Report)
-)
-_block = _declare("aes3_lock_block", None, c.POINTER(_Lock), c.POINTER(_Words))
-_finish = _declare("aes3_lock_finish", None, c.POINTER(_Lock), c.POINTER(_Report))
-_account_init = _declare("aes3_account_init", None, c.POINTER(_Account))
-_before = _declare("aes3_account_before", c.c_bool, c.POINTER(_Account), c.POINTER(_Report), c.POINTER(_Gap))
-_passed = _declare("aes3_account_passed", c.c_bool, c.POINTER(_Account), c.c_uint64, c.POINTER(_Gap))
-_end = _declare("aes3_account_end", c.c_bool, c.POINTER(_Account), c.c_uint64, c.POINTER(_Gap))
-_encode_block = _declare("aes3_encode_block", c.c_uint32, c.POINTER(_Words), c.c_uint8, c.POINTER(_Cells))
-_block_samples = _declare("aes3_block_samples", c.c_uint32, c.POINTER(_Words), c.POINTER(_Samples))
-_block_of_samples = _declare("aes3_block_of_samples", None, c.POINTER(_Samples), c.POINTER(_Words))
+_init = _declare("aes3_lock_init", None, _at)
+_seen = _declare("aes3_lock_seen", c.c_uint64, _at)
+_take_words = _declare("aes3_lock_take_words", c.c_size_t, _at, _at, c.c_size_t)
+_push = _declare("aes3_lock_push", c.c_uint32, _at, c.c_uint64, c.c_uint32, _at)
+_take_octets = _declare("aes3_lock_take_octets", c.c_size_t, _at, _at, c.c_size_t, c.c_size_t, _at)
+_block = _declare("aes3_lock_block", None, _at, _at)
+_finish = _declare("aes3_lock_finish", None, _at, _at)
+_account_init = _declare("aes3_account_init", None, _at)
+_before = _declare("aes3_account_before", c.c_bool, _at, _at, _at)
+_passed = _declare("aes3_account_passed", c.c_bool, _at, c.c_uint64, _at)
+_end = _declare("aes3_account_end", c.c_bool, _at, c.c_uint64, _at)
+_encode_block = _declare("aes3_encode_block", c.c_uint32, _at, c.c_uint8, _at)
+_block_samples = _declare("aes3_block_samples", c.c_uint32, _at, _at)
+_block_of_samples = _declare("aes3_block_of_samples", None, _at, _at)
 _bits = {
-    (name, sets): _declare(f"aes3_block_{'set_' * sets}{name}", c.c_uint32, c.POINTER(_Words), c.c_uint8, c.POINTER(_Status))
+    (name, sets): _declare(f"aes3_block_{'set_' * sets}{name}", c.c_uint32, _at, c.c_uint8, _at)
     for name in ("status", "validity", "user")
     for sets in (False, True)
 }
-_check_byte = _declare("aes3_status_check_byte", c.c_uint8, c.POINTER(_Status))
-_status_text = _declare("aes3_status_text", c.c_uint32, c.POINTER(_Status), c.c_char * 800)
+_check_byte = _declare("aes3_status_check_byte", c.c_uint8, _at)
+_status_text = _declare("aes3_status_text", c.c_uint32, _at, _at)
 _capture_cells = _declare(
-    "aes3_capture_cells", c.c_bool, c.c_void_p, c.c_size_t, c.c_uint8, c.c_uint8, c.c_uint64, c.c_void_p, c.c_size_t,
-    c.POINTER(_Capture)
+    "aes3_capture_cells", c.c_bool, _at, c.c_size_t, c.c_uint8, c.c_uint8, c.c_uint64, _at, c.c_size_t, _at
 )
 
 
@@ -99,7 +119,7 @@ _capture_cells = _declare(
 class _Kind:
     """Numbers in a row: what they are and one of them, the least and the greatest, how many octets an item of an array has at least."""
 
-    def __init__(self, what, name, least, greatest, octets, means):
+    def __init__(self, what: str, name: str, least: int, greatest: int, octets: int, means: str) -> None:
         self.what, self.name, self.least, self.greatest, self.octets = what, name, least, greatest, octets
         self.wanted = f"{what} are whole numbers from {least:,} to {greatest:,} ({means})"
 
@@ -109,19 +129,19 @@ _BLOCK = _Kind("the words of a block", "words", 0, 2**32 - 1, 4, "uint32")
 _ROW = _Kind("words of cells", "words", 0, 2**64 - 1, 8, "uint64, 64 cells a word: take_octets takes octets")
 
 
-def _out(array):
+def _out(array: c.Array[Any]) -> Any:
     """A ctypes array as what the caller is given, with memory of its own."""
     return numpy.array(array) if numpy else list(array)
 
 
-def _named(value):
+def _named(value: object) -> str:
     """What a message calls a value: its type, and that of the items of an array."""
     items = getattr(value, "dtype", None) or getattr(value, "typecode", None)
     name = type(value).__name__
     return f"{name} of {items}" if items else name
 
 
-def _number(value, what, least, greatest, means=""):
+def _number(value: Any, what: str, least: int, greatest: int, means: str = "") -> int:
     """A whole number within bounds."""
     wanted = f"{what} is {least} or {greatest}" if greatest == least + 1 else f"{what} is a whole number from {least:,} to {greatest:,}{means}"
     try:
@@ -133,7 +153,7 @@ def _number(value, what, least, greatest, means=""):
     return number
 
 
-def _memory(values):
+def _memory(values: Any) -> Optional[memoryview]:
     """The view of an array or other memory, or None of what is a plain sequence."""
     try:
         return memoryview(values)
@@ -141,7 +161,7 @@ def _memory(values):
         return None
 
 
-def _check_items(values, kind):
+def _check_items(values: Any, kind: _Kind) -> None:
     """Memory has whole numbers of the size in one row, whatever they are."""
     view = _memory(values)
     if view is None and not hasattr(values, "dtype"):
@@ -152,10 +172,11 @@ def _check_items(values, kind):
         raise ValueError(f"{kind.what} are one row, not {view.ndim} dimensions")
 
 
-def _numbers(values, kind):
+def _numbers(values: Any, kind: _Kind) -> List[int]:
     """The list of the whole numbers of a sequence or an array, each of a kind."""
     _check_items(values, kind)
-    numbers = []
+    numbers: List[int] = []
+    value = None
     try:
         for value in values:
             numbers.append(operator.index(value))
@@ -168,7 +189,7 @@ def _numbers(values, kind):
     return numbers
 
 
-def _block_of(values, kind):
+def _block_of(values: Any, kind: _Kind) -> List[int]:
     """The same where they are those of a block."""
     numbers = _numbers(values, kind)
     if len(numbers) != 384:
@@ -176,34 +197,36 @@ def _block_of(values, kind):
     return numbers
 
 
-def _cells_in(words):
-    """Words of cells in one piece of memory, as a ctypes array over it."""
+def _cells_in(words: Any) -> Tuple[Any, c.Array[c.c_uint64]]:
+    """Words of cells in one piece of memory: that memory, and a ctypes array over it."""
     _check_items(words, _ROW)
     if not numpy or _memory(words) is None:
-        words = _numbers(words, _ROW)
-        return (c.c_uint64 * len(words))(*words)
-    words = numpy.asarray(words)
-    if words.dtype.kind == "i" and len(words) and words.min() < 0:
-        raise ValueError(f"{_ROW.wanted}, not {words.min():,}")
-    array = numpy.ascontiguousarray(words, dtype=numpy.uint64)
-    found = (c.c_uint64 * len(array)).from_address(array.ctypes.data) if len(array) else (c.c_uint64 * 0)()
-    found.owner = array
-    return found
+        numbers = _numbers(words, _ROW)
+        cells = (c.c_uint64 * len(numbers))(*numbers)
+        return cells, cells
+    given = numpy.asarray(words)
+    if given.dtype.kind == "i" and len(given) and given.min() < 0:
+        raise ValueError(f"{_ROW.wanted}, not {given.min():,}")
+    row = numpy.ascontiguousarray(given, dtype=numpy.uint64)
+    return row, (c.c_uint64 * len(row)).from_address(row.ctypes.data) if len(row) else (c.c_uint64 * 0)()
 
 
-def _octets_in(octets, what="octets"):
+def _octets_in(octets: Any, what: str = "octets") -> Tuple[Any, Any, int]:
     """Octets in one piece of memory: that memory, where it is, and how many they are."""
     wanted = f"{what} are bytes, an array of uint8, or whole numbers from 0 to 255"
     view = _memory(octets)
     if view is None:
         is_wrong = isinstance(octets, (int, str)) or hasattr(octets, "dtype")
     else:
-        is_wrong = view.format[-1] not in "Bc" or view.ndim == 0
+        # A date of numpy shows itself as octets.
+        is_wrong = view.format[-1] not in "Bc" or getattr(getattr(octets, "dtype", None), "kind", "u") not in "uS"
     if is_wrong:
         raise TypeError(f"{wanted}, not {_named(octets)}")
+    if view is not None and view.ndim != 1:
+        raise ValueError(f"{what} are one row, not {view.ndim} dimensions")
     if numpy and isinstance(octets, numpy.ndarray):
-        array = numpy.ascontiguousarray(octets)
-        return array, array.ctypes.data, array.size
+        row = numpy.ascontiguousarray(octets)
+        return row, row.ctypes.data, row.size
     try:
         octets = bytes(octets)
     except (TypeError, ValueError) as error:
@@ -211,15 +234,15 @@ def _octets_in(octets, what="octets"):
     return octets, octets, len(octets)
 
 
-def _bytes_in(octets, what):
+def _bytes_in(octets: Any, what: str) -> bytes:
     return bytes(_octets_in(octets, what)[0])
 
 
-def _block_in(words):
+def _block_in(words: Any) -> c.Array[c.c_uint32]:
     return _Words(*_block_of(words, _BLOCK))
 
 
-def _status_in(status, what="a channel status"):
+def _status_in(status: Any, what: str = "a channel status") -> c.Array[c.c_uint8]:
     octets = _bytes_in(status, f"the 24 bytes of {what}")
     if len(octets) != 24:
         raise ValueError(f"{what} has 24 bytes, not {len(octets):,}")
@@ -229,7 +252,7 @@ def _status_in(status, what="a channel status"):
 # ---- cells in other forms
 
 
-def _words(cells, count):
+def _words(cells: str, count: int) -> Tuple[CellWords, Rest]:
     """Of `count` cells, a text of `0` and `1`: the words of 64, and the word and number of those left."""
     whole = count // 64 * 64
     # The first character of a number is its highest bit, and the first cell of a word its lowest.
@@ -237,18 +260,24 @@ def _words(cells, count):
     return _out(words), (int(cells[whole:count][::-1] or "0", 2), count - whole)
 
 
-def words_of_text(text):
+def words_of_text(text: Union[str, Octets]) -> Tuple[CellWords, Rest]:
     """The words of 64 cells of a text of `0` and `1`, and the word and number of the cells left, as push takes them."""
-    text = text.encode() if isinstance(text, str) else _bytes_in(text, "cells as text")
-    text = text.translate(None, delete=b"\n\r ")
-    if text.strip(b"01"):
-        raise ValueError("a character that is no cell")
+    cells = _cells_of_text(text)
     if not numpy:
-        return _words(text.decode(), len(text))
-    return _packed(numpy.frombuffer(text, numpy.uint8) & 1)
+        return _words(cells.decode(), len(cells))
+    return _packed(numpy.frombuffer(cells, numpy.uint8) & numpy.uint8(1))
 
 
-def _check_packed(octets):
+def _cells_of_text(text: Union[str, Octets]) -> bytes:
+    """The characters `0` and `1` of a text of cells."""
+    octets = text.encode() if isinstance(text, str) else _bytes_in(text, "cells as text")
+    octets = octets.translate(None, delete=b"\n\r ")
+    if octets.strip(b"01"):
+        raise ValueError("a character that is no cell")
+    return octets
+
+
+def _check_packed(octets: bytes) -> None:
     """Packed cells end with how many cells of the octet before are unused."""
     if not octets or octets[-1] > 7 or (octets[-1] and len(octets) == 1):
         raise ValueError("packed cells end with the number of unused cells, 0 to 7")
@@ -256,18 +285,18 @@ def _check_packed(octets):
         raise ValueError("unused cells are 0")
 
 
-def words_of_packed(octets):
+def words_of_packed(octets: Octets) -> Tuple[CellWords, Rest]:
     """The same of packed cells, eight an octet, of which the last octet counts the unused ones."""
-    octets = _bytes_in(octets, "packed cells")
-    _check_packed(octets)
-    count = 8 * (len(octets) - 1) - octets[-1]
+    packed = _bytes_in(octets, "packed cells")
+    _check_packed(packed)
+    count = 8 * (len(packed) - 1) - packed[-1]
     if not numpy:
-        cells = bin(int.from_bytes(b"\1" + octets[:-1], "big"))[3:]
+        cells = bin(int.from_bytes(b"\1" + packed[:-1], "big"))[3:]
         return _words(cells, count)
-    return _packed(numpy.unpackbits(numpy.frombuffer(octets, numpy.uint8))[:count])
+    return _packed(numpy.unpackbits(numpy.frombuffer(packed, numpy.uint8))[:count])
 
 
-def _packed(cells):
+def _packed(cells: npt.NDArray[numpy.uint8]) -> Tuple[CellWords, Rest]:
     """The same of an array of cells, one an element."""
     whole = len(cells) // 64 * 64
     words = numpy.packbits(cells[:whole], bitorder="little").view("<u8").astype(numpy.uint64)
@@ -277,96 +306,101 @@ def _packed(cells):
 # ---- blocks and status
 
 
-def _lawful(answer):
+def _lawful(answer: int) -> None:
     if answer != 384:
         raise ValueError(f"word {answer} is not lawful")
 
 
-def library_version():
+def library_version() -> str:
     """The version of the library that runs, as VERSION is that of this module: a text."""
     number = _version()
     return f"{number >> 16}.{number >> 8 & 255}.{number & 255}"
 
 
-def encode_block(words, before=0):
+def encode_block(words: Numbers, before: int = 0) -> CellWords:
     """The 384 words of cells of a block of 384 words, behind a cell of the level 0 or 1; ValueError where a word is not lawful."""
     block, before, cells = _block_in(words), _number(before, "the level before a block", 0, 1), _Cells()
-    _lawful(_encode_block(c.byref(block), before, c.byref(cells)))
-    return _out(cells)
+    _lawful(_encode_block(block, before, cells))
+    found: CellWords = _out(cells)
+    return found
 
 
-def block_samples(words):
+def block_samples(words: Numbers) -> BlockSamples:
     """The 384 samples of a block, channel 1 and 2 of each frame, 24 bits in the highest of 32; ValueError where a word is not lawful."""
     samples = _Samples()
-    _lawful(_block_samples(c.byref(_block_in(words)), c.byref(samples)))
-    return _out(samples)
+    _lawful(_block_samples(_block_in(words), samples))
+    found: BlockSamples = _out(samples)
+    return found
 
 
-def block_of_samples(samples):
+def block_of_samples(samples: Numbers) -> BlockWords:
     """The words of the block of such samples, int32, whose lowest 8 bits don't count, with V, U and C 0."""
     words = _Words()
-    _block_of_samples(c.byref(_Samples(*_block_of(samples, _SAMPLES))), c.byref(words))
-    return _out(words)
+    _block_of_samples(_Samples(*_block_of(samples, _SAMPLES)), words)
+    found: BlockWords = _out(words)
+    return found
 
 
-def block_status(words, channel):
+def block_status(words: Numbers, channel: int) -> bytes:
     """The channel status of channel 1 or 2 of a block; ValueError where a word is not lawful."""
     return _bits_of("status", words, channel)
 
 
-def block_validity(words, channel):
+def block_validity(words: Numbers, channel: int) -> bytes:
     """The V bits of a channel as 24 bytes, that of frame 0 the lowest of the first; likewise."""
     return _bits_of("validity", words, channel)
 
 
-def block_user(words, channel):
+def block_user(words: Numbers, channel: int) -> bytes:
     """The U bits of a channel; likewise."""
     return _bits_of("user", words, channel)
 
 
-def with_status(words, channel, status):
+def with_status(words: Numbers, channel: int, status: Octets) -> BlockWords:
     """The words of the block with another channel status in channel 1 or 2, and the parity bits that follow."""
     return _with_bits("status", words, channel, status)
 
 
-def with_validity(words, channel, bits):
+def with_validity(words: Numbers, channel: int, bits: Octets) -> BlockWords:
     """The words of the block with other V bits, 24 bytes, in a channel; likewise."""
     return _with_bits("validity", words, channel, bits)
 
 
-def with_user(words, channel, bits):
+def with_user(words: Numbers, channel: int, bits: Octets) -> BlockWords:
     """The words of the block with other U bits, 24 bytes, in a channel; likewise."""
     return _with_bits("user", words, channel, bits)
 
 
-def _bits_of(name, words, channel):
+def _bits_of(name: str, words: Any, channel: Any) -> bytes:
     block, channel, bits = _block_in(words), _number(channel, "a channel", 1, 2), _Status()
-    _lawful(_bits[name, False](c.byref(block), channel, c.byref(bits)))
+    _lawful(_bits[name, False](block, channel, bits))
     return bytes(bits)
 
 
-def _with_bits(name, words, channel, bits):
+def _with_bits(name: str, words: Any, channel: Any, bits: Any) -> BlockWords:
     block, channel = _block_in(words), _number(channel, "a channel", 1, 2)
     bits = _status_in(bits, "a channel status" if name == "status" else f"a channel's {name}")
-    _lawful(_bits[name, True](c.byref(block), channel, c.byref(bits)))
-    return _out(block)
+    _lawful(_bits[name, True](block, channel, bits))
+    found: BlockWords = _out(block)
+    return found
 
 
-def check_byte(status):
+def check_byte(status: Octets) -> int:
     """The check byte of a professional channel status of 24 bytes."""
-    return _check_byte(c.byref(_status_in(status)))
+    return _check_byte(_status_in(status))
 
 
-def status_text(status):
+def status_text(status: Octets) -> str:
     """The use and the fields of a channel status of 24 bytes as `aes3 show` writes them."""
-    text = (c.c_char * 800)()
-    return text[1 : _status_text(c.byref(_status_in(status)), text)].decode("ascii")
+    text = c.create_string_buffer(800)
+    count = _status_text(_status_in(status), text)
+    return text.raw[1:count].decode("ascii")
 
 
 # ---- captures
 
 
-def cells_of_samples(samples, bit=0, unit=1, period=0):
+def cells_of_samples(samples: Octets, bit: int = 0, unit: int = 1, period: int = 0) -> Tuple[bytes, Dict[str, int]]:
     """The packed cells of the line in a bit of samples, as `aes3-cells --packed-out` writes them, and what was found of it.
 
     A sample has `unit` octets, 1 or 2, the lower first; a cell is `period` 65,536ths of a sample, or is measured. What was found is a
@@ -396,39 +430,61 @@ class Report:
     wrong    of a marked block how many subframes have the wrong parity
     why      of a fault the number of its cause in WHYS
     words    the 384 words of a whole block, else None
+
+    Fields that its kind does not name are 0. Reports are equal where all of this is. `match` takes the fields in this order:
+
+        match report:
+            case aes3.Report(aes3.WHOLE, at): ...
+            case aes3.Report(kind=aes3.FAULT, cell=cell, why=why): ...
     """
 
     __slots__ = ("kind", "at", "cell", "before", "wrong", "why", "_block", "_words")
     __match_args__ = ("kind", "at", "cell", "before", "wrong", "why")
 
-    def __init__(self, told):
-        self.kind, self.at, self.cell, self.before = told.kind, told.at, told.cell, told.before
-        self.wrong, self.why = told.wrong, told.why
-        self._block, self._words = _Words.from_buffer_copy(told.words) if told.kind == WHOLE else None, None
+    kind: int
+    at: int
+    cell: int
+    before: int
+    wrong: int
+    why: int
+    _block: Optional[c.Array[c.c_uint32]]
+    _words: Optional[BlockWords]
+
+    def __init__(self, told: _Report, block: Optional[c.Array[c.c_uint32]] = None) -> None:
+        self.at, cell, wrong, kind, before, why = _REPORT.unpack_from(told)
+        self.kind, self._block, self._words = kind, block, None
+        # The library leaves what a kind does not name as it was.
+        is_block = kind in (WHOLE, MARKED)
+        self.cell = 0 if is_block else cell
+        self.before = before if is_block else 0
+        self.wrong = wrong if kind == MARKED else 0
+        self.why = why if kind == FAULT else 0
 
     @property
-    def words(self):
+    def words(self) -> Optional[BlockWords]:
         """The words of a whole block, made when they are first asked for."""
         if self._words is None and self._block is not None:
             self._words = _out(self._block)
         return self._words
 
-    def _block_at(self):
-        """The address of the words of a whole block."""
-        return c.addressof(self._block)
+    def _fields(self) -> Tuple[int, ...]:
+        return self.kind, self.at, self.cell, self.before, self.wrong, self.why
 
-    def __eq__(self, other):
+    def __eq__(self, other: object) -> bool:
         if not isinstance(other, Report):
             return NotImplemented
-        return str(self) == str(other) and bytes(self._block or b"") == bytes(other._block or b"")
+        return self._fields() == other._fields() and bytes(self._block or b"") == bytes(other._block or b"")
 
-    def __hash__(self):
-        return hash(str(self))
+    def __hash__(self) -> int:
+        return hash(self._fields())
 
-    def __repr__(self):
+    def __reduce__(self) -> Tuple[Any, ...]:
+        return _report_again, (self._fields(), None if self._block is None else bytes(self._block))
+
+    def __repr__(self) -> str:
         return f"Report({self})"
 
-    def __str__(self):
+    def __str__(self) -> str:
         """Its line, as `aes3 check` writes it."""
         if self.kind == WHOLE:
             return f"whole at {self.at} before {self.before}"
@@ -442,44 +498,57 @@ class Report:
 class Lock:
     """Finds the blocks in words of 64 cells, the earliest cell in bit 0."""
 
-    def __init__(self):
+    def __init__(self) -> None:
         self._lock = _Lock()
         _init(c.byref(self._lock))
 
-    def seen(self):
+    def seen(self) -> int:
         """How many cells it has seen."""
         return _seen(c.byref(self._lock))
 
-    def take(self, words):
+    def take(self, words: Numbers) -> List[Report]:
         """The list of the reports that these words of cells decide."""
-        words = _cells_in(words)
-        reports, at = [], 0
-        while at < len(words):
-            at += _take_words(c.byref(self._lock), c.byref(words, 8 * at), len(words) - at)
-            if at < len(words):
-                reports += self.push(words[at], 64)
+        owner, cells = _cells_in(words)
+        reports: List[Report] = []
+        lock, at = c.byref(self._lock), 0
+        while at < len(cells):
+            at += _take_words(lock, c.byref(cells, 8 * at), len(cells) - at)
+            if at < len(cells):
+                reports += self.push(cells[at], 64)
                 at += 1
+        del owner
         return reports
 
-    def take_octets(self, octets):
+    def take_octets(self, octets: Octets) -> List[Report]:
         """The list of the reports that the cells of octets decide, eight an octet, the first in its highest bit."""
         owner, memory, count = _octets_in(octets)
-        reports, at, told = [], 0, _Report()
-        while True:
-            at += _take_octets(c.byref(self._lock), memory, count, at, c.byref(told))
-            if told.kind == NONE:
-                break
-            if told.kind == WHOLE:
-                _block(c.byref(self._lock), c.byref(told.words))
-            reports.append(Report(told))
+        reports = self._take(memory, count)
         del owner
+        return reports
+
+    def _take(self, memory: Any, count: int) -> List[Report]:
+        """The same of so many octets at a place in memory."""
+        reports: List[Report] = []
+        told, at = _Report(), 0
+        lock, to = c.byref(self._lock), c.byref(told)
+        while True:
+            at += _take_octets(lock, memory, count, at, to)
+            kind = told.kind
+            if kind == NONE:
+                break
+            block = None
+            if kind == WHOLE:
+                block = _Words()
+                _block(lock, block)
+            reports.append(Report(told, block))
         if at < 8 * count:
             raise OverflowError("a lock takes 2^43 cells")
         return reports
 
-    def push(self, word, count):
+    def push(self, word: int, count: int) -> List[Report]:
         """The list of the reports that the first `count` cells of a word decide."""
-        word, count, reports = _number(word, "a word of cells", 0, 2**64 - 1), _number(count, "the number of cells of a word", 0, 64), []
+        word, count = _number(word, "a word of cells", 0, 2**64 - 1), _number(count, "the number of cells of a word", 0, 64)
+        reports: List[Report] = []
         while count:
             told = _Report()
             taken = _push(c.byref(self._lock), word, count, c.byref(told))
@@ -487,14 +556,26 @@ class Lock:
                 raise OverflowError("a lock takes 2^43 cells")
             word, count = word >> taken, count - taken
             if told.kind != NONE:
-                reports.append(Report(told))
+                reports.append(_report_of(told))
         return reports
 
-    def finish(self):
+    def finish(self) -> List[Report]:
         """The list of the one report that the end of the cells decides, or of none."""
         told = _Report()
         _finish(c.byref(self._lock), c.byref(told))
-        return [] if told.kind == NONE else [Report(told)]
+        return [] if told.kind == NONE else [_report_of(told)]
+
+
+def _report_of(told: _Report) -> Report:
+    """The report of what a call told with the words of a whole block."""
+    return Report(told, _Words.from_buffer_copy(told.words) if told.kind == WHOLE else None)
+
+
+def _report_again(fields: Tuple[int, ...], block: Optional[bytes]) -> Report:
+    """A report that was copied or pickled."""
+    kind, at, cell, before, wrong, why = fields
+    told = _Report(kind=kind, at=at, cell=cell, before=before, wrong=wrong, why=why)
+    return Report(told, None if block is None else _Words.from_buffer_copy(block))
 
 
 # ---- the account
@@ -503,10 +584,26 @@ class Lock:
 class Gap:
     """Cells in a row that lie in no whole block: the place of the first, how many, and whether it counts among the faults."""
 
-    def __init__(self, told):
-        self.at, self.cells, self.counts = told.at, told.cells, bool(told.counts)
+    __slots__ = ("at", "cells", "counts")
+    __match_args__ = ("at", "cells", "counts")
 
-    def __str__(self):
+    def __init__(self, told: _Gap) -> None:
+        self.at: int = told.at
+        self.cells: int = told.cells
+        self.counts = bool(told.counts)
+
+    def __eq__(self, other: object) -> bool:
+        if not isinstance(other, Gap):
+            return NotImplemented
+        return (self.at, self.cells, self.counts) == (other.at, other.cells, other.counts)
+
+    def __hash__(self) -> int:
+        return hash((self.at, self.cells, self.counts))
+
+    def __repr__(self) -> str:
+        return f"Gap({self})"
+
+    def __str__(self) -> str:
         """Its line, as `aes3 check --gaps` writes it."""
         return f"gap at {self.at} cells {self.cells}"
 
@@ -514,11 +611,11 @@ class Gap:
 class Account:
     """Tells the gaps between the whole blocks of a lock's cells."""
 
-    def __init__(self):
+    def __init__(self) -> None:
         self._account = _Account()
         _account_init(c.byref(self._account))
 
-    def before(self, report):
+    def before(self, report: Report) -> List[Gap]:
         """The list of the gaps before a report. Each report of the lock goes here in turn, and is told then."""
         if not isinstance(report, Report):
             raise TypeError(f"a gap is before a Report of a lock, not before {_named(report)}")
@@ -526,19 +623,20 @@ class Account:
         told = _Report(at=place, cell=cell, wrong=report.wrong, kind=report.kind, before=report.before, why=report.why)
         return self._gaps(lambda gap: _before(c.byref(self._account), c.byref(told), gap))
 
-    def passed(self, seen):
+    def passed(self, seen: int) -> List[Gap]:
         """The list of the gaps that stand whatever follows the `seen` cells, all of whose reports were told."""
         seen = _number(seen, "the number of cells", 0, 2**64 - 1)
         return self._gaps(lambda gap: _passed(c.byref(self._account), seen, gap))
 
-    def end(self, seen):
+    def end(self, seen: int) -> List[Gap]:
         """The list of all gaps that are left at the end of the `seen` cells, all of whose reports were told."""
         seen = _number(seen, "the number of cells", 0, 2**64 - 1)
         return self._gaps(lambda gap: _end(c.byref(self._account), seen, gap))
 
     @staticmethod
-    def _gaps(put):
-        gaps, gap = [], _Gap()
+    def _gaps(put: Callable[[Any], int]) -> List[Gap]:
+        gaps: List[Gap] = []
+        gap = _Gap()
         while put(c.byref(gap)):
             gaps.append(Gap(gap))
         return gaps

@@ -1,8 +1,13 @@
 """Channel status: what a line says of its samples."""
 
-import ctypes as c
+from __future__ import annotations
+
+from typing import TYPE_CHECKING, Dict, Optional
 
 from aes3 import calls
+
+if TYPE_CHECKING:
+    from aes3.calls import Octets
 
 # The codes of sampling frequencies in hertz: of consumer use (IEC 60958-3) in bits 0 to 3 of byte 3, and of professional use (AES3-2)
 # in bits 6 and 7 of byte 0 or, where these are 0, in bits 3 to 6 of byte 4.
@@ -11,11 +16,11 @@ _BYTE_0 = {44100: 1, 48000: 2, 32000: 3}
 _BYTE_4 = {24000: 1, 96000: 2, 192000: 3, 22050: 9, 88200: 10, 176400: 11}
 
 
-def _rate_with(codes, code):
+def _rate_with(codes: Dict[int, int], code: int) -> Optional[int]:
     return next((rate for rate, each in codes.items() if each == code), None)
 
 
-def _known(rate, codes):
+def _known(rate: int, codes: Dict[int, int]) -> int:
     """A sampling frequency that has a code."""
     if rate not in codes:
         raise ValueError(f"channel status has no code for {rate} Hz: it has codes for {', '.join(map(str, sorted(codes)))}, and None names no rate")
@@ -32,12 +37,12 @@ class Status:
     __slots__ = ("_bytes", "_text")
     __match_args__ = ("use", "fields")
 
-    def __init__(self, octets):
+    def __init__(self, octets: Octets) -> None:
         self._bytes = bytes(calls._status_in(octets))
-        self._text = None
+        self._text: Optional[str] = None
 
     @classmethod
-    def consumer(cls, rate=None):
+    def consumer(cls, rate: Optional[int] = None) -> Status:
         """The usual status for consumer use: linear PCM, no copyright asserted, words of 24 bits, and this sampling frequency in hertz.
 
         It is that of `aes3 from-pcm --preset consumer --rate HZ`. Without a rate it says that none is indicated.
@@ -48,7 +53,7 @@ class Status:
         return cls(octets)
 
     @classmethod
-    def professional(cls, rate=None):
+    def professional(cls, rate: Optional[int] = None) -> Status:
         """The usual status for professional use: linear PCM, no emphasis, two channels, words of 24 bits, this sampling frequency in
         hertz, and the check byte.
 
@@ -63,40 +68,42 @@ class Status:
         return cls(octets)
 
     @property
-    def use(self):
+    def use(self) -> str:
         """`professional` or `consumer`."""
         return "professional" if self._bytes[0] & 1 else "consumer"
 
     @property
-    def fields(self):
+    def fields(self) -> Dict[str, str]:
         """The names of the fields and their texts, in the order of `aes3 show`."""
         return dict(field.split("=", 1) for field in str(self).split(" ")[1:])
 
     @property
-    def rate(self):
+    def rate(self) -> Optional[int]:
         """The sampling frequency in hertz, or None where the status names none."""
         if self.use == "consumer":
             return _rate_with(_CONSUMER, self._bytes[3] & 15)
         return _rate_with(_BYTE_0, self._bytes[0] >> 6) or _rate_with(_BYTE_4, self._bytes[4] >> 3 & 15)
 
-    def __getitem__(self, name):
+    def __getitem__(self, name: str) -> str:
         """The text of a field."""
         return self.fields[name]
 
-    def __bytes__(self):
+    def __bytes__(self) -> bytes:
         return self._bytes
 
-    def __str__(self):
+    def __str__(self) -> str:
         """The line of the status, as `aes3 show` prints it."""
         if self._text is None:
             self._text = calls.status_text(self._bytes)
         return self._text
 
-    def __repr__(self):
+    def __repr__(self) -> str:
         return f"Status({self})"
 
-    def __eq__(self, other):
-        return isinstance(other, Status) and self._bytes == other._bytes
+    def __eq__(self, other: object) -> bool:
+        if not isinstance(other, Status):
+            return NotImplemented
+        return self._bytes == other._bytes
 
-    def __hash__(self):
+    def __hash__(self) -> int:
         return hash(self._bytes)

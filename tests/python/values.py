@@ -1,0 +1,474 @@
+"""values.py: the module aes3 as a caller gets it wrong, and right: each kind of array and each wrong one.
+
+The lines that `encode` makes are compared with those of an encoder here, which shares nothing with it. Nothing may come back that is
+not what was sent: what is wrong is an exception. Done with numpy where it is there. Prints what differs, and then `N passed, M failed`.
+"""
+
+import array
+import copy
+import ctypes
+import inspect
+import io
+import os
+import pickle
+import random
+import struct
+import sys
+import traceback
+import wave
+
+import aes3
+
+try:
+    import numpy
+except ImportError:
+    numpy = None
+
+FULL = 2**23
+PREAMBLES = {"Z": "11101000", "X": "11100010", "Y": "11100100"}
+LENGTHS = 0, 1, 2, 191, 192, 193, 384, 385
+SECONDS = b"\x04\0\0\x02\x0b" + bytes(19)  # the status of consumer use at 48 kHz
+
+
+# ---- another encoder
+
+
+def line_of(frames, status=SECONDS):
+    """The octets of the cells of frames of two samples of 24 bits, with zeros up to the end of a block."""
+    frames = [*frames, *[(0, 0)] * (-len(frames) % 192)]
+    cells, level = [], "0"
+    for number, frame in enumerate(frames):
+        place = number % 192
+        for channel, sample in enumerate(frame):
+            preamble = PREAMBLES["Y" if channel else "X" if place else "Z"]
+            cells.append(preamble if level == "0" else preamble.translate({48: 49, 49: 48}))
+            level = cells[-1][-1]
+            bits = [sample >> i & 1 for i in range(24)] + [0, 0, status[place // 8] >> place % 8 & 1]
+            for bit in [*bits, sum(bits) & 1]:
+                first = "10"[int(level)]
+                level = "10"[int(first)] if bit else first
+                cells.append(first + level)
+    text = "".join(cells)
+    return bytes(int(text[at : at + 8], 2) for at in range(0, len(text), 8))
+
+
+def frames_of(count, seed=1):
+    """Frames of chance, with the least and the greatest sample among them."""
+    chance = random.Random(seed)
+    frames = [(chance.randrange(-FULL, FULL), chance.randrange(-FULL, FULL)) for _ in range(count)]
+    return [(-FULL, FULL - 1), *frames[1:]] if count else []
+
+
+def row_of(frames):
+    return [sample for frame in frames for sample in frame]
+
+
+def samples_of(found):
+    """The frames of 24 bits of what decode gives; the lowest 8 bits are 0."""
+    row = found.samples.reshape(-1).tolist() if numpy else found.samples.tolist()
+    assert not any(it & 255 for it in row)
+    return [(row[i] >> 8, row[i + 1] >> 8) for i in range(0, len(row), 2)]
+
+
+def padded(frames):
+    return [*frames, *[(0, 0)] * (-len(frames) % 192)]
+
+
+# ---- judging
+
+
+def refusal(call, *given, **named):
+    """The exception of a call, which says in a sentence what is wrong; None where there is none."""
+    try:
+        call(*given, **named)
+    except (TypeError, ValueError) as error:
+        assert len(str(error).split()) > 3, error
+        return type(error)
+    return None
+
+
+def is_refused(kind, call, *given, **named):
+    got = refusal(call, *given, **named)
+    assert got is kind, f"{getattr(call, '__name__', call)} of {str(given)[:200]} {named}: {got} for {kind}"
+
+
+def check_lines():
+    for count in LENGTHS:
+        frames = frames_of(count, count)
+        line = line_of(frames)
+        wide = array.array("i", [it << 8 for it in row_of(frames)])
+        assert aes3.encode(wide, channels=2) == line + b"\0", count
+        found = aes3.decode(line + b"\0")
+        assert samples_of(found) == padded(frames) and len(found.reports) == -(-count // 192)
+        assert [it.at for it in found.reports] == [24576 * i for i in range(len(found.reports))]
+        assert all(it.kind == aes3.WHOLE and it.before == 0 for it in found.reports)
+        assert found.status == ((aes3.Status(SECONDS),) * 2 if count else None)
+
+
+def check_many_blocks():
+    for blocks in 31, 32, 33, 64, 65, 97:
+        frames = frames_of(192 * blocks - 5)
+        wide = array.array("i", [it << 8 for it in row_of(frames)])
+        parts = [aes3.encode(wide[at : at + 384], channels=2, form="raw") for at in range(0, len(wide), 384)]
+        line = aes3.encode(wide, channels=2, form="raw")
+        assert line == b"".join(parts) and len(parts) == blocks
+        assert samples_of(aes3.decode(line, form="raw")) == padded(frames)
+
+
+def check_one_channel():
+    for count in LENGTHS:
+        frames = [(it, it) for it, _ in frames_of(count)]
+        row = array.array("i", [it << 8 for it, _ in frames])
+        assert aes3.encode(row, channels=1, form="raw") == line_of(frames)
+
+
+def check_scales():
+    frames = frames_of(193)
+    row, line = row_of(frames), line_of(frames)
+    narrow = [it >> 8 for it in row]
+    narrow_line = line_of([(a >> 8 << 8, b >> 8 << 8) for a, b in frames])
+    given = [
+        (array.array("i", [it << 8 for it in row]), {}, line),
+        (array.array("i", [it << 8 | 255 for it in row]), {"bits": 32}, line),
+        (array.array("i", row), {"bits": 24}, line),
+        (array.array("h", narrow), {}, narrow_line),
+        (array.array("h", narrow), {"bits": 16}, narrow_line),
+        (array.array("d", [it / FULL for it in row]), {}, line),
+        (array.array("f", [it / FULL for it in row]), {}, line),
+        (array.array("f", [it / 2**15 for it in narrow]), {}, narrow_line),
+    ]
+    for samples, named, want in given:
+        assert aes3.encode(samples, channels=2, form="raw", **named) == want, (samples.typecode, named)
+    # What lies between two samples goes to the nearer one, to the even one from the middle; 1 is the greatest.
+    fine = array.array("d", [0.4, 0.5, 0.6, 1.5, -0.4, -0.5, -0.6, -1.5, FULL - 0.5, FULL, 2.5, -FULL])
+    wants = [0, 0, 1, 2, 0, 0, -1, -2, FULL - 1, FULL - 1, 2, -FULL]
+    found = aes3.decode(aes3.encode(array.array("d", [it / FULL for it in fine]), channels=2))
+    assert row_of(samples_of(found))[: len(wants)] == wants
+
+
+def check_memory():
+    """Memory in other places and of other kinds is taken as its numbers, or not at all."""
+    frames = frames_of(193)
+    row, line = [it << 8 for it in row_of(frames)], line_of(frames)
+    wide = array.array("i", row)
+    pairs = memoryview(wide).cast("B").cast("i", (193, 2))
+    twice = array.array("i", [it for it in row for _ in range(2)])
+    ctypes_row = (ctypes.c_int32 * len(row))(*row)
+    ctypes_pairs = ((ctypes.c_int32 * 2) * 193)(*frames_of(0))
+    for i, frame in enumerate(frames):
+        ctypes_pairs[i][:] = [it << 8 for it in frame]
+    assert aes3.encode(pairs, form="raw") == line
+    for samples in wide, memoryview(wide), memoryview(wide).toreadonly(), memoryview(twice)[::2], memoryview(wide[::-1])[::-1], ctypes_row:
+        assert aes3.encode(samples, channels=2, form="raw") == line, samples
+    assert aes3.encode(ctypes_pairs, form="raw") == line
+    # In the other order each number is another, so it is taken in its order, or refused.
+    other = (ctypes.c_int32.__ctype_be__ * len(row))(*row)
+    got = refusal(aes3.encode, other, channels=2)
+    assert got is TypeError or aes3.encode(other, channels=2, form="raw") == line
+    assert list(wide) == row
+
+
+def check_wrong_samples():
+    row = array.array("i", 8 * [256])
+    for wrong in (
+        [1, 2], (1, 2), [[1, 2]], [0.5, 0.5], range(4), iter([1, 2]), {1: 2}, "text", "", 7, 0.5, None, True, object(), b"octets12", bytearray(8), memoryview(bytes(8)),
+        array.array("b", 8 * [1]), array.array("B", 8 * [1]), array.array("H", 8 * [1]), array.array("I", 8 * [1]), array.array("q", 8 * [1]), array.array("Q", 8 * [1]),
+        array.array("u", "text"), (ctypes.c_uint32 * 8)(), (ctypes.c_int64 * 8)(), (ctypes.c_bool * 8)(), (ctypes.c_char * 8)(),
+    ):  # fmt: skip
+        for channels in None, 1, 2:
+            is_refused(TypeError, aes3.encode, wrong, channels=channels)
+    for wrong in 1.0000001, -1.0000001, 2.0, 32767.0, float("nan"), float("inf"), -float("inf"), 1e300:
+        for place in 0, 3:
+            floats = array.array("d", 4 * [0.0])
+            floats[place] = wrong
+            is_refused(ValueError, aes3.encode, floats, channels=2)
+            if abs(wrong) < 1e30:
+                is_refused(ValueError, aes3.encode, array.array("f", [wrong + (1e-6 if wrong > 0 else -1e-6)]), channels=1)
+    for wrong in FULL, -FULL - 1, 2**31 - 1, -(2**31):
+        is_refused(ValueError, aes3.encode, array.array("i", [0, wrong]), channels=2, bits=24)
+    for named in (
+        {}, {"channels": 0}, {"channels": 3}, {"channels": "2"}, {"channels": 2, "bits": 16}, {"channels": 2, "bits": 20}, {"channels": 2, "bits": 0},
+        {"channels": 2, "bits": "24"}, {"channels": 2, "use": "both"}, {"channels": 2, "use": None}, {"channels": 2, "form": "cells"},
+        {"channels": 2, "form": None}, {"channels": 2, "rate": 47999}, {"channels": 2, "rate": "48000"}, {"channels": 2, "rate": 0},
+        {"channels": 2, "status": b"short"}, {"channels": 2, "status": ()}, {"channels": 2, "status": (SECONDS, SECONDS[:23])},
+    ):  # fmt: skip
+        is_refused(ValueError, aes3.encode, row, **named)
+    # 24 octets of zeros are what `bytes(24)` is, and no status that a caller wrote.
+    for status in 24, 0, "professional", 24 * "0", array.array("I", 6 * [0]), 2.5, (24, 24), [SECONDS] * 3:
+        is_refused(TypeError, aes3.encode, row, channels=2, status=status)
+    is_refused(ValueError, aes3.encode, array.array("i", [1, 2, 3]), channels=2)
+    is_refused(ValueError, aes3.encode, array.array("h", [1]), channels=1, bits=24)
+    is_refused(ValueError, aes3.encode, array.array("f", [0.0]), channels=1, bits=24)
+    for shape in (4, 1), (1, 4), (2, 4), (2, 2, 2), (8, 1):
+        is_refused(ValueError, aes3.encode, memoryview(row[: shape[0] * shape[1] * (shape[2] if len(shape) == 3 else 1)]).cast("B").cast("i", shape))
+
+
+def check_statuses():
+    first, second = aes3.Status.professional(96000), aes3.Status.consumer(44100)
+    row = array.array("i", 384 * [512])
+    same = aes3.encode(row, channels=2, status=(first, second))
+    for pair in [bytes(first), bytes(second)], (first, bytes(second)), [list(bytes(first)), bytearray(bytes(second))]:
+        assert aes3.encode(row, channels=2, status=pair) == same
+    assert aes3.decode(same).status == (first, second)
+    assert aes3.encode(row, channels=2, status=first) == aes3.encode(row, 96000, channels=2, use="professional")
+    assert aes3.encode(row, channels=2, status=list(bytes(first))) == aes3.encode(row, channels=2, status=(first, first))
+    assert first == aes3.Status(bytes(first)) != second and first != bytes(first) and len({first, second, aes3.Status(bytes(first))}) == 2
+    assert (first.use, first.rate, first["b4"], first.fields["word"]) == ("professional", 96000, "16", "24") and (second.use, second["rate"]) == ("consumer", "44100")
+    assert repr(first) == f"Status({first})"
+
+
+def sound():
+    """A WAV file's octets."""
+    file = io.BytesIO()
+    with wave.open(file, "wb") as to:
+        to.setparams((2, 2, 48000, 0, "NONE", ""))
+        to.writeframes(struct.pack("<1000h", *range(1000)))
+    return file.getvalue()
+
+
+def check_wrong_lines():
+    line = line_of(frames_of(300))
+    file = sound()
+    for more in b"", b"\0", b"\0\0\0":
+        for form in "packed", "raw":
+            is_refused(ValueError, aes3.decode, file + more, form=form)
+    text = aes3.encode(array.array("i", 4 * [256]), channels=2, form="text")
+    for wrong in text, text[:8], text.replace(b"\n", b"\r\n"), text.replace(b"\n", b""), text + b"\0":
+        for form in "packed", "raw":
+            is_refused(ValueError, aes3.decode, wrong, form=form)
+    for form in "packed", "raw":
+        for wrong in text.decode(), "", 7, None, 0.5, True, object(), [0.5], ["1"], array.array("i", 8 * [1]), array.array("H", 8 * [1]), array.array("b", 8 * [1]), array.array("d", 8 * [0.0]):
+            is_refused(TypeError, aes3.decode, wrong, form=form)
+        for wrong in [256], [-1], memoryview(line[:64]).cast("B", (8, 8)):
+            is_refused(ValueError, aes3.decode, wrong, form=form)
+    for wrong in "012", b"0x", "\N{FULLWIDTH DIGIT ONE}", line:
+        is_refused(ValueError, aes3.decode, wrong, form="text")
+    for form in None, "cells", 1:
+        is_refused(ValueError, aes3.decode, line, form=form)
+    # Without the count of unused cells, and with one that can't be.
+    for wrong in b"", line, line + b"\x08", line + b"\xff", b"\1", line[:-1] + b"\1\1":
+        is_refused(ValueError, aes3.decode, wrong)
+
+
+def check_cut_lines():
+    """A line cut anywhere has the blocks that are whole in it, whatever memory it is in."""
+    frames = frames_of(3 * 192)
+    line = line_of(frames)
+    chance = random.Random(5)
+    cuts = [0, 1, 2, 3, 3071, 3072, 3073, 6143, 6144, 6145, 9215, 9216, *(chance.randrange(9216) for _ in range(40))]
+    for cut in cuts:
+        found = aes3.decode(line[:cut], form="raw")
+        # A block is whole once the cell after it is there, or the line ends.
+        blocks = cut // 3072
+        assert samples_of(found) == frames[: 192 * blocks], cut
+        assert [it.kind for it in found.reports if it.kind != aes3.UNFINISHED] == blocks * [aes3.WHOLE]
+        found = aes3.decode(line[cut:], form="raw")
+        assert samples_of(found) == frames[192 * -(-cut // 3072) :], cut
+    want = aes3.decode(line[1000:-7], form="raw")
+    data = line[1000:-7]
+    twice = bytes(it for it in data for _ in range(2))
+    for octets in bytearray(data), memoryview(data), memoryview(twice)[::2], array.array("B", data), list(data), iter(data), (ctypes.c_uint8 * len(data))(*data):
+        found = aes3.decode(octets, form="raw")
+        assert (samples_of(found), found.reports, found.status) == (samples_of(want), want.reports, want.status)
+    for unused in range(8):
+        octets = bytes([*data[:-1], data[-1] >> unused << unused & 255, unused])
+        bits = "".join(f"{it:08b}" for it in octets[:-1])[: 8 * len(data) - unused]
+        packed, by_text = aes3.decode(octets), aes3.decode(bits, form="text")
+        assert (samples_of(packed), packed.reports) == (samples_of(by_text), by_text.reports)
+
+
+def check_damage():
+    """Of a line with a wrong cell each block that is whole has the samples that were sent."""
+    frames = frames_of(4 * 192)
+    line = line_of(frames)
+    chance = random.Random(6)
+    for _ in range(60):
+        at = chance.randrange(len(line))
+        damaged = bytearray(line)
+        damaged[at] ^= 1 << chance.randrange(8)
+        found = aes3.decode(damaged, form="raw")
+        samples, whole = samples_of(found), [it for it in found.reports if it.kind == aes3.WHOLE]
+        assert len(samples) == 192 * len(whole) < 192 * 4
+        for i, report in enumerate(whole):
+            first = report.at // 24576 * 192
+            assert report.at % 24576 == 0 and samples[192 * i : 192 * i + 192] == frames[first : first + 192]
+
+
+def check_reports():
+    line = line_of(frames_of(3 * 192))
+    damaged = bytearray(line[: 2 * 3072 + 100])
+    damaged[4000] ^= 4
+    whole, fault, unfinished = aes3.decode(damaged, form="raw").reports
+    assert [it.kind for it in (whole, fault, unfinished)] == [aes3.WHOLE, aes3.FAULT, aes3.UNFINISHED]
+    bits = "".join(f"{it:08b}" for it in line[:3072])
+    # The last cell of the first subframe carries its parity.
+    other = "".join("10"[int(it)] for it in bits[64:])
+    marked = aes3.decode(bits[:63] + "10"[int(bits[63])] + other + "10"[int(other[-1])], form="text").reports[0]
+    assert marked.kind == aes3.MARKED and marked.wrong == 1 and marked.words is None, marked
+    assert (whole.at, whole.before, len(whole.words), whole.cell, whole.wrong, whole.why) == (0, 0, 384, 0, 0, 0)
+    assert (unfinished.at, unfinished.cell, unfinished.words) == (49152, 800, None) and fault.words is None
+    assert str(whole) == "whole at 0 before 0" and str(fault).startswith("fault at 24576 cell 3") and str(fault).endswith(aes3.WHYS[fault.why])
+    reports = [whole, fault, unfinished, marked]
+    again = [*aes3.decode(damaged, form="raw").reports, marked]
+    for i, report in enumerate(reports):
+        assert repr(report) == f"Report({report})" and report != str(report) and report is not None
+        for j, it in enumerate(again):
+            assert (report == it) == (i == j) and (report != it) == (i != j)
+        for same in copy.copy(report), copy.deepcopy(report), pickle.loads(pickle.dumps(report)):
+            assert same == report and hash(same) == hash(report)
+    assert len(set(reports + again)) == 4
+    # Blocks at the same place with other words are other blocks.
+    others = aes3.decode(line_of(frames_of(192, 9)), form="raw").reports
+    assert str(others[0]) == str(whole) and others[0] != whole
+    # By words as by octets, and piece by piece.
+    lock, by_words = aes3.Lock(), aes3.Lock()
+    by_octets = [it for at in range(0, len(damaged), 777) for it in lock.take_octets(damaged[at : at + 777])] + lock.finish()
+    words, rest = aes3.words_of_packed(bytes(damaged) + b"\0")
+    assert by_octets == reports[:3] == by_words.take(words) + by_words.push(*rest) + by_words.finish()
+    # A block is the caller's: other words in it change nothing else.
+    whole.words[0] = 16
+    assert aes3.decode(line, form="raw").reports[0].words[0] != 16
+
+
+def check_gaps():
+    def gaps():
+        account = aes3.Account()
+        return account.passed(2 * 24576) + account.end(2 * 24576 + 5)
+
+    first, second, last = gaps()
+    assert (first.at, first.cells, first.counts, last.cells, last.counts) == (0, 24576, True, 5, False)
+    assert gaps() == [first, second, last] and first != second and len({*gaps(), first}) == 3
+    assert repr(first) == "Gap(gap at 0 cells 24576)" and first != "gap at 0 cells 24576"
+
+
+MATCH = """
+def named(it):
+    match it:
+        case aes3.Report(aes3.WHOLE, at):
+            return "whole", at
+        case aes3.Report(kind=aes3.FAULT, at=at, cell=cell, why=why):
+            return "fault", at, cell, aes3.WHYS[why]
+        case aes3.Report(aes3.UNFINISHED, at, cells):
+            return "unfinished", at, cells
+        case aes3.Gap(at, cells, True):
+            return "gap", at, cells
+        case aes3.Status(use="professional"):
+            return "professional"
+        case _:
+            return None
+"""
+
+
+def check_match():
+    if sys.version_info < (3, 10):
+        return
+    names = {"aes3": aes3}
+    exec(MATCH, names)
+    damaged = bytearray(line_of(frames_of(3 * 192))[: 2 * 3072 + 100])
+    damaged[4000] ^= 4
+    found = [names["named"](it) for it in aes3.decode(damaged, form="raw").reports]
+    assert found[0] == ("whole", 0) and found[1][:2] == ("fault", 24576) and found[2] == ("unfinished", 49152, 800)
+    assert " ".join(map(str, ("fault at", found[1][1], "cell", *found[1][2:]))) == str(aes3.decode(damaged, form="raw").reports[1])
+    assert [names["named"](it) for it in aes3.Account().passed(3 * 24576)] == [("gap", 0, 24576), ("gap", 24576, 24576)]
+    assert names["named"](aes3.Status.professional()) == "professional" and names["named"](aes3.Status.consumer()) is None
+
+
+def check_names():
+    """Each public name is in __all__, and says what it is; so does what a class has."""
+    assert aes3.__version__ == aes3.VERSION == aes3.library_version()
+    assert sorted(aes3.__all__) == sorted(it for it in vars(aes3) if not it.startswith("_") and not inspect.ismodule(getattr(aes3, it)))
+    starred = {}
+    exec("from aes3 import *", starred)
+    assert sorted(it for it in starred if it != "__builtins__") == sorted(aes3.__all__)
+    assert os.path.exists(os.path.join(os.path.dirname(aes3.__file__), "py.typed"))
+    for name in aes3.__all__:
+        it = getattr(aes3, name)
+        if not inspect.isclass(it) and not inspect.isfunction(it):
+            continue
+        assert len(inspect.getdoc(it).split()) > 3, name
+        for part, value in vars(it).items() if inspect.isclass(it) else ():
+            function = value.fget if isinstance(value, property) else getattr(value, "__func__", value)
+            if not part.startswith("_") and inspect.isfunction(function):
+                assert function.__doc__, (name, part)
+        functions = [it] if inspect.isfunction(it) else [value for value in vars(it).values() if inspect.isfunction(value) and value.__module__.startswith("aes3")]
+        for function in functions:
+            wanted = {*inspect.signature(function).parameters, "return"} - {"self"}
+            assert wanted <= {*function.__annotations__}, (name, function)
+
+
+def check_arrays_of_numpy():
+    frames = frames_of(193)
+    line = line_of(frames)
+    wide = numpy.array(row_of(frames), numpy.int32).reshape(-1, 2) << 8
+    kept = wide.copy()
+    read_only = wide.copy()
+    read_only.setflags(write=False)
+    unaligned = numpy.ndarray(wide.shape, numpy.int32, b"\0" + wide.tobytes(), 1)
+    spread = numpy.zeros((386, 4), numpy.int32)
+    spread[::2, 1:3] = wide
+    alike = [wide, wide.astype(">i4"), numpy.asfortranarray(wide), wide[::-1].copy()[::-1], wide[:, ::-1].copy()[:, ::-1], read_only, unaligned, spread[::2, 1:3]]
+    for samples in alike + [memoryview(it) for it in alike if it.dtype.isnative]:
+        assert aes3.encode(samples, form="raw") == line, samples
+    for samples in (it.reshape(-1) for it in alike):
+        assert aes3.encode(samples, channels=2, form="raw") == line
+    # Whole blocks, of which no copy is made.
+    whole = numpy.concatenate([wide, wide])[:384]
+    want = line_of([*frames, *frames][:384])
+    for samples in whole, whole.astype(">i4"), numpy.asfortranarray(whole), whole.reshape(-1).view(">i4").byteswap().reshape(-1, 2), whole[::-1].copy()[::-1]:
+        assert aes3.encode(samples, form="raw") == want
+    for kind in "f4", "f8", ">f4", ">f8":
+        assert aes3.encode((wide / 2.0**31).astype(kind), form="raw") == line
+    narrow = (wide >> 16).astype("i2")
+    for kind in "i2", ">i2":
+        assert aes3.encode(narrow.astype(kind), form="raw") == line_of([(a >> 8 << 8, b >> 8 << 8) for a, b in frames])
+    for kind in "i4", ">i4":
+        assert aes3.encode((wide >> 8).astype(kind), bits=24, form="raw") == line
+    for kind in "b1 i1 u1 u2 u4 i8 u8 f2 f16 c8 c16 O S4 U4 M8[s] m8[s] V4".split():
+        for samples in numpy.zeros((4, 2), kind), numpy.zeros(8, kind):
+            for channels in None, 1, 2:
+                is_refused(TypeError, aes3.encode, samples, channels=channels)
+    is_refused(TypeError, aes3.encode, numpy.zeros(4, [("left", "i4"), ("right", "i4")]))
+    is_refused(TypeError, aes3.encode, numpy.ma.masked_equal(wide, 0))
+    for shape in (), (2, 4), (4, 1), (4, 3), (4, 2, 1), (1, 4, 2), (0, 3), (2, 0):
+        is_refused(ValueError, aes3.encode, numpy.zeros(shape, numpy.int32))
+    assert aes3.encode(numpy.zeros((0, 2), numpy.int16)) == aes3.encode(numpy.zeros(0), channels=1) == aes3.encode(numpy.zeros(0), channels=2) == b"\0"
+    for wrong in numpy.nan, numpy.inf, -numpy.inf, 1.001, -32768.0:
+        for kind in "f4", ">f8":
+            is_refused(ValueError, aes3.encode, numpy.array([[0, wrong]], kind))
+    assert aes3.encode(numpy.int32(5) * numpy.ones((1, 2), numpy.int32) * 256, form="raw") == line_of([(5, 5)])
+    assert (wide == kept).all()
+    # Octets of a line.
+    octets = numpy.frombuffer(line, numpy.uint8)
+    twice = numpy.repeat(octets, 2)
+    for given in octets, twice[::2], octets[::-1].copy()[::-1]:
+        found = aes3.decode(given, form="raw")
+        assert found.samples.dtype == numpy.int32 and found.samples.shape == (384, 2) and (found.samples[:193] == wide).all() and not found.samples[193:].any()
+    assert found.samples.flags.writeable and found.samples.flags.c_contiguous
+    empty = aes3.decode(b"\0").samples
+    assert empty.dtype == numpy.int32 and empty.shape == (0, 2)
+    for kind in "b1 i1 i2 u2 i4 u4 i8 u8 f4 f8 c8 O U1".split():
+        is_refused(TypeError, aes3.decode, numpy.zeros(64, kind), form="raw")
+    for shape in (), (8, 8), (64, 1):
+        is_refused(ValueError, aes3.decode, numpy.zeros(shape, numpy.uint8), form="raw")
+    for wrong in numpy.float64(1), numpy.int32(1), numpy.datetime64("2026-01-01"):
+        assert refusal(aes3.decode, wrong) in (TypeError, ValueError) and refusal(aes3.encode, wrong, channels=1) in (TypeError, ValueError)
+
+
+def main():
+    passed = failed = 0
+    for name, check in [*globals().items()]:
+        if not name.startswith("check_") or (name.endswith("_of_numpy") and numpy is None):
+            continue
+        try:
+            check()
+            passed += 1
+        except Exception:
+            failed += 1
+            print(f"{name}:", file=sys.stderr)
+            traceback.print_exc(limit=-2)
+    print(f"{passed} passed, {failed} failed")
+    return 1 if failed else 0
+
+
+if __name__ == "__main__":
+    sys.exit(main())
