@@ -2,7 +2,7 @@
 # tests/sigrok.sh [PROGRAM [CELLS]]: the decoder of sigrok/aes3 in sigrok-cli, on captures made by an encoder of another hand (captures/sigrok.py):
 # clean, with jitter, in another bit of sixteen, of a line that stops and comes back, with noise, damaged, without a line, and empty. What it
 # shows is what PROGRAM, aes3, prints of the cells that CELLS, aes3-cells, writes, and each annotation is at the sample at which the encoder
-# made that part of the line begin. Both ways to read samples are tried. PROGRAM and CELLS are those of bin/build where none are given.
+# made that part of the line begin. Both ways to read samples are tried. PulseView shows the capture of sigrok/picture. PROGRAM and CELLS are those of bin/build where none are given.
 #
 # The last line is `N passed, M failed`, and the status 0 where none failed.
 
@@ -51,5 +51,10 @@ shown() { sigrok-cli -I binary:numchannels=8:samplerate=24000000 -i "$1" -P aes3
 judge "an empty capture" eval '[ -z "$(shown empty)" ]'
 head -c 10000 /dev/zero >still
 judge "no library is a warning" eval 'AES3_LIB=/none/libaes3.so.1 shown still | grep -q "Nothing is decoded: no libaes3.so.1"'
+if command -v pulseview >/dev/null && command -v xvfb-run >/dev/null && command -v import >/dev/null; then
+    judge "PulseView shows annotations" "$root/sigrok/picture" "$work/pulseview.png"
+else
+    echo "left out: sigrok/picture (pulseview, xvfb or imagemagick is not installed)"
+fi
 judge "the decoder in sigrok's list" eval 'sigrok-cli -L | grep -q "^ *aes3  *AES3 / IEC 60958"'
 tell

@@ -28,7 +28,9 @@ whole block after it.
 The start and end sample of a packet are those of the block, gap or fault.
 '''
 
+import collections
 import importlib
+import itertools
 import os
 import struct
 
@@ -58,15 +60,18 @@ def load():
             del os.environ['AES3_LIB']
 
 
-def flags_of(word):
-    '''V, U, C and P of a subframe.'''
-    return 'V%d U%d C%d P%d' % (word >> 28 & 1, word >> 29 & 1, word >> 30 & 1, word >> 31)
+def flags_of(bits):
+    '''The annotation of V, U, C and P, the lowest bits of a number.'''
+    values = tuple(bits >> i & 1 for i in range(4))
+    return [FLAGS, ['V%d U%d C%d P%d' % values, '%d%d%d%d' % values]]
 
 
-def sample_of(word):
-    '''The audio sample of a subframe, 24 bits with a sign.'''
-    sample = word >> 4 & 0xFFFFFF
-    return sample - (sample >> 23 << 24)
+# Annotations that come again and again are made once: libsigrokdecode only reads them.
+FLAGS_OF = [flags_of(bits) for bits in range(16)]
+PREAMBLES = [[PREAMBLE, ['Preamble ' + it, it]] for it in 'Z' + 'YX' * (BLOCK_WORDS // 2 - 1) + 'Y']
+BITS = [[SLOT, [it]] for it in '01']
+LEVELS = [[CELL, [it]] for it in '01']
+CHANNELS = ('1: ', '2: ') * (BLOCK_WORDS // 2)
 
 
 def wave_header(rate):
@@ -174,7 +179,7 @@ class Decoder(srd.Decoder):
         self.first = 0  # the number of the first of them
         self.count = 0  # of all cells
         self.pushed = 0  # how many of them the lock has
-        self.tables = []  # cells that begin at samples, and these samples
+        self.table = recovery.Places()
         self.packed = 0  # how many cells the binary output has
         self.lost, self.wave_begun, self.ended_at = False, False, 0
         if self.options['rate'] and not self.samplerate:
@@ -206,29 +211,24 @@ class Decoder(srd.Decoder):
             return
         changes = numpy.concatenate(([0], piece.changes, [len(piece.cells)])) + self.count
         edges = numpy.concatenate(([piece.begin], piece.edges, [piece.end]))
-        self.tables.append((changes, edges))
+        self.table.add(changes, edges)
         self.cells = numpy.concatenate((self.cells, piece.cells))
         self.count += len(piece.cells)
         self.put_cells(piece)
-        whole = (self.count - self.pushed) // 64 * 64
-        front = self.cells[self.pushed - self.first :][:whole]
-        words = numpy.packbits(front, bitorder='little').view('<u8').astype(numpy.uint64)
-        self.make_places()
+        whole = (self.count - self.pushed) // 8 * 8
+        octets = numpy.packbits(self.cells[self.pushed - self.first :][:whole])
         self.pushed += whole
-        self.take_reports(self.lock.take(words))
+        self.take_reports(self.lock.take_octets(octets))
         for gap in self.account.passed(self.lock.seen()):
             self.take_gap(gap)
         self.forget()
-
-    def make_places(self):
-        self.table = [self.numpy.concatenate(it) for it in zip(*self.tables)]
 
     def forget(self):
         '''Drops cells of which no report can come any more.'''
         drop = self.pushed - KEPT - self.first
         if drop > 0:
             self.cells, self.first = self.cells[drop:].copy(), self.first + drop
-        self.tables = [it for it in self.tables if it[0][-1] >= self.first]
+            self.table.forget(self.first)
 
     def finish(self):
         for each in self.recovery.finish():
@@ -240,7 +240,6 @@ class Decoder(srd.Decoder):
             return
         left = self.cells[self.pushed - self.first :]
         word = sum(int(it) << i for i, it in enumerate(left))
-        self.make_places()
         self.take_reports(self.lock.push(word, len(left)))
         self.take_reports(self.lock.finish())
         for gap in self.account.end(self.lock.seen()):
@@ -249,10 +248,17 @@ class Decoder(srd.Decoder):
 
     def places(self, cells):
         '''The samples at which these cells begin.'''
-        begins, samples = self.table
-        front, end = self.numpy.searchsorted(begins, (cells[0], cells[-1]))
-        near = slice(max(int(front) - 1, 0), int(end) + 2)
-        return self.numpy.rint(self.numpy.interp(cells, begins[near], samples[near])).astype(int).tolist()
+        return self.table.of(cells)
+
+    def places_of_subframes(self, at, count):
+        '''
+        The samples at which so many subframes from the cell `at` on begin, and at which the last one ends; and those at which
+        their preambles and their audio samples end, if these are shown.
+        '''
+        parts = (0, PREAMBLE_CELLS, 56) if self.detail >= DETAILS.index('subframes') else (0,)
+        cells = self.numpy.add.outer(self.numpy.arange(count + 1) * 64 + at, parts).reshape(-1)[: len(parts) * count + 1]
+        places = self.places(cells)
+        return places[:: len(parts)], [places[i :: len(parts)] for i in range(1, len(parts))]
 
     def line_rate(self):
         '''The sampling frequency of the line in Hz, as measured; a usual one where it is near that. 0 without a samplerate.'''
@@ -270,7 +276,7 @@ class Decoder(srd.Decoder):
                 self.take_gap(gap)
             kind = report.kind
             if kind == self.codec.WHOLE:
-                self.take_block(report, [int(it) for it in report.words], WHOLE)
+                self.take_block(report, report.words, WHOLE)
             elif kind == self.codec.MARKED:
                 self.take_block(report, self.words(report.at, BLOCK_WORDS), MARKED)
             elif kind == self.codec.FAULT:
@@ -285,30 +291,28 @@ class Decoder(srd.Decoder):
         cells = self.cells[at - self.first :][: 64 * count].reshape(count, 32, 2)
         slots = (cells[:, :, 0] ^ cells[:, :, 1]).astype(self.numpy.uint64)
         slots[:, :4] = 0
-        return (slots << self.numpy.arange(32, dtype=self.numpy.uint64)).sum(1).tolist()
+        return (slots << self.numpy.arange(32, dtype=self.numpy.uint64)).sum(1).astype(self.numpy.uint32)
 
     def take_block(self, report, words, kind):
-        places = self.places(self.numpy.arange(BLOCK_WORDS + 1) * 64 + report.at)
+        places, ends = self.places_of_subframes(report.at, BLOCK_WORDS)
         begin, end = places[0], places[-1]
         if self.lost:
             self.lost = False
             self.annotate(begin, end, BACK, ['back at %d' % report.at, 'back', 'b'])
             self.put(begin, end, self.out_python, ['BACK', {'cell': report.at}])
         self.annotate(begin, end, kind, [str(report), str(report).split()[0], str(report)[0]])
-        for channel in (1, 2):
-            status = self.status(words, channel)
-            self.annotate(begin, end, STATUS1 if channel == 1 else STATUS2, [status, status.split(' ')[0], status[0]])
-        data = {'cell': report.at, 'words': words, 'marked': report.wrong if kind == MARKED else 0, 'places': places, 'samplerate': self.line_rate()}
+        for kind_of_status, status in zip((STATUS1, STATUS2), self.statuses(words)):
+            self.annotate(begin, end, kind_of_status, [status, status.split(' ')[0], status[0]])
+        data = {'cell': report.at, 'words': words.tolist(), 'marked': report.wrong if kind == MARKED else 0, 'places': places, 'samplerate': self.line_rate()}
         self.put(begin, end, self.out_python, ['BLOCK', data])
         if kind == WHOLE:
             self.put_wave(begin, end, words)
-        self.put_subframes(report.at, places, words, SAMPLE if kind == WHOLE else UNSURE)
+        self.put_subframes(report.at, places, ends, words, SAMPLE if kind == WHOLE else UNSURE)
 
-    def status(self, words, channel):
-        status = bytes(
-            sum((words[2 * (8 * byte + bit) + channel - 1] >> 30 & 1) << bit for bit in range(8)) for byte in range(24)
-        )
-        return self.codec.status_text(status)
+    def statuses(self, words):
+        '''The channel status of channel 1 and of channel 2, as text.'''
+        bits = (words >> 30 & 1).astype(self.numpy.uint8).reshape(-1, 2)
+        return [self.codec.status_text(self.numpy.packbits(it, bitorder='little')) for it in bits.T]
 
     def take_fault(self, report):
         begin, at, after = self.places([report.at, report.cell, report.cell + 1])
@@ -322,8 +326,7 @@ class Decoder(srd.Decoder):
         '''The subframes in the first cells of what is no whole block.'''
         count = min(cells // 64, BLOCK_WORDS)
         if count and self.detail:
-            places = self.places(self.numpy.arange(count + 1) * 64 + at)
-            self.put_subframes(at, places, self.words(at, count), UNSURE)
+            self.put_subframes(at, *self.places_of_subframes(at, count), self.words(at, count), UNSURE)
 
     def take_gap(self, gap):
         begin, end = self.places([gap.at, gap.at + gap.cells])
@@ -342,28 +345,29 @@ class Decoder(srd.Decoder):
     def warn(self, begin, end, *texts):
         self.annotate(begin, end, WARNING, [*texts, 'W'])
 
-    def put_subframes(self, at, places, words, kind):
+    def put_all(self, begins, ends, annotations):
+        '''Annotations one by one, without the time that a loop here takes.'''
+        collections.deque(map(self.put, begins, ends, itertools.repeat(self.out_ann), annotations), maxlen=0)
+
+    def put_subframes(self, at, places, ends, words, kind):
         '''The samples of subframes, and what is finer.'''
         if self.detail < DETAILS.index('samples'):
             return
-        put, out = self.put, self.out_ann
-        for i, word in enumerate(words):
-            put(places[i], places[i + 1], out, [kind, ['%d: %d' % (i % 2 + 1, sample_of(word)), '%d' % sample_of(word)]])
+        # Bits 4 to 27, with the sign of bit 27.
+        samples = map(str, ((words << 4).view(self.numpy.int32) >> 8).tolist())
+        self.put_all(places, places[1:], ([kind, [channel + it, it]] for channel, it in zip(CHANNELS, samples)))
         if self.detail < DETAILS.index('subframes'):
             return
-        cells = self.numpy.arange(len(words)) * 64 + at
-        preambles, slots = self.places(cells + PREAMBLE_CELLS), self.places(cells + 56)
-        for i, word in enumerate(words):
-            letter = 'Z' if i == 0 else 'YX'[(i + 1) % 2]
-            put(places[i], preambles[i], out, [PREAMBLE, ['Preamble ' + letter, letter]])
-            flags = flags_of(word)
-            put(slots[i], places[i + 1], out, [FLAGS, [flags, flags[1::3]]])
+        preambles, flags = ends
+        self.put_all(places, preambles, PREAMBLES)
+        self.put_all(flags, places[1:], map(FLAGS_OF.__getitem__, (words >> 28).tolist()))
         if self.detail < DETAILS.index('slots'):
             return
-        begins = self.places(self.numpy.arange(32 * len(words) + 1) * 2 + at)
-        for i, word in enumerate(words):
-            for slot in range(4, 32):
-                put(begins[32 * i + slot], begins[32 * i + slot + 1], out, [SLOT, [str(word >> slot & 1)]])
+        slots = self.places(self.numpy.arange(32 * len(words) + 1) * 2 + at)
+        bits = (words[:, None] >> self.numpy.arange(32, dtype=self.numpy.uint32) & 1).reshape(-1).tolist()
+        for i in range(len(words)):
+            part = slice(32 * i + 4, 32 * i + 32)
+            self.put_all(slots[part], slots[32 * i + 5 : 32 * i + 33], map(BITS.__getitem__, bits[part]))
 
     def put_cells(self, piece):
         '''All new cells: packed, and each as an annotation where that is asked for.'''
@@ -374,11 +378,9 @@ class Decoder(srd.Decoder):
         self.put(piece.begin, piece.end, self.out_binary, [0, octets])
         self.ended_at = piece.end
         if self.detail == DETAILS.index('cells'):
-            self.make_places()
             first = self.count - len(piece.cells)
             begins = self.places(numpy.arange(len(piece.cells) + 1) + first)
-            for i, cell in enumerate(piece.cells.tolist()):
-                self.put(begins[i], begins[i + 1], self.out_ann, [CELL, [str(cell)]])
+            self.put_all(begins, begins[1:], map(LEVELS.__getitem__, piece.cells.tolist()))
 
     def finish_packed(self):
         '''The last octets of packed cells: the cells that are left, and how many after them are unused.'''
@@ -391,5 +393,5 @@ class Decoder(srd.Decoder):
         if not self.wave_begun:
             self.wave_begun = True
             self.put(begin, begin, self.out_binary, [1, wave_header(self.line_rate() or 48000)])
-        samples = (numpy.array(words, numpy.uint32) >> 4 & 0xFFFFFF).astype('<u4')
+        samples = (words >> 4 & 0xFFFFFF).astype('<u4')
         self.put(begin, end, self.out_binary, [1, samples.view(numpy.uint8).reshape(-1, 4)[:, :3].tobytes()])

@@ -24,6 +24,7 @@ STILL = 1 << 22  # samples without an edge that are kept at most
 ROW = 64  # runs among which the length of a cell is taken as constant
 FAR = 0.4  # of a cell: from here on an edge is far from its place
 NEAR = 48  # runs that match in a row show where cells and samples match again
+PART = 1 << 15  # edges that are calculated with at once, so that all that is made of them is near the processor
 
 
 class Piece:
@@ -49,7 +50,11 @@ class Far:
 
 def changes_of(levels):
     '''The places where the level is another than before, in an array.'''
-    return numpy.flatnonzero(levels[1:] != levels[:-1]) + 1
+    parts = [numpy.empty(0, numpy.int64)]
+    for begin in range(1, len(levels), 4 * PART):
+        end = begin + 4 * PART
+        parts.append(numpy.flatnonzero(levels[begin:end] != levels[begin - 1 : end - 1][: len(levels) - begin]) + begin)
+    return numpy.concatenate(parts)
 
 
 # ---- matching
@@ -75,6 +80,33 @@ def lengths(runs, counts):
 def are_near(runs, counts, length):
     '''Whether each run has the cells that pass in its time, to within one, and what the samples and a drift add.'''
     return abs(runs - length * counts) <= length * (1 + counts / 256) + 2
+
+
+def from_first(numbers):
+    '''Whole numbers in order, counted from the first, as floats: of 32 bits where these have room for them.'''
+    kind = numpy.float32 if numbers[-1] - numbers[0] < 1 << 24 else numpy.float64
+    return (numbers - numbers[0]).astype(kind)
+
+
+def all_fit(changes, edges):
+    '''
+    Whether all runs of samples are near the numbers of their cells, by one length of a cell in each row and with less than `fit`
+    allows. This is the usual case, and is told in less time than of each run by itself.
+    '''
+    last = (len(edges) - 1) // ROW * ROW
+    if last <= 0:
+        return False
+    for begin in range(0, last, PART):
+        end = min(begin + PART, last) + 1
+        cells, places = from_first(changes[begin:end]), from_first(edges[begin:end])
+        counts, runs = numpy.diff(cells).reshape(-1, ROW), numpy.diff(places).reshape(-1, ROW)
+        if counts.max() > 4:
+            return False
+        length = (numpy.diff(places[::ROW]) / numpy.diff(cells[::ROW]))[:, None]
+        runs -= length * counts
+        if not (numpy.abs(runs, out=runs) <= length + 2).all():
+            return False
+    return bool(fit(numpy.diff(edges[last:]), numpy.diff(changes[last:])).all())
 
 
 def fit(runs, counts):
@@ -154,6 +186,68 @@ def resume(changes, edges, i, j, length):
     return None
 
 
+def far(changes, edges):
+    '''The edge that is farthest from its place, where that is far: edges of a direction have a place on a grid in common.'''
+    found = [it for begin in range(0, len(edges), PART) for it in far_in(changes[begin : begin + PART], edges[begin : begin + PART])]
+    if not found:
+        return []
+    farthest = max(found, key=lambda it: it.distance)
+    return [Far(farthest.at, farthest.distance, sum(1 + it.more for it in found) - 1)]
+
+
+def far_in(changes, edges):
+    '''The same of a part, in rows of 256 edges.'''
+    count = len(edges) // 256 * 256
+    if not count:
+        return []
+    cells, off = (it - it[:, :1] for it in (from_first(each[:count]).reshape(-1, 256) for each in (changes, edges)))
+    width = cells[:, -1].copy()
+    # The length of a cell from the means of both halves, which jitter moves less than the ends.
+    passed, counted = (it[:, 128:].sum(1) - it[:, :128].sum(1) for it in (off, cells))
+    length = (passed / counted)[:, None]
+    cells *= length
+    off -= cells
+    for side in (0, 1):
+        off[:, side::2] -= off[:, side::2].mean(1)[:, None]
+    numpy.abs(off, out=off)
+    # Rows with a long run have no grid.
+    off[width > 1024] = 0
+    if (off.max(1) < FAR * length[:, 0]).all():
+        return []
+    off /= length
+    at = int(off.argmax())
+    return [Far(int(edges[at]), float(off.flat[at]), int((off >= FAR).sum()) - 1)]
+
+
+# ---- places
+
+
+class Places:
+    '''Cells that begin at samples, in order, and these samples.'''
+
+    def __init__(self):
+        self.cells = self.samples = numpy.empty(0, numpy.int64)
+
+    def add(self, cells, samples):
+        self.cells, self.samples = numpy.concatenate((self.cells, cells)), numpy.concatenate((self.samples, samples))
+
+    def forget(self, cell):
+        '''Forgets the places of the cells before this one, but for the last.'''
+        first = max(int(numpy.searchsorted(self.cells, cell)) - 1, 0)
+        self.cells, self.samples = self.cells[first:], self.samples[first:]
+
+    def of(self, cells):
+        '''The samples at which these cells begin.'''
+        front, end = numpy.searchsorted(self.cells, (cells[0], cells[-1]))
+        near = slice(max(int(front) - 1, 0), int(end) + 3)
+        begins, samples = self.cells[near], self.samples[near]
+        # Of what is there twice, as the cell at which a piece ends, the last.
+        at = numpy.searchsorted(begins, cells, 'right') - 1
+        if at[0] >= 0 and (begins[at] == cells).all():
+            return samples[at].tolist()
+        return numpy.rint(numpy.interp(cells, begins, samples)).astype(int).tolist()
+
+
 # ---- pieces
 
 
@@ -201,7 +295,7 @@ class Recovery:
     def keep(self, base):
         '''Drops the samples before `base`.'''
         levels, edges = numpy.concatenate(self.parts), numpy.concatenate(self.edge_parts)
-        self.parts, self.edge_parts = [levels[base - self.base :].copy()], [edges[edges > base]]
+        self.parts, self.edge_parts = [levels[base - self.base :].copy()], [edges[numpy.searchsorted(edges, base, 'right') :].copy()]
         self.base = base
 
     def recover(self, final):
@@ -235,12 +329,14 @@ class Recovery:
             changes = numpy.concatenate(([0], changes))
         if len(cells) and len(edges) and cells[-1] != levels[-1]:
             changes = numpy.concatenate((changes, [len(cells)]))
-        of_changes, of_edges, strange = match(changes, edges, self.length)
-        given = [Strange(int(edges[begin]), int(edges[end]), end - begin) for begin, end in strange if end - begin > 1]
-        given = [it for it in given if self.join is None or it.end > self.join]
-        changes, edges = changes[of_changes], edges[of_edges]
-        if not len(edges):
-            return given + self.wait(numpy.concatenate(self.edge_parts), final)
+        given = []
+        if len(changes) != len(edges) or not all_fit(changes, edges):
+            of_changes, of_edges, strange = match(changes, edges, self.length)
+            given = [Strange(int(edges[begin]), int(edges[end]), end - begin) for begin, end in strange if end - begin > 1]
+            given = [it for it in given if self.join is None or it.end > self.join]
+            changes, edges = changes[of_changes], edges[of_edges]
+            if not len(edges):
+                return given + self.wait(numpy.concatenate(self.edge_parts), final)
         first, front = self.first_cell(changes, edges)
         last = len(edges) - 1
         is_still = self.end - int(edges[-1]) > DEAD * self.length
@@ -252,12 +348,14 @@ class Recovery:
                 self.rest(int(edges[-1]))
             return given
         to = len(cells) if final else int(changes[last])
-        inside = numpy.flatnonzero((changes >= first) & (changes <= to) & (edges >= (self.join or 0)))
+        # Both are in order.
+        front_of = max(numpy.searchsorted(changes, first), numpy.searchsorted(edges, self.join or 0))
+        inside = slice(int(front_of), int(numpy.searchsorted(changes, to, 'right')))
         begin = self.begin if self.join is None else self.join
         body = cells[first:to]
         if front > 0:
             body = numpy.concatenate((numpy.full(front, cells[first] if first < len(cells) else self.level, numpy.uint8), body))
-        given += self.far(changes[inside], edges[inside])
+        given += far(changes[inside], edges[inside])
         given.append(Piece(body, changes[inside] - first + max(front, 0), edges[inside], self.end if final else int(edges[last])))
         given[-1].begin = begin
         self.join = self.begin = int(edges[last])
@@ -287,25 +385,3 @@ class Recovery:
         '''There was no signal for so long that the samples since are dropped. The next piece is that of a new line.'''
         self.begin, self.join = edge, None
         self.keep(self.end - 1)
-
-    def far(self, changes, edges):
-        '''The edge that is farthest from its place, where that is far: edges of a direction have a place on a grid in common.'''
-        count = len(edges) // 256 * 256
-        if not count:
-            return []
-        places = (edges[:count] - edges[0]).astype(float).reshape(-1, 256)
-        cells = (changes[:count] - changes[0]).astype(float).reshape(-1, 256)
-        width = cells[:, -1] - cells[:, 0]
-        # The length of a cell from the means of both halves, which jitter moves less than the ends.
-        halves = [[it[:, :128].mean(1), it[:, 128:].mean(1)] for it in (places, cells)]
-        length = (halves[0][1] - halves[0][0]) / (halves[1][1] - halves[1][0])
-        off = places - length[:, None] * cells
-        for side in (0, 1):
-            off[:, side::2] -= off[:, side::2].mean(1)[:, None]
-        off = abs(off) / length[:, None]
-        # Rows with a long run have no grid.
-        off[width > 1024] = 0
-        at = int(off.argmax())
-        if off.flat[at] < FAR:
-            return []
-        return [Far(int(edges[at]), float(off.flat[at]), int((off >= FAR).sum()) - 1)]
