@@ -154,7 +154,9 @@ def _number(value: Any, what: str, least: int, greatest: int, means: str = "") -
 
 
 def _memory(values: Any) -> Optional[memoryview]:
-    """The view of an array or other memory, or None of what is a plain sequence."""
+    """The view of an array or other memory, or None of what is a plain sequence. What is masked in an array of numpy is no number."""
+    if numpy and isinstance(values, numpy.ma.MaskedArray):
+        return None
     try:
         return memoryview(values)
     except (TypeError, ValueError, BufferError):

@@ -428,7 +428,11 @@ def check_arrays_of_numpy():
             for channels in None, 1, 2:
                 is_refused(TypeError, aes3.encode, samples, channels=channels)
     is_refused(TypeError, aes3.encode, numpy.zeros(4, [("left", "i4"), ("right", "i4")]))
-    is_refused(TypeError, aes3.encode, numpy.ma.masked_equal(wide, 0))
+    for masked in numpy.ma.masked_equal(wide, 0), numpy.ma.masked_array(wide / 2.0**31):
+        is_refused(TypeError, aes3.encode, masked)
+    masked = numpy.ma.masked_equal(numpy.frombuffer(line, numpy.uint8), 0)
+    for call, kind in (aes3.decode, "u1"), (aes3.Lock().take_octets, "u1"), (aes3.Lock().take, "u8"), (aes3.encode_block, "u4"), (aes3.cells_of_samples, "u1"):
+        is_refused(TypeError, call, masked.astype(kind))
     for shape in (), (2, 4), (4, 1), (4, 3), (4, 2, 1), (1, 4, 2), (0, 3), (2, 0):
         is_refused(ValueError, aes3.encode, numpy.zeros(shape, numpy.int32))
     assert aes3.encode(numpy.zeros((0, 2), numpy.int16)) == aes3.encode(numpy.zeros(0), channels=1) == aes3.encode(numpy.zeros(0), channels=2) == b"\0"
