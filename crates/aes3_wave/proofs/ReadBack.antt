@@ -117,9 +117,6 @@ regroup : (a b c d e : List ℕ) → a ++ b ++ c ++ d ++ e ≡ a ++ (b ++ (c ++ 
 regroup a b c d e =
     append_assoc (a ++ b ++ c) d e ∙ append_assoc (a ++ b) c (d ++ e) ∙ append_assoc a b (c ++ (d ++ e))
 
-regroup-three : (a b c d : List ℕ) → a ++ b ++ c ++ d ≡ a ++ (b ++ (c ++ d))
-regroup-three a b c d = append_assoc (a ++ b) c d ∙ append_assoc a b (c ++ d)
-
 start-known : (a b : List ℕ) (depth : Depth) (rate n : ℕ) → length a ≡ 12 → length b ≡ 36
     → 12 + 36 + (8 + format_len depth) + 8 ≡ length (a ++ b ++ format_chunk depth rate ++ data_head n)
 start-known a b depth rate n p q =
@@ -130,23 +127,16 @@ start-known a b depth rate n p q =
     let h : length (data_head n) ≡ 8 = refl in
     omega arith
 
-start-unknown : (a : List ℕ) (depth : Depth) (rate n : ℕ) → length a ≡ 12
-    → 12 + (8 + format_len depth) + 8 ≡ length (a ++ format_chunk depth rate ++ data_head n)
-start-unknown a depth rate n p =
-    let d = length-append (a ++ format_chunk depth rate) (data_head n) in
-    let e = length-append a (format_chunk depth rate) in
-    let g = format-length depth rate in
-    let h : length (data_head n) ≡ 8 = refl in
-    omega arith
-
 unknown-read : (depth : Depth) (rate : ℕ) (c : List ℕ) → rate < 2 ^ 32
     → judged (written depth rate None ++ c) ≡ read_as depth rate (length (written depth rate None)) None
 unknown-read depth rate c h =
-    ap judged (regroup-three (riff 4294967295) (format_chunk depth rate) (data_head 4294967295) c)
-    ∙ first-read (riff 4294967295) (format_chunk depth rate ++ (data_head 4294967295 ++ c)) (known_of false None) refl refl
-    ∙ format-read 12 false None depth rate (data_head 4294967295 ++ c) h
-    ∙ data-read (12 + (8 + format_len depth)) false None depth rate 4294967295 c (omega arith)
-    ∙ ap (λ m. read_as depth rate m None) (start-unknown (riff 4294967295) depth rate 4294967295 refl)
+    ap judged (regroup (riff 4294967295) junk (format_chunk depth rate) (data_head 4294967295) c)
+    ∙ first-read (riff 4294967295) (junk ++ (format_chunk depth rate ++ (data_head 4294967295 ++ c))) (known_of false None)
+    refl refl
+    ∙ junk-read 12 (format_chunk depth rate ++ (data_head 4294967295 ++ c))
+    ∙ format-read (12 + 36) false None depth rate (data_head 4294967295 ++ c) h
+    ∙ data-read (12 + 36 + (8 + format_len depth)) false None depth rate 4294967295 c (omega arith)
+    ∙ ap (λ m. read_as depth rate m None) (start-known (riff 4294967295) junk depth rate 4294967295 refl refl)
 
 short-read : (depth : Depth) (rate n : ℕ) (c : List ℕ) → rate < 2 ^ 32 → file_len depth n < 4294967295
     → judged (riff (file_len depth n) ++ junk ++ format_chunk depth rate ++ data_head n ++ c)

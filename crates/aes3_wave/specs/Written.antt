@@ -96,5 +96,5 @@ written_known depth rate n =
 
 -- the header of samples at this rate, of so many octets where that is known
 abbrev pub written : Depth → ℕ → Option ℕ → List ℕ
-written depth rate None = riff 4294967295 ++ format_chunk depth rate ++ data_head 4294967295
+written depth rate None = riff 4294967295 ++ junk ++ format_chunk depth rate ++ data_head 4294967295
 written depth rate (Some n) = written_known depth rate n

@@ -250,8 +250,9 @@ fn known(depth: Depth, rate: u32, len: u64) -> HeaderOctets
     }
 }
 
-/// The header of a WAV file with samples of two channels, of so many octets where that is known. Of 4 GiB
-/// and more it is RF64 (EBU Tech 3306), whose header has the same length.
+/// The header of a WAV file with samples of two channels, of so many octets where that is known. From 4
+/// GiB on it is RF64 (EBU Tech 3306). All headers of one depth have the same length, so the one that says
+/// how many octets came can be written over the first one.
 pub fn header_of(depth: Depth, rate: u32, len: Option<u64>) -> HeaderOctets
     requires { ForSome len (λ n. n < 2 ^ 63) }
     ensures { result ≡ written depth rate len }
@@ -260,6 +261,7 @@ pub fn header_of(depth: Depth, rate: u32, len: Option<u64>) -> HeaderOctets
         Some(len) => known(depth, rate, len),
         None => {
             let mut header = riff(NOT_NAMED);
+            header.put(junk().as_slice());
             header.put(depth.format_chunk(rate).as_slice());
             header.put(data_head(NOT_NAMED).as_slice());
             header
