@@ -45,7 +45,7 @@ words() {
 Usage: $usage$end" "$@"
 }
 
-cut="aes3 cut [OPTIONS] <FROM> <COUNT> < CELLS > CELLS"
+cut="aes3 cut [OPTIONS] [-i FILE] <FROM> <COUNT> > CELLS"
 watch="aes3 watch [OPTIONS] [FILE]"
 words "error: invalid value 'x' for '<FROM>': it is the number of a block, from 0 on" "$cut" "$aes3" cut x 1
 words "error: invalid value '18446744073709551616' for '<COUNT>': it is a number of blocks, from 0 on" "$cut" "$aes3" cut 0 18446744073709551616
@@ -62,6 +62,9 @@ words "error: unexpected argument '--gap' found
   tip: a similar argument exists: '--gaps'" "aes3 check [--packed-in|--raw-in] [--lsb-first] [--faults] [--gaps] [FILE]" "$aes3" check --gap
 words "error: a value is required for '--rate <HZ>' but none was supplied" "$watch" "$aes3" watch --rate
 words "error: the argument '--raw-in' cannot be used with '--packed-in'" "aes3 scan [--packed-in|--raw-in] [--lsb-first] [FILE]" "$aes3" scan --raw-in --packed-in
+words "error: the argument '--input <FILE>' cannot be used with '[FILE]'" "aes3 scan [--packed-in|--raw-in] [--lsb-first] [FILE]" "$aes3" scan -i a b
+words "error: the argument '--input <FILE>' cannot be used multiple times" "aes3 scan [--packed-in|--raw-in] [--lsb-first] [FILE]" "$aes3" scan -i a -i b
+words "error: a value is required for '--input <FILE>' but none was supplied" "$cut" "$aes3" cut 0 1 -i
 words "error: the argument '--every-seconds <N>' needs '--rate <HZ>'" "$watch" "$aes3" watch --every-seconds 1
 words "error: invalid value for '--pcm <s32|s24|s24in32|s16>': it is 's32', 's24', 's24in32' or 's16'" "aes3 to-pcm [OPTIONS] [FILE] > PCM" "$aes3" to-pcm --pcm s8
 words "error: unrecognized subcommand 'chek'

@@ -70,6 +70,99 @@ aes3 --help > /dev/full 2> "$folder/errors"
 status=$?
 expect "a full disk for help" 3 "aes3: refused 6"
 
+# A file by its name: at its place, or with -i, in each way that a word can have it. A minus sign alone is standard input.
+aes3 encode < "$zero" > "$folder/named"
+for words in "encode -i" "encode --input" "cut 0 1 -i" "normal -i" "normal"; do
+    case $words in
+    encode*) file=$zero ;;
+    *) file=$folder/named ;;
+    esac
+    # shellcheck disable=SC2086
+    aes3 $words "$file" > "$folder/output" 2> "$folder/errors" < /dev/null
+    status=$?
+    expect "aes3 $words FILE" 0 ""
+    holds_block "its output"
+done
+for word in "-i$zero" "--input=$zero"; do
+    aes3 encode "$word" > "$folder/output" 2> "$folder/errors" < /dev/null
+    status=$?
+    expect "aes3 encode ${word%%/*}FILE" 0 ""
+    holds_block "its output"
+done
+aes3 cut -i - 0 1 > "$folder/output" 2> "$folder/errors" < "$folder/named"
+status=$?
+expect "standard input by a minus sign after -i" 0 ""
+holds_block "its output"
+aes3 encode -i "$folder/nothing" > "$folder/output" 2> "$folder/errors" < "$zero"
+status=$?
+expect "a file after -i that is not there" 3 "aes3: refused 5
+aes3: $folder/nothing: No such file or directory (os error 2)"
+
+# Output to a file by its name: the file has it once the command is done, and a refused one leaves what was there before.
+cp "$folder/named" "$folder/wanted"
+leaves() { # NAME FILE: FILE has the wanted cells, and nothing stands beside it that was begun
+    if cmp "$folder/wanted" "$2" && [ ! -e "$2.part" ]; then well "$1"; else wrong "$1"; fi
+}
+for words in "encode -o" "encode --output"; do
+    rm -f "$folder/out"
+    # shellcheck disable=SC2086
+    aes3 $words "$folder/out" < "$zero" > "$folder/output" 2> "$folder/errors"
+    status=$?
+    expect "aes3 $words FILE" 0 ""
+    leaves "its file" "$folder/out"
+    if [ -s "$folder/output" ]; then wrong "standard output beside a file"; else well "no standard output beside a file"; fi
+done
+aes3 normal -o "$folder/out" "$folder/out" 2> "$folder/errors"
+status=$?
+expect "a file that is read and written" 0 ""
+leaves "it" "$folder/out"
+aes3 normal -o "$folder/out" "$folder/refused" 2> "$folder/errors"
+status=$?
+expect "a refusal with an output file" 3 "aes3: refused 1 at 49920"
+leaves "the file from before a refusal" "$folder/out"
+aes3 normal -o "$folder/new" "$folder/refused" 2> "$folder/errors"
+status=$?
+expect "a refusal with a new output file" 3 "aes3: refused 1 at 49920"
+if [ -e "$folder/new" ] || [ -e "$folder/new.part" ]; then wrong "a refusal leaves a file"; else well "a refusal leaves no file"; fi
+sed '1s/^1110/1111/' "$folder/named" > "$folder/faulty"
+aes3 check "$folder/faulty" > "$folder/wanted"
+aes3 check -o "$folder/out" "$folder/faulty" 2> "$folder/errors"
+status=$?
+expect "faults with an output file" 1 ""
+leaves "the lines of faults" "$folder/out"
+aes3 encode -o "$folder/nowhere/out" < "$zero" 2> "$folder/errors"
+status=$?
+expect "an output file in no folder" 3 "aes3: refused 6
+aes3: $folder/nowhere/out: No such file or directory (os error 2)"
+aes3 check -o "$folder/nowhere/out" < /dev/null 2> "$folder/errors"
+status=$?
+expect "an output file in no folder, of a command that prints nothing" 3 "aes3: refused 6
+aes3: $folder/nowhere/out: No such file or directory (os error 2)"
+aes3 encode -o "$folder" < "$zero" 2> "$folder/errors"
+status=$?
+expect "a folder as output file" 3 "aes3: refused 6
+aes3: $folder: Is a directory (os error 21)"
+aes3 encode -o /dev/full < "$zero" 2> "$folder/errors"
+status=$?
+expect "a full disk as output file" 3 "aes3: refused 6
+aes3: /dev/full: No space left on device (os error 28)"
+cp "$folder/named" "$folder/wanted"
+aes3 encode -o - < "$zero" > "$folder/out" 2> "$folder/errors"
+status=$?
+expect "standard output by a minus sign" 0 ""
+leaves "it" "$folder/out"
+: > "$folder/target"
+ln -s target "$folder/link"
+aes3 encode -o "$folder/link" < "$zero" 2> "$folder/errors"
+status=$?
+expect "a link as output file" 0 ""
+leaves "what it leads to" "$folder/target"
+if [ -L "$folder/link" ]; then well "the link stays"; else wrong "the link is gone"; fi
+aes3 encode --help -o "$folder/help" > /dev/null 2> "$folder/errors"
+status=$?
+expect "help with an output file" 0 ""
+if [ -e "$folder/help" ]; then wrong "help makes a file"; else well "help makes no file"; fi
+
 # A line in use: two blocks have come, and more may. The first is decided by the second, and it leaves while the program waits
 # for the next cell.
 mkfifo "$folder/line" || exit 1

@@ -196,7 +196,15 @@ def others_read(folder):
     for bits, form in ((16, "s16"), (24, "s24"), (32, "s32")):
         got = ran("to-wav", "--packed-in", "--bits", str(bits), data=line)
         wanted = ran("to-pcm", "--packed-in", "--pcm", form, data=line).stdout
-        judge(f"to-wav, {bits} bits", got.returncode == 0 and not got.stderr and got.stdout.endswith(wanted) and len(got.stdout) - len(wanted) in (44, 68))
+        judge(f"to-wav, {bits} bits", got.returncode == 0 and not got.stderr and got.stdout.endswith(wanted) and len(got.stdout) - len(wanted) in (80, 104))
+        named = ran("to-wav", "--packed-in", "--bits", str(bits), "-o", path, data=line)
+        kept = read(path)
+        judge(f"to-wav -o, {bits} bits", named.returncode == 0 and not named.stdout and not named.stderr and kept.endswith(wanted) and len(kept) == len(got.stdout))
+        judge(f"to-wav -o, {bits} bits, its lengths", struct.unpack_from("<I", kept, 4)[0] == len(kept) - 8 and kept[-len(wanted) - 8 : -len(wanted)] == b"data" + struct.pack("<I", len(wanted)))
+        judge(f"to-wav -o, {bits} bits, read here", samples_of(kept) == samples_of(got.stdout))
+        judge(f"from-wav of to-wav -o, {bits} bits", ran("from-wav", path).stdout == ran("from-wav", data=got.stdout).stdout)
+        if shutil.which("soxi"):
+            judge(f"soxi counts the frames of to-wav -o, {bits} bits", subprocess.run(["soxi", "-s", path], capture_output=True).stdout.split() == [str(frames).encode()])
         write(path, got.stdout)
         rate, width, channels = samples_of(got.stdout)
         keeps = (1 << 32) - (1 << (32 - min(bits, 24)))
@@ -216,9 +224,12 @@ def others_read(folder):
         back = ran("to-wav", "--packed-in", "--bits", str(bits), data=ran("encode", "--packed-out", data=ran("from-wav", data=got.stdout).stdout).stdout)
         judge(f"from-wav of to-wav, {bits} bits", back.stdout == got.stdout)
     got = ran("to-wav", "--packed-in", "--rate", "44100", data=line)
-    judge("to-wav --rate", struct.unpack_from("<I", got.stdout, 24)[0] == 44100)
+    judge("to-wav --rate", struct.unpack_from("<I", got.stdout, 60)[0] == 44100)
+    for words in (("--packed-in",), ("--packed-in", "--lsb-first")):
+        refused = ran("to-wav", *words, "-o", f"{folder}/refused.wav", data=line[:-1] + b"\x09")
+        judge(f"to-wav -o of a refused line {words}", refused.returncode == 3 and not os.path.exists(f"{folder}/refused.wav") and not os.path.exists(f"{folder}/refused.wav.part"))
     got = ran("to-wav", data=b"")
-    judge("to-wav of nothing", got.returncode == 0 and b"48000 Hz" in got.stderr and struct.unpack_from("<I", got.stdout, 24)[0] == 48000)
+    judge("to-wav of nothing", got.returncode == 0 and b"48000 Hz" in got.stderr and struct.unpack_from("<I", got.stdout, 60)[0] == 48000)
 
 
 # ---- headers by hand

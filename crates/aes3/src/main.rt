@@ -2,42 +2,63 @@
 //! standard output.
 #![tactic(auto)]
 
+/// Standard output, or the file that is written in its place.
+mod output;
+
 ghost use Rattle.std.specs.Prelude.{◌+◌, ◌<◌, ◌^◌, ◌≡◌, IfErr};
 
 use aes3_cell::{BufferedSink, Sink, StdSink, StdSource};
-use aes3_cli_arguments::{file_of_line, line_of_words};
+use aes3_cli_arguments::{CommandLine, LineFault, file_of_line, line_of_words, output_of_line};
 use aes3_cli_hints::{Hints, Terminals};
+use aes3_cli_jobs::{Job, ReadWork};
 use aes3_cli_progress::Clearing;
 use aes3_files::{Input, Preview};
 use aes3_program::Unread;
 use aes3_program_terminal::{recognise, report_unread, run_and_explain};
+use aes3_wave::Depth;
+use output::{Output, OutputFile};
 use std::cell::Cell;
 use std::env;
-use std::io::ErrorKind;
+use std::io::{Error, ErrorKind};
 use std::process::ExitCode;
+
+/// The exit status of a refusal.
+const REFUSED: u8 = 3;
+
+/// What is noted of the streams while they are lent.
+#[derive(Drop)]
+struct Noted {
+    /// Whether a line of progress is on standard error.
+    shown: Cell<bool>,
+    /// Why the system did not take the output.
+    unwritten: Cell<Option<Error>>,
+}
 
 fn main(rt: HostRuntime) -> ExitCode {
     let terminals = Terminals::new(&rt);
-    let shown = Cell::new(false);
+    let noted = Noted {
+        shown: Cell::new(false),
+        unwritten: Cell::new(None),
+    };
     let told = StdSink::new(rt.stderr());
-    let mut errors = Clearing::new(StdSink::new(rt.stderr()), told, &shown, terminals.errors);
+    let errors = StdSink::new(rt.stderr());
+    let mut errors = Clearing::new(errors, told, &noted.shown, terminals.errors);
     let mut hints = Hints::new(rt.alloc(), StdSink::new(rt.stderr()), terminals);
-    let status = run_program(&rt, terminals, &shown, &mut errors, &mut hints);
+    let status = run_program(&rt, terminals, &noted, &mut errors, &mut hints);
     ExitCode::from(status)
 }
 
-/// Runs the command line, or tells why it can't be read, and answers the exit status. Whether a line
-/// of progress stands on standard error is in `shown`.
+/// Runs the command line, or tells why it can't be read, and answers the exit status.
 fn run_program<E: Sink, H: Sink + Drop>(
     rt: &HostRuntime,
     terminals: Terminals,
-    shown: &Cell<bool>,
+    noted: &Noted,
     errors: &mut E,
     hints: &mut Hints<H>,
 ) -> u8
     requires { E.failed errors.old + 1 < 2 ^ 64 }
 {
-    match run_buffered(rt, terminals, shown, errors, hints) {
+    match run_buffered(rt, terminals, noted, errors, hints) {
         Ok(status) => status,
         Err(fault) => report_unread(fault, errors, hints),
     }
@@ -47,7 +68,7 @@ fn run_program<E: Sink, H: Sink + Drop>(
 fn run_buffered<E: Sink, H: Sink + Drop>(
     rt: &HostRuntime,
     terminals: Terminals,
-    shown: &Cell<bool>,
+    noted: &Noted,
     errors: &mut E,
     hints: &mut Hints<H>,
 ) -> Result<u8, Unread>
@@ -56,15 +77,22 @@ fn run_buffered<E: Sink, H: Sink + Drop>(
 {
     let words = words_of_line(rt)?;
     let words: Vec<&str> = words.iter().map(|word| word.as_str()).collect(rt.alloc())?;
-    let told = StdSink::new(rt.stderr());
-    let output = StdSink::new(rt.stdout().lock());
-    let output = Clearing::new(output, told, shown, terminals.output && terminals.errors);
-    let sink = BufferedSink::new(rt.alloc(), output)?;
     let mut line = line_of_words(rt.alloc(), &words);
+    let named = output_of_line(&line);
+    let written = OutputFile::named(rt, named)?;
+    let output = Output::new(rt, written.as_ref(), &noted.unwritten);
+    let is_seen = terminals.output && terminals.errors && written.is_none();
+    let told = StdSink::new(rt.stderr());
+    let output = Clearing::new(StdSink::new(output), told, &noted.shown, is_seen);
+    let sink = BufferedSink::new(rt.alloc(), output)?;
     let file = file_of_line(&line);
     if file.is_some() {
         hints.reads_file();
     }
+    if written.is_some() {
+        hints.writes_file();
+    }
+    let depth = depth_of_line(&line);
     let trouble = Cell::new(None);
     let input = Input::new(rt, file, &trouble);
     let len = if terminals.errors {
@@ -75,12 +103,49 @@ fn run_buffered<E: Sink, H: Sink + Drop>(
     let mut input = Preview::new(rt.alloc(), input);
     recognise(&mut line, &mut input)?;
     let watched = hints.watch(StdSource::new(input));
-    let source = hints.follow(rt, watched, StdSink::new(rt.stderr()), shown, len, &line);
+    let source = hints.follow(
+        rt,
+        watched,
+        StdSink::new(rt.stderr()),
+        &noted.shown,
+        len,
+        &line,
+    );
     let status = run_and_explain(line, &words, source, sink, errors, hints).status;
-    if let (Some(name), Some(error)) = (file, trouble.get()) {
+    say_trouble(rt, file, trouble.get());
+    say_trouble(rt, named, noted.unwritten.get());
+    let Some(written) = written else {
+        return Ok(status);
+    };
+    match written.finish(rt, status, depth) {
+        Ok(()) => Ok(status),
+        Err(error) => {
+            eprintln!(rt; "aes3: refused 6").unwrap_or(());
+            say_trouble(rt, named, Some(error));
+            Ok(REFUSED)
+        }
+    }
+}
+
+/// Says what the system said of a file, if it did.
+fn say_trouble(rt: &HostRuntime, name: Option<&str>, error: Option<Error>) {
+    if let (Some(name), Some(error)) = (name, error) {
         eprintln!(rt; "aes3: {name}: {error}").unwrap_or(());
     }
-    Ok(status)
+}
+
+/// The depth of the WAV file that a line writes; none where it writes none.
+fn depth_of_line(line: &Result<CommandLine<'_>, LineFault>) -> Option<Depth> {
+    let Ok(line) = line else {
+        return None;
+    };
+    match line.job {
+        Job::Read {
+            work: ReadWork::ToWav { depth, .. },
+            ..
+        } => Some(depth),
+        _ => None,
+    }
 }
 
 /// The words of the command line behind the program's name.

@@ -1,13 +1,11 @@
 -- What the getters of a parse's matches read, by the options that the matches have.
-use Rattle.std.proofs.Common.{◌≡◌, ◌∙◌, Bool, Bor, List, Option, Some, None, ap, cond, codes, map, sym}
-use Rattle.std.specs.Prelude.{option_and_then}
+use Rattle.std.proofs.Common.{◌≡◌, ◌∙◌, Bor, List, Option, ap, map, sym}
 use Rattle.std.specs.Option.{option_map}
-use Rattle.std.specs.Str.{bytes_eq}
 use Rattle.clap.specs.Matches.{first_value, found_of, matched_of, raw_values}
 use Rattle.clap.specs.Walk.{Text, all_of, first_of}
 use Rattle.clap.specs.declared.parser.matches.ArgMatches.{ArgMatches}
 use Rattle.clap.proofs.WalkLemmas.{first_value-rows, raw_values-rows}
-use Rattle.aes3_cli.specs.Options.{Options, file_by, named_file, options_of}
+use Rattle.aes3_cli.specs.Options.{options_of}
 
 -- `get_str` reads the first text
 pub text_is : (m : ArgMatches) (name : Text) (answer is : Option (Bor Text))
@@ -24,10 +22,3 @@ pub texts_are : (m : ArgMatches) (name : Text) (answer is : Option (Bor (List (B
     → texts_in answer ≡ option_map raw_values (matched_of (found_of m) name)
     → answer ≡ is → all_of name (options_of m) ≡ texts_in is
 texts_are m name answer is read same = sym (raw_values-rows (found_of m) name) ∙ (sym read ∙ ap texts_in same)
-
--- what the text of a file's name is
-pub file_is : (options : Options) (text : Text) (standard : Bool) → first_of (codes "FILE") options ≡ Some text
-    → bytes_eq text (codes "-") ≡ standard
-    → file_by options ≡ cond {A = Option Text} standard None (Some text)
-file_is options text standard given is =
-    ap (option_and_then named_file) given ∙ ap (λ b. cond {A = Option Text} b None (Some text)) is

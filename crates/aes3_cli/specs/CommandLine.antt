@@ -15,7 +15,7 @@ use Rattle.aes3_cli.specs.declared.argument.Argument.TheVariants.{Status1, Statu
 use Rattle.aes3_cli.specs.declared.argument.Argument.TheVariants.{Preset, SampleRate, Set}
 use Rattle.aes3_cli.specs.declared.argument.Argument.TheVariants.{ExactSamples, ExactSettings, Marked}
 use Rattle.aes3_cli.specs.declared.argument.Argument.TheVariants.{Valid1, Valid2, ClearUser1, ClearUser2, Valid}
-use Rattle.aes3_cli.specs.declared.argument.Argument.TheVariants.{Fill, Bits, Channel, Pcm, Words, File}
+use Rattle.aes3_cli.specs.declared.argument.Argument.TheVariants.{Fill, Bits, Channel, Pcm, Words, Input, Output, File}
 use Rattle.aes3_cli.specs.declared.argument.Argument.TheVariants.{ExactWave, Channels, Mono, Use, SampleBits, WaveRate}
 use Rattle.aes3_cli.specs.declared.definitions.Name.{Name}
 use Rattle.aes3_cli.specs.declared.definitions.Name.TheVariants.{Encode, Decode, Normal, Check, Watch, Show, Scan}
@@ -79,11 +79,23 @@ most_cells = 1099511627776
 abbrev pub most_seconds : ℕ
 most_seconds = 3600
 
+-- `--name FILE` or the same with one letter, which may be left out
+abbrev pub file_option : Text → ℕ → Rule
+file_option name letter = record (new_rule name) { long = Some name; short = Some letter; value_names = 1 }
+
 -- a file name at its place among the words, which may be left out
 abbrev pub file_name : Text → Rule
 file_name name = new_rule name
 
--- the file that is read in place of standard input
+-- `-i FILE`: the file that is read in place of standard input
+abbrev pub input : Rule
+input = file_option (codes "input") 105
+
+-- `-o FILE`: the file that is written in place of standard output
+abbrev pub output : Rule
+output = file_option (codes "output") 111
+
+-- the name of the file that is read, at its place
 abbrev pub file : Rule
 file = file_name (codes "FILE")
 
@@ -157,13 +169,15 @@ rule Pcm = pcm
 rule Words = words
 rule Bits = word (codes "BITS")
 rule Channel = number (codes "CHANNEL") 1 2
+rule Input = input
+rule Output = output
 rule File = file
 
 abbrev pub command : Text → List Rule → Shape
 command name options = record (new_shape name) { rules = options }
 
 abbrev pub encode : Shape
-encode = command (codes "encode") (packed_out ∷ lsb_first ∷ words ∷ [])
+encode = command (codes "encode") (packed_out ∷ lsb_first ∷ words ∷ input ∷ output ∷ [])
 
 -- a command that reads cells and writes none, with more options
 abbrev pub reader_with : Text → List Rule → Shape
@@ -171,32 +185,32 @@ reader_with name options = command name (packed_in ∷ raw_in ∷ lsb_first ∷ 
 
 -- one without more options
 abbrev pub reader : Text → Shape
-reader name = reader_with name (file ∷ [])
+reader name = reader_with name (input ∷ output ∷ file ∷ [])
 
 abbrev pub decode : Shape
-decode = reader_with (codes "decode") (words ∷ file ∷ [])
+decode = reader_with (codes "decode") (words ∷ input ∷ output ∷ file ∷ [])
 
 abbrev pub check : Shape
-check = reader_with (codes "check") (flag (codes "faults") ∷ flag (codes "gaps") ∷ file ∷ [])
+check = reader_with (codes "check") (flag (codes "faults") ∷ flag (codes "gaps") ∷ input ∷ output ∷ file ∷ [])
 
 abbrev pub watch : Shape
 watch = reader_with (codes "watch")
     (flag (codes "json") ∷ number_option (codes "rate") 1 most_frames
-    ∷ number_option (codes "every") 1 most_cells ∷ number_option (codes "every-seconds") 1 most_seconds ∷ file ∷ [])
+    ∷ number_option (codes "every") 1 most_cells ∷ number_option (codes "every-seconds") 1 most_seconds ∷ input ∷ output ∷ file ∷ [])
 
 abbrev pub info : Shape
-info = reader_with (codes "info") (flag (codes "json") ∷ file ∷ [])
+info = reader_with (codes "info") (flag (codes "json") ∷ input ∷ output ∷ file ∷ [])
 
 abbrev pub show : Shape
 show = reader_with (codes "show")
-    (flag (codes "changes") ∷ flag (codes "at") ∷ flag (codes "more") ∷ flag (codes "names") ∷ file ∷ [])
+    (flag (codes "changes") ∷ flag (codes "at") ∷ flag (codes "more") ∷ flag (codes "names") ∷ input ∷ output ∷ file ∷ [])
 
 abbrev pub normal : Shape
-normal = command (codes "normal") (packed_in ∷ raw_in ∷ packed_out ∷ lsb_first ∷ file ∷ [])
+normal = command (codes "normal") (packed_in ∷ raw_in ∷ packed_out ∷ lsb_first ∷ input ∷ output ∷ file ∷ [])
 
 abbrev pub cut : Shape
 cut = command (codes "cut")
-    (packed_in ∷ raw_in ∷ packed_out ∷ lsb_first
+    (packed_in ∷ raw_in ∷ packed_out ∷ lsb_first ∷ input ∷ output
     ∷ number (codes "FROM") 0 greatest ∷ number (codes "COUNT") 0 greatest ∷ [])
 
 abbrev pub rewrite : Shape
@@ -205,21 +219,21 @@ rewrite = command (codes "rewrite")
     ∷ text_option (codes "status1") ∷ text_option (codes "status2") ∷ text_option (codes "preset")
     ∷ settings_option (codes "set") ∷ settings_option (codes "set1") ∷ settings_option (codes "set2") ∷ flag (codes "mend-check")
     ∷ number_option (codes "valid1") 0 1 ∷ number_option (codes "valid2") 0 1
-    ∷ flag (codes "clear-user1") ∷ flag (codes "clear-user2") ∷ flag (codes "exact") ∷ file ∷ [])
+    ∷ flag (codes "clear-user1") ∷ flag (codes "clear-user2") ∷ flag (codes "exact") ∷ input ∷ output ∷ file ∷ [])
 
 abbrev pub to_pcm : Shape
 to_pcm = reader_with (codes "to-pcm")
-    (pcm ∷ flag (codes "valid") ∷ text_option (codes "fill") ∷ flag (codes "marked") ∷ flag (codes "exact") ∷ file ∷ [])
+    (pcm ∷ flag (codes "valid") ∷ text_option (codes "fill") ∷ flag (codes "marked") ∷ flag (codes "exact") ∷ input ∷ output ∷ file ∷ [])
 
 abbrev pub from_pcm : Shape
 from_pcm = command (codes "from-pcm")
     (text_option (codes "status1") ∷ text_option (codes "status2") ∷ text_option (codes "preset")
     ∷ named_option (codes "hz") (codes "rate")
     ∷ settings_option (codes "set") ∷ settings_option (codes "set1") ∷ settings_option (codes "set2")
-    ∷ flag (codes "mend-check") ∷ flag (codes "exact") ∷ pcm ∷ words ∷ file ∷ [])
+    ∷ flag (codes "mend-check") ∷ flag (codes "exact") ∷ pcm ∷ words ∷ input ∷ output ∷ file ∷ [])
 
 abbrev pub to_wav : Shape
-to_wav = reader_with (codes "to-wav") (text_option (codes "bits") ∷ number_option (codes "rate") 1 most_frames ∷ file ∷ [])
+to_wav = reader_with (codes "to-wav") (text_option (codes "bits") ∷ number_option (codes "rate") 1 most_frames ∷ input ∷ output ∷ file ∷ [])
 
 abbrev pub from_wav : Shape
 from_wav = command (codes "from-wav")
@@ -227,10 +241,10 @@ from_wav = command (codes "from-wav")
     ∷ text_option (codes "status1") ∷ text_option (codes "status2") ∷ text_option (codes "preset")
     ∷ named_option (codes "hz") (codes "rate")
     ∷ settings_option (codes "set") ∷ settings_option (codes "set1") ∷ settings_option (codes "set2")
-    ∷ flag (codes "mend-check") ∷ flag (codes "exact") ∷ words ∷ file ∷ [])
+    ∷ flag (codes "mend-check") ∷ flag (codes "exact") ∷ words ∷ input ∷ output ∷ file ∷ [])
 
 abbrev pub to_bits : Shape
-to_bits = reader_with (codes "to-bits") (word (codes "BITS") ∷ number (codes "CHANNEL") 1 2 ∷ file ∷ [])
+to_bits = reader_with (codes "to-bits") (word (codes "BITS") ∷ number (codes "CHANNEL") 1 2 ∷ input ∷ output ∷ file ∷ [])
 
 -- the commands by their names
 abbrev pub shape : Name → Shape

@@ -12,9 +12,21 @@ Options = List Row
 abbrev pub options_of : ArgMatches → Options
 options_of matches = rows_of (found_of matches)
 
--- the file that is read in place of standard input; a minus sign alone is none
+-- the file of this name; a minus sign alone is a standard stream
 abbrev pub named_file : Text → Option Text
 named_file text = if bytes_eq text (codes "-") then None else Some text
 
+-- the file that is read in place of standard input: its name stands among the words, or after `-i`
+abbrev pub either : Option Text → Option Text → Option Text
+either (Some name) other = Some name
+either None other = other
+
+abbrev pub name_by : Options → Option Text
+name_by options = either (first_of (codes "FILE") options) (first_of (codes "input") options)
+
 abbrev pub file_by : Options → Option Text
-file_by options = option_and_then named_file (first_of (codes "FILE") options)
+file_by options = option_and_then named_file (name_by options)
+
+-- the file that is written in place of standard output
+abbrev pub output_by : Options → Option Text
+output_by options = option_and_then named_file (first_of (codes "output") options)

@@ -11,7 +11,7 @@ program_usage = codes "aes3 COMMAND [OPTIONS] < INPUT > OUTPUT" ++ 10 ∷ codes 
 abbrev pub usage_of : Text → Text
 usage_of name =
     if bytes_eq name (codes "encode") then codes
-    "aes3 encode [--packed-out [--lsb-first]] [--words own|alsa|am824] < BLOCKFILE > CELLS"
+    "aes3 encode [--packed-out [--lsb-first]] [--words own|alsa|am824] [-i FILE] > CELLS"
     else if bytes_eq name (codes "decode") then codes "aes3 decode [OPTIONS] [FILE] > BLOCKFILE"
     else if bytes_eq name (codes "normal") then codes
     "aes3 normal [--packed-in|--raw-in] [--packed-out] [--lsb-first] [FILE] > CELLS"
@@ -22,7 +22,7 @@ usage_of name =
     else if bytes_eq name (codes "show") then codes
     "aes3 show [--packed-in|--raw-in] [--lsb-first] [--changes] [--at|--more|--names] [FILE]"
     else if bytes_eq name (codes "scan") then codes "aes3 scan [--packed-in|--raw-in] [--lsb-first] [FILE]"
-    else if bytes_eq name (codes "cut") then codes "aes3 cut [OPTIONS] <FROM> <COUNT> < CELLS > CELLS"
+    else if bytes_eq name (codes "cut") then codes "aes3 cut [OPTIONS] [-i FILE] <FROM> <COUNT> > CELLS"
     else if bytes_eq name (codes "rewrite") then codes "aes3 rewrite [OPTIONS] [FILE] > CELLS"
     else if bytes_eq name (codes "to-pcm") then codes "aes3 to-pcm [OPTIONS] [FILE] > PCM"
     else if bytes_eq name (codes "from-pcm") then codes "aes3 from-pcm [OPTIONS] [FILE] > BLOCKFILE"

@@ -1,7 +1,8 @@
 //! The options and values that commands take, each with the line that help tells of it.
 
 ghost use Rattle.aes3_cli.specs.CommandLine.{IsOption, flag, number, rule, settings_option};
-ghost use Rattle.aes3_cli.specs.CommandLine.{file_name, named_option, number_option, text_option, word};
+ghost use Rattle.aes3_cli.specs.CommandLine.{file_name, file_option, named_option, number_option};
+ghost use Rattle.aes3_cli.specs.CommandLine.{text_option, word};
 
 use clap::builder::ValueParser;
 use clap::{Arg, ArgAction};
@@ -107,8 +108,12 @@ pub(crate) enum Argument {
     Bits,
     /// Of which channel it writes them.
     Channel,
-    /// The name of the file that is read in place of standard input.
+    /// `-i FILE`: the file that is read in place of standard input.
+    Input,
+    /// The name of that file at its place among the words.
     File,
+    /// `-o FILE`: the file that is written in place of standard output.
+    Output,
 }
 
 impl Argument {
@@ -121,7 +126,7 @@ impl Argument {
             Argument::RawIn => flag(
                 alloc,
                 "raw-in",
-                "Read packed cells with no last octet that counts",
+                "Read packed cells without a last octet that counts unused cells",
             ),
             Argument::PackedOut => flag(alloc, "packed-out", "Write packed cells, eight an octet"),
             Argument::LsbFirst => flag(
@@ -129,48 +134,56 @@ impl Argument {
                 "lsb-first",
                 "Packed cells have the first of eight in the lowest bit",
             ),
-            Argument::Faults => flag(alloc, "faults", "Leave the whole blocks out"),
-            Argument::Gaps => flag(alloc, "gaps", "Tell and count cells in no whole block"),
-            Argument::Changes => flag(alloc, "changes", "Leave out what is as in the block before"),
-            Argument::At => flag(alloc, "at", "Tell the cell at which each block begins"),
+            Argument::Faults => flag(alloc, "faults", "Leave out the lines of whole blocks"),
+            Argument::Gaps => flag(
+                alloc,
+                "gaps",
+                "Print and count cells that are in no whole block",
+            ),
+            Argument::Changes => flag(
+                alloc,
+                "changes",
+                "Leave out a status that is the same as in the block before",
+            ),
+            Argument::At => flag(alloc, "at", "Print the cell at which each block begins"),
             Argument::More => flag(
                 alloc,
                 "more",
-                "Tell how many V and U bits are 1, and that cell",
+                "Print how many V and U bits are 1, and where each block begins",
             ),
             Argument::Names => flag(
                 alloc,
                 "names",
-                "Tell the words of codes that are printed as numbers",
+                "Print the meanings of codes that are printed as numbers",
             ),
-            Argument::Json => flag(alloc, "json", "Write JSON objects in place of words"),
+            Argument::Json => flag(alloc, "json", "Write JSON objects instead of words"),
             Argument::Rate => number_option(
                 alloc,
                 "rate",
                 "HZ",
                 MOST_FRAMES,
-                "Tell times, where a second has HZ frames",
+                "Print times; a second has HZ frames",
             ),
             Argument::Every => number_option(
                 alloc,
                 "every",
                 "CELLS",
                 MOST_CELLS,
-                "Tell sums after each CELLS cells",
+                "Print sums after each CELLS cells",
             ),
             Argument::EverySeconds => number_option(
                 alloc,
                 "every-seconds",
                 "N",
                 MOST_SECONDS,
-                "Tell sums after each N seconds, by --rate",
+                "Print sums after each N seconds, by --rate",
             ),
             Argument::From => number(
                 alloc,
                 "FROM",
                 0,
                 u64::MAX,
-                "The number of the first block, from 0 on",
+                "The number of the first block, counted from 0",
             ),
             Argument::Count => number(alloc, "COUNT", 0, u64::MAX, "How many blocks"),
             Argument::Status1 => text(
@@ -189,47 +202,55 @@ impl Argument {
                 alloc,
                 "preset",
                 "consumer|professional",
-                "Begin with the usual status of this use",
+                "Begin with the usual status for this use",
             ),
             Argument::SampleRate => named_text(
                 alloc,
                 "hz",
                 "rate",
                 "HZ",
-                "The sampling frequency that the status tells, as 48000 or 48k",
+                "The sampling frequency in the status, as 48000 or 48k",
             ),
             Argument::Set => settings(
                 alloc,
                 "set",
-                "A field of both channels as `show` prints it; may be repeated",
+                "Set a field of both channels, as `show` prints it; may be repeated",
             ),
             Argument::Set1 => settings(
                 alloc,
                 "set1",
-                "A field of channel 1 as `show` prints it; may be repeated",
+                "Set a field of channel 1, as `show` prints it; may be repeated",
             ),
             Argument::Set2 => settings(
                 alloc,
                 "set2",
-                "A field of channel 2 as `show` prints it; may be repeated",
+                "Set a field of channel 2, as `show` prints it; may be repeated",
             ),
             Argument::MendCheck => flag(
                 alloc,
                 "mend-check",
-                "Write the check byte that professional status asks for",
+                "Write the check byte of each professional status",
             ),
             Argument::Valid1 => bit(
                 alloc,
                 "valid1",
-                "The validity bit of channel 1: 0 says that samples can be taken as they are",
+                "The validity bits of channel 1: 0 = samples valid, 1 = not valid",
             ),
             Argument::Valid2 => bit(
                 alloc,
                 "valid2",
-                "The validity bit of channel 2: 0 says that samples can be taken as they are",
+                "The validity bits of channel 2: 0 = samples valid, 1 = not valid",
             ),
-            Argument::ClearUser1 => flag(alloc, "clear-user1", "Make the user bits of channel 1 0"),
-            Argument::ClearUser2 => flag(alloc, "clear-user2", "Make the user bits of channel 2 0"),
+            Argument::ClearUser1 => flag(
+                alloc,
+                "clear-user1",
+                "Set the user bits of channel 1 to 0",
+            ),
+            Argument::ClearUser2 => flag(
+                alloc,
+                "clear-user2",
+                "Set the user bits of channel 2 to 0",
+            ),
             Argument::Valid => flag(
                 alloc,
                 "valid",
@@ -239,74 +260,86 @@ impl Argument {
                 alloc,
                 "fill",
                 "zero|hold",
-                "Keep time: fill what no whole block gives with zeros, or with the last frame",
+                "Keep time: fill between whole blocks with zeros or the last frame",
             ),
             Argument::Marked => flag(
                 alloc,
                 "marked",
-                "With --fill: give blocks with wrong parity too, and fill those subframes",
+                "With --fill: also write blocks with parity errors, fill those subframes",
             ),
             Argument::Exact => flag(
                 alloc,
                 "exact",
-                "Refuse samples of more than 24 bits, and settings that no block takes",
+                "Reject samples of more than 24 bits, and settings that no block takes",
             ),
-            Argument::ExactSamples => flag(alloc, "exact", "Refuse blocks that would lose bits"),
+            Argument::ExactSamples => flag(alloc, "exact", "Reject blocks that would lose bits"),
             Argument::ExactSettings => flag(
                 alloc,
                 "exact",
-                "Refuse blocks that leave out what --set, --set1 or --set2 sets",
+                "Reject blocks that can't take what --set, --set1 or --set2 sets",
             ),
-            Argument::ExactWave => flag(alloc, "exact", "Refuse samples of more than 24 bits"),
+            Argument::ExactWave => flag(alloc, "exact", "Reject samples of more than 24 bits"),
             Argument::Channels => text(
                 alloc,
                 "channels",
                 "A,B",
-                "The channels of the file to take, from 1 on; else the first two, or the only one",
+                "The channels to take, from 1 on; else the first two, or the only one",
             ),
             Argument::Mono => text(
                 alloc,
                 "mono",
                 "both|first",
-                "Where a file has one channel: take it for both, which is usual, or for the first",
+                "If the file has one channel: use it for both (usual) or for the first",
             ),
             Argument::Use => text(
                 alloc,
                 "use",
                 "consumer|professional",
-                "The use of the status that is made of the header, else consumer",
+                "The use of the status made from the header; else consumer",
             ),
             Argument::SampleBits => text(
                 alloc,
                 "bits",
                 "16|24|32",
-                "How many bits a sample has, else 24",
+                "How many bits a sample has; else 24",
             ),
             Argument::WaveRate => number_option(
                 alloc,
                 "rate",
                 "HZ",
                 MOST_FRAMES,
-                "The sampling frequency that the header says; else that of the first block",
+                "The sampling frequency in the header; else that of the first block",
             ),
             Argument::Pcm => text(
                 alloc,
                 "pcm",
                 "s32|s24|s24in32|s16",
-                "The samples are of 32 bits, of 24 in 3 or 4 bytes, or of 16",
+                "Samples have 32 bits, 24 bits in 3 or 4 bytes, or 16 bits",
             ),
             Argument::Words => text(
                 alloc,
                 "words",
                 "own|alsa|am824",
-                "The words of the block file are ours, ALSA's or those of AM824",
+                "The words of the block file: our own, ALSA's or AM824",
             ),
             Argument::Bits => word(alloc, "BITS", "Which bits: `user`, `validity` or `status`"),
             Argument::Channel => number(alloc, "CHANNEL", 1, 2, "Of which channel: 1 or 2"),
+            Argument::Input => file_option(
+                alloc,
+                "input",
+                'i',
+                "The file to read; standard input if it is `-` or left out",
+            ),
+            Argument::Output => file_option(
+                alloc,
+                "output",
+                'o',
+                "The file to write; standard output if it is `-` or left out",
+            ),
             Argument::File => file_name(
                 alloc,
                 "FILE",
-                "What to read, standard input where it is `-` or left out",
+                "The file to read; standard input if it is `-` or left out",
             ),
         }
     }
@@ -398,6 +431,17 @@ fn bit<'a>(alloc: Global, name: &'a str, help: &'a str) -> Arg<'a>
         .long(name)
         .value_name("0|1")
         .value_parser(ValueParser::unsigned(0, 1))
+        .help(help)
+}
+
+/// The option `--name` with a file name, whose short form is `short`.
+fn file_option<'a>(alloc: Global, name: &'a str, short: char, help: &'a str) -> Arg<'a>
+    ensures { IsOption (file_option name.now short) result }
+{
+    Arg::new(alloc, name)
+        .long(name)
+        .short(short)
+        .value_name("FILE")
         .help(help)
 }
 

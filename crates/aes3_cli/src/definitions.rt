@@ -150,10 +150,10 @@ impl Name {
     {
         use Argument::*;
         match self {
-            Name::Encode => &[PackedOut, LsbFirst, Words],
-            Name::Decode => &[PackedIn, RawIn, LsbFirst, Words, File],
-            Name::Normal => &[PackedIn, RawIn, PackedOut, LsbFirst, File],
-            Name::Check => &[PackedIn, RawIn, LsbFirst, Faults, Gaps, File],
+            Name::Encode => &[PackedOut, LsbFirst, Words, Input, Output],
+            Name::Decode => &[PackedIn, RawIn, LsbFirst, Words, Input, Output, File],
+            Name::Normal => &[PackedIn, RawIn, PackedOut, LsbFirst, Input, Output, File],
+            Name::Check => &[PackedIn, RawIn, LsbFirst, Faults, Gaps, Input, Output, File],
             Name::Watch => &[
                 PackedIn,
                 RawIn,
@@ -162,12 +162,18 @@ impl Name {
                 Rate,
                 Every,
                 EverySeconds,
+                Input,
+                Output,
                 File,
             ],
-            Name::Info => &[PackedIn, RawIn, LsbFirst, Json, File],
-            Name::Show => &[PackedIn, RawIn, LsbFirst, Changes, At, More, Names, File],
-            Name::Scan => &[PackedIn, RawIn, LsbFirst, File],
-            Name::Cut => &[PackedIn, RawIn, PackedOut, LsbFirst, From, Count],
+            Name::Info => &[PackedIn, RawIn, LsbFirst, Json, Input, Output, File],
+            Name::Show => &[
+                PackedIn, RawIn, LsbFirst, Changes, At, More, Names, Input, Output, File,
+            ],
+            Name::Scan => &[PackedIn, RawIn, LsbFirst, Input, Output, File],
+            Name::Cut => &[
+                PackedIn, RawIn, PackedOut, LsbFirst, Input, Output, From, Count,
+            ],
             Name::Rewrite => &[
                 PackedIn,
                 RawIn,
@@ -185,6 +191,8 @@ impl Name {
                 ClearUser1,
                 ClearUser2,
                 ExactSettings,
+                Input,
+                Output,
                 File,
             ],
             Name::ToPcm => &[
@@ -196,18 +204,24 @@ impl Name {
                 Fill,
                 Marked,
                 ExactSamples,
+                Input,
+                Output,
                 File,
             ],
             Name::FromPcm => &[
                 Status1, Status2, Preset, SampleRate, Set, Set1, Set2, MendCheck, Exact, Pcm,
-                Words, File,
+                Words, Input, Output, File,
             ],
-            Name::ToWav => &[PackedIn, RawIn, LsbFirst, SampleBits, WaveRate, File],
+            Name::ToWav => &[
+                PackedIn, RawIn, LsbFirst, SampleBits, WaveRate, Input, Output, File,
+            ],
             Name::FromWav => &[
                 Channels, Mono, Use, Status1, Status2, Preset, SampleRate, Set, Set1, Set2,
-                MendCheck, ExactWave, Words, File,
+                MendCheck, ExactWave, Words, Input, Output, File,
             ],
-            Name::ToBits => &[PackedIn, RawIn, LsbFirst, Bits, Channel, File],
+            Name::ToBits => &[
+                PackedIn, RawIn, LsbFirst, Bits, Channel, Input, Output, File,
+            ],
         }
     }
 }

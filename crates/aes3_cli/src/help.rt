@@ -1,14 +1,14 @@
 //! What the program says of itself: the texts of `--help` and `--version`.
 
-/// What `--version` prints behind the program's name.
+/// What `--version` prints after the program's name.
 pub const VERSION: &str = "0.1.0";
 
 /// The texts of one command.
 #[derive(Clone, Copy)]
 pub struct Texts<'a> {
-    /// One line, which also stands in the list of commands.
+    /// One line, which is also in the list of commands.
     pub about: &'a str,
-    /// How the command is called, told by its help and where its words are refused.
+    /// How the command is called, for its help and for usage errors.
     pub usage: &'a str,
     /// What it reads and writes, its exit statuses and examples.
     pub more: &'a str,
@@ -20,34 +20,38 @@ pub const PROGRAM: Texts<'static> = Texts {
        aes3 check FILE
        aes3 COMMAND --help
        aes3 --explain [NUMBER]",
-    more: "Input comes from standard input, or from the FILE that is named behind the words of a
-command (`aes3 check FILE`; `encode` and `cut` take none); output goes to standard
-output. `aes3 COMMAND --help` says what a command reads and writes.
+    more: "A command reads standard input, or a file: `aes3 check FILE`, or `-i FILE` with any
+command. It writes to standard output, or with `-o FILE` to a file. A file that is
+written has another name, FILE.part, until the command is done. After a refusal it is
+removed. `aes3 COMMAND --help` says what a command reads and writes.
 
 Forms of input and output:
-  cells         half time slots of the line, one level each. They may begin anywhere
-                and in either polarity. As text `0` and `1`, between which line feeds,
-                carriage returns and spaces are skipped; packed eight an octet, the
-                first in the highest bit, or with --lsb-first in the lowest, and then
-                one octet with the number of unused cells before it, which raw octets
-                (--raw-in) lack
-  block         192 frames of two subframes, 24,576 cells. It is whole where all its
-                cells stand, with right parity, and the next cell, if there is one, ends
-                its last run
-  block file    1,536 bytes a block: 384 words of 4 bytes, lowest first, channel 1 and
-                then channel 2 of each frame. Bit N of a word is time slot N: bits 0
-                to 3 are zero, 4 to 27 the sample, 28 V, 29 U, 30 C, 31 even parity.
-                With --words alsa they have the preamble's code there, as ALSA's
-                IEC958_SUBFRAME_LE, and with --words am824 the form of AM824 words
+  cells         half time slots of the line, one level each. They may begin anywhere, in
+                either polarity. As text, a cell is `0` or `1`. Line feeds, carriage
+                returns and spaces between cells are skipped. Packed, an octet has eight
+                cells. The first is in the highest bit, or with --lsb-first in the
+                lowest. One last octet then counts the unused cells before it. Raw
+                octets (--raw-in) lack this octet
+  block         192 frames of two subframes: 24,576 cells. A block is whole if its
+                preambles, biphase-mark code and parity are right, and after its last
+                cell the level changes or the input ends
+  block file    1,536 bytes a block: 384 words of 4 bytes, lowest byte first. Each frame
+                has the word of channel 1, then that of channel 2. Bit N of a word is
+                time slot N. Bits 0 to 3 are zero, 4 to 27 the sample, 28 V, 29 U, 30 C,
+                31 even parity. With --words alsa bits 0 to 3 have the preamble's code,
+                as in ALSA's IEC958_SUBFRAME_LE. With --words am824 the words are AM824
+                words
 
 Exit status:
   0  done, or help or the version was asked for
   1  `check`, `watch` or `info` is done and found faults
-  2  the words are no command line; why is told on standard error
-  3  refused; standard error has one line, `aes3: refused NUMBER at PLACE`, or no place
+  2  usage error; standard error says why
+  3  refused; standard error has the line `aes3: refused NUMBER at PLACE`, or the same
+     without a place
 
-Refusals have the numbers 1 to 15; PLACE counts bytes, words, octets or cells from 0. `aes3
---explain` prints what was wrong and what to do, with a NUMBER of that refusal alone.
+Refusals have the numbers 1 to 15. PLACE counts bytes, words, octets or cells from 0; of
+refusal 15 it is the number of channels. `aes3 --explain` prints what was wrong and what
+to do for each refusal. With a NUMBER it prints only that refusal.
 
 Examples, three tasks with examples/speech.block of the sources:
   Make a line of a block file, and look whether it is whole:
@@ -66,19 +70,19 @@ Examples, three tasks with examples/speech.block of the sources:
 
 pub const ENCODE: Texts<'static> = Texts {
     about: "Write the cells of a block file",
-    usage: "aes3 encode [--packed-out [--lsb-first]] [--words own|alsa|am824] < BLOCKFILE > CELLS",
-    more: "Reads a block file: 1,536 bytes a block, 384 words of 4 bytes, the lowest first.
-Writes the cells of its blocks as one line in the normal polarity, in which each
-preamble begins 111: as text 64 cells, a subframe, a line.
-With --words alsa the words are ALSA's IEC958_SUBFRAME_LE, where bits 0 to 3 have the
-code of the preamble, of Z 8, of X 2, of Y 4, or are zero. With --words am824 they are
-those of AM824 (IEC 61883-6, SMPTE ST 2110-31), the highest byte first. Such words may
-begin inside a block: up to 383 whose code is that of X or Y are left out before the
-first block, and a refusal counts words from there on.
+    usage: "aes3 encode [--packed-out [--lsb-first]] [--words own|alsa|am824] [-i FILE] > CELLS",
+    more: "Reads a block file: 1,536 bytes a block, as 384 words of 4 bytes, lowest byte first.
+Writes the cells of its blocks as one line in the normal polarity: each preamble begins
+with 111. As text, each line has 64 cells, a subframe.
+With --words alsa the words are ALSA's IEC958_SUBFRAME_LE: bits 0 to 3 have the code of
+the preamble, 8 for Z, 2 for X, 4 for Y, or are zero. With --words am824 they are AM824
+words (IEC 61883-6, SMPTE ST 2110-31), highest byte first. Such words may begin inside a
+block. Then up to 383 words with the code of X or Y are left out before the first block.
+A refusal counts words from the first word after these.
 
-Exit status: 0 done; 3 refused: 2 the file ends inside a block, 3 a word has bits 0 to
-3 that are not zero, or a code that is not due there, 4 a word has the wrong parity; or
-as for every command.
+Exit status: 0 done; 3 refused: 2 the file ends inside a block, 3 a word has bits 0 to 3
+that are not zero, or a code that is wrong at its place, 4 a word has the wrong parity;
+or as for every command.
 
 Examples:
     aes3 encode < speech.block > line.txt
@@ -90,12 +94,12 @@ Examples:
 pub const DECODE: Texts<'static> = Texts {
     about: "Write the whole blocks as a block file",
     usage: "aes3 decode [OPTIONS] [FILE] > BLOCKFILE",
-    more: "Reads cells, begun anywhere and in either polarity.
-Writes the whole blocks that stand in them as a block file, 1,536 bytes each. What is
-cut or damaged is left out, and nothing is told of it: `aes3 check` tells it. With --words
-alsa or am824 its words are in that form, as `aes3 encode` reads them.
+    more: "Reads cells. They may begin anywhere, in either polarity.
+Writes the whole blocks as a block file, 1,536 bytes each. Cut and damaged blocks are
+left out without a message; `aes3 check --gaps` reports them. With --words alsa or am824
+the words have that form, as `aes3 encode` reads them.
 
-Exit status: 0 done, also where no block was found; 3 refused: 1 a byte is no cell, 10
+Exit status: 0 done, also if no block was found; 3 refused: 1 a byte is not a cell, 10
 packed cells end wrongly; or as for every command.
 
 Examples:
@@ -108,27 +112,30 @@ Examples:
 pub const TO_PCM: Texts<'static> = Texts {
     about: "Write the samples of the whole blocks",
     usage: "aes3 to-pcm [OPTIONS] [FILE] > PCM",
-    more: "Reads cells, begun anywhere and in either polarity.
-Writes the samples of the whole blocks that stand in them: of each frame channel 1 and
-then channel 2, 4 bytes each, lowest first, the 24 bits of the sample in the highest
-ones (S32LE: `ffmpeg -f s32le`, `sox -t raw -e signed -b 32 -L`, ALSA's S32_LE). With
---pcm s24 they have 3 bytes each (`ffmpeg -f s24le`, ALSA's S24_3LE), with --pcm s24in32
-4 bytes with the 24 bits in the lowest ones and their sign above (ALSA's S24_LE), and with
---pcm s16 2 bytes (`ffmpeg -f s16le`, ALSA's S16_LE): then the lowest 8 of the 24 bits are
-dropped. V, U and C are left out, as is what is cut or damaged, and nothing is told of it:
-`aes3 check` tells it. With --valid a sample whose validity bit is 1, which says that it
-can't be taken as it is, is written as zero. With --fill the samples keep time: what no
-whole block gives between two of them is filled with frames of zeros (`zero`) or with the
-last frame before it (`hold`), so many that each block stands to half a frame where its
-cells do, counted from the first block; standard error has how many at the end, as
-`aes3: filled 192 frames`. With --marked too, a block of which only parity bits are wrong
-is given as well, and each subframe whose parity bit is wrong is filled likewise. With
---exact a sample that would lose bits (with s16, one of more than 16 bits) is an error that
-names its block's place. That block and all after it are not written. The input is read to
-its end first.
+    more: "Reads cells. They may begin anywhere, in either polarity.
+Writes the samples of the whole blocks, for each frame channel 1 and then channel 2. A
+sample has 4 bytes, lowest first, with its 24 bits in the highest bits (S32LE:
+`ffmpeg -f s32le`, `sox -t raw -e signed -b 32 -L`, ALSA's S32_LE). With --pcm s24 it
+has 3 bytes (`ffmpeg -f s24le`, ALSA's S24_3LE). With --pcm s24in32 it has 4 bytes, with
+the 24 bits in the lowest bits and their sign above (ALSA's S24_LE). With --pcm s16 it
+has 2 bytes (`ffmpeg -f s16le`, ALSA's S16_LE), and the lowest 8 of the 24 bits are
+dropped. V, U and C are left out. Cut and damaged blocks are left out without a message;
+`aes3 check --gaps` reports them.
 
-Exit status: 0 done, also where no block was found; 3 refused: 1 a byte is no cell, 10
-packed cells end wrongly, 13 with --exact a block would lose bits; or as for every command.
+With --valid, a sample that is not valid (its validity bit is 1) is written as zero.
+With --fill the samples keep time. Frames are written for the time between two whole
+blocks: frames of zeros (`zero`) or copies of the last frame before (`hold`). So each
+block is at most half a frame from the time of its cells, counted from the first block.
+At the end standard error has the number of these frames, as `aes3: filled 192 frames`.
+With --marked too, a block whose only errors are parity errors is also written. Each of
+its subframes with a parity error is filled in the same way.
+With --exact, a sample that would lose bits is an error that gives its block's place.
+With --pcm s16 that is a sample of more than 16 bits. That block and all blocks after it
+are not written. The input is read to its end first.
+
+Exit status: 0 done, also if no block was found; 3 refused: 1 a byte is not a cell, 10
+packed cells end wrongly, 13 with --exact a block would lose bits; or as for every
+command.
 
 Examples:
     aes3 to-pcm < line.txt > line.s32
@@ -140,28 +147,30 @@ Examples:
 };
 
 pub const FROM_PCM: Texts<'static> = Texts {
-    about: "Write a block file of samples",
+    about: "Write a block file from samples",
     usage: "aes3 from-pcm [OPTIONS] [FILE] > BLOCKFILE",
-    more: "Reads samples as `aes3 to-pcm` writes them: of each frame channel 1 and then channel 2,
+    more: "Reads samples as `aes3 to-pcm` writes them. Each frame has channel 1 and then channel 2,
 4 bytes each, lowest first (S32LE: `ffmpeg -f s32le`, `sox -t raw -e signed -b 32 -L`,
-ALSA's S32_LE). A sound file is refused, by its first 12 bytes: WAV, AIFF, Wave64, FLAC,
-CAF, Ogg, MP3 behind a tag of ID3v2, AU, MPEG-4. `aes3 from-wav` reads a WAV file, and `sox
-FILE -t s32 -c 2 -` gives the samples of each but the last. The 24 highest bits of each are
-the sample, the lowest 8 are dropped; with --exact they have to be zero. With --pcm s24,
-s24in32 or s16 they are in that form, as `aes3 to-pcm` has it, and --exact refuses none: the
-highest byte of s24in32 does not count, and the 8 bits that s16 lacks are zero. Samples that
-are zero fill up the last block.
-Writes a block file with V and U 0 and the channel status that the options give, as `aes3
-rewrite` has them. Without them the status claims nothing: consumer use, no copyright, no
-sampling frequency, words of at most 24 bits. --rate HZ sets the sampling frequency of both
-channels after all other fields: 48000 or 48k. With --exact a setting that the status does
-not take is refused before anything is read. With --words alsa or am824 the words of the
-block file are in that form, as `aes3 encode` reads them.
+ALSA's S32_LE). The 24 highest bits are the sample. The lowest 8 are dropped; with
+--exact they have to be zero. With --pcm s24, s24in32 or s16 the samples have that form,
+as `aes3 to-pcm` writes it. Then --exact rejects no sample: the highest byte of s24in32
+does not count, and the 8 bits that s16 lacks are zero. Samples of zero fill up the last
+block.
+A sound file is rejected. Its first 12 bytes show what it is: WAV, AIFF, Wave64, FLAC,
+CAF, Ogg, MP3 after an ID3v2 tag, AU, MPEG-4. `aes3 from-wav` reads a WAV file.
+`sox FILE -t s32 -c 2 -` gives the samples of each of these but MPEG-4.
+
+Writes a block file. V and U are 0. The options give the channel status, as those of
+`aes3 rewrite` do. Without them the status claims nothing: consumer use, no copyright,
+no sampling frequency, words of at most 24 bits. --rate HZ sets the sampling frequency
+of both channels after all other fields, as 48000 or 48k. With --exact, a setting that
+the status does not take is rejected before anything is read. With --words alsa or am824
+the words of the block file have that form, as `aes3 encode` reads them.
 
 Exit status: 0 done; 3 refused: 9 a status is not 48 hexadecimal digits, 13 with --exact
-the status does not take a setting, and with both nothing is read, 2 the samples end inside
-a frame, 11 a sample has more than 24 bits, 12 the input is a sound file; or as for every
-command.
+the status does not take a setting (with 9 and 13 nothing is read), 2 the samples end
+inside a frame, 11 with --exact a sample has more than 24 bits, 12 the input is a sound
+file; or as for every command.
 
 Examples:
     aes3 from-pcm --preset consumer --rate 48k < line.s32 > consumer.block
@@ -175,16 +184,18 @@ Examples:
 pub const TO_WAV: Texts<'static> = Texts {
     about: "Write the samples of the whole blocks as a WAV file",
     usage: "aes3 to-wav [OPTIONS] [FILE] > WAV",
-    more: "Reads cells, begun anywhere and in either polarity.
+    more: "Reads cells. They may begin anywhere, in either polarity.
 Writes a WAV file of two channels: a header, and then the samples of the whole blocks as
-`aes3 to-pcm` writes them, with --bits 24 as its s24, with 16 as s16, with 32 as s32.
-Without --bits they have 24 bits. The header is written with the first block. It says that
-the lengths are not known, so that readers take the samples up to the end of the file. Its
-sampling frequency is that of --rate, or else the one that the channel status of channel 1
-in the first block names, or else 48,000 Hz. Standard error says so in the last case.
-What is cut or damaged is left out, and nothing is told of it: `aes3 check` tells it.
+`aes3 to-pcm` writes them. --bits 24 gives its s24, --bits 16 its s16, --bits 32 its
+s32. Without --bits the samples have 24 bits. The header is written with the first
+block. It says that the lengths are not known, so readers take the samples up to the end
+of the file. With -o FILE the header has the lengths. From 4 GiB on the file is RF64.
+The sampling frequency in the header is that of --rate. Without --rate it is the one
+that the channel status of channel 1 in the first block names. Otherwise it is 48,000
+Hz, and standard error says so. Cut and damaged blocks are left out without a message;
+`aes3 check --gaps` reports them.
 
-Exit status: 0 done, also where no block was found; 3 refused: 1 a byte is no cell, 10
+Exit status: 0 done, also if no block was found; 3 refused: 1 a byte is not a cell, 10
 packed cells end wrongly; or as for every command.
 
 Examples:
@@ -194,27 +205,30 @@ Examples:
 };
 
 pub const FROM_WAV: Texts<'static> = Texts {
-    about: "Write a block file of a WAV file",
+    about: "Write a block file from a WAV file",
     usage: "aes3 from-wav [OPTIONS] [FILE] > BLOCKFILE",
-    more: "Reads a WAV file of PCM samples of 8, 16, 20, 24 or 32 bits: RIFF, RF64 or BW64, also with
-lengths that are not known. Floating point and compressed samples are refused.
-Writes a block file of two channels: those of --channels, counted from 1, or else the first
-two. The only one of a file is taken for both, or with --mono first for channel 1, and then
-the samples of channel 2 are zero. Samples have their highest bits in the highest of 24; of 32 bits
-the lowest 8 are dropped, and with --exact they have to be zero. Samples that are zero fill
-up the last block. What comes after the samples in the file is left out.
-V and U are 0. The channel status says what the header does: linear PCM, the sampling
-frequency and the word length, for the use that --use names, consumer if it is left out. At
-the end standard error says what the status has no code for. --preset, --status1 and
---status2 give another status, and then what the header says is not in it. --set, --set1,
---set2, --rate and --mend-check change the status as `aes3 from-pcm` has them. At the end
-standard error lists the settings that the status did not take. With --words alsa or am824
-the words of the block file are in that form, as `aes3 encode` reads them.
+    more: "Reads a WAV file of PCM samples of 8, 16, 20, 24 or 32 bits: RIFF, RF64 or BW64, also
+with lengths that are not known. Floating-point and compressed samples are rejected.
+
+Writes a block file of two channels: those of --channels, counted from 1, or else the
+first two. If the file has only one channel, both channels get its samples. With
+--mono first, channel 1 gets them and the samples of channel 2 are zero. The highest bit
+of a sample becomes the highest of 24 bits. The lowest 8 of 32 bits are dropped; with
+--exact they have to be zero. Samples of zero fill up the last block. Whatever comes
+after the samples in the file is left out.
+
+V and U are 0. The channel status has what the header says: linear PCM, the sampling
+frequency and the word length. Its use is that of --use, or consumer without it. At the
+end standard error lists what the status has no code for. --preset, --status1 and
+--status2 give another status, which does not have what the header says. --set, --set1,
+--set2, --rate and --mend-check change the status as in `aes3 from-pcm`. At the end
+standard error lists the settings that the status did not take. With --words alsa or
+am824 the words of the block file have that form, as `aes3 encode` reads them.
 
 Exit status: 0 done; 3 refused: 9 a status is not 48 hexadecimal digits, and nothing is
-read, 14 the header is wrong or of another format, 15 the file has no such channel, 2 the
-samples end inside a frame, 11 with --exact a sample has more than 24 bits, 12 the samples
-begin with the header of a sound file; or as for every command.
+read, 14 the header is wrong or of another format, 15 the file has no such channel, 2
+the samples end inside a frame, 11 with --exact a sample has more than 24 bits, 12 the
+samples begin with the header of a sound file; or as for every command.
 
 Examples:
     aes3 from-wav < line.wav > line.block
@@ -225,12 +239,12 @@ Examples:
 pub const NORMAL: Texts<'static> = Texts {
     about: "Write the whole blocks again, in the normal polarity",
     usage: "aes3 normal [--packed-in|--raw-in] [--packed-out] [--lsb-first] [FILE] > CELLS",
-    more: "Reads cells, begun anywhere and in either polarity.
-Writes the cells of the whole blocks that stand in them, one behind the other, as one
-line in the normal polarity: as text 64 cells, a subframe, a line. What is cut or
-damaged is left out, and nothing is told of it: `aes3 check` tells it.
+    more: "Reads cells. They may begin anywhere, in either polarity.
+Writes the cells of the whole blocks, one block after the other, as one line in the
+normal polarity. As text, each line has 64 cells, a subframe. Cut and damaged blocks are
+left out without a message; `aes3 check --gaps` reports them.
 
-Exit status: 0 done, also where no block was found; 3 refused: 1 a byte is no cell, 10
+Exit status: 0 done, also if no block was found; 3 refused: 1 a byte is not a cell, 10
 packed cells end wrongly; or as for every command.
 
 Examples:
@@ -242,26 +256,30 @@ Examples:
 pub const CHECK: Texts<'static> = Texts {
     about: "Print each whole block and each fault",
     usage: "aes3 check [--packed-in|--raw-in] [--lsb-first] [--faults] [--gaps] [FILE]",
-    more: "Reads cells, begun anywhere and in either polarity.
-Writes a line for each place where a block's first preamble stands. P and C number the
-cells of the input from 0; L is the level before P, 0 or 1.
+    more: "Reads cells. They may begin anywhere, in either polarity.
+Prints a line for each preamble Z, with which a block begins. P and C number the cells
+of the input from 0. L is the level before P, 0 or 1.
   whole at P before L           the block that begins at cell P is whole
-  marked at P before L wrong N  its cells stand, but N of its subframes have wrong parity
-  fault at P cell C preamble    cell C is not that of the preamble that is due there
-  fault at P cell C biphase     cell C does not begin its time slot with a change
-  fault at P cell C unclosed    cell C, behind the block, does not end its last run
+  marked at P before L wrong N  parity errors in N subframes, and nothing else is wrong
+  fault at P cell C preamble    cell C does not match the preamble that is expected
+  fault at P cell C biphase     the level does not change at cell C, where a time slot
+                                begins
+  fault at P cell C unclosed    the level does not change at cell C, right after the
+                                block
   unfinished at P cells N       the input ends after N cells of a block, without fault
-A block whose first preamble is damaged gets no line, nor do cells outside of blocks:
---gaps tells them. With --faults the `whole` lines are left out. With --gaps each cell
-lies in a `whole` block or in one gap:
-  gap at P cells N              N cells from cell P on, 24,576 at most, are in no whole block
-The line stands behind those of the places in the gap. It comes once a line behind it is
-due, or two blocks' cells have come from P on: so a line without signal is told as it is.
-A gap of 24,576 cells counts as a fault, and so does each gap between two whole blocks. A
-shorter one before the first or behind the last is where the input is cut, and does not.
+A block whose first preamble is damaged gets no line. Cells outside of blocks get none
+either. --gaps reports both. With --faults the `whole` lines are left out. With --gaps
+each cell lies in a `whole` block or in one gap:
+  gap at P cells N              N cells from cell P on, at most 24,576, are in no whole
+                                block
+The `gap` line comes after the lines of the places in the gap. It is printed when a
+later line is due, or when two blocks of cells have come from P on. So cells without
+signal are reported as they come. A gap of 24,576 cells counts as a fault, and so does
+each gap between two whole blocks. A shorter gap before the first or after the last
+whole block does not count: the input is cut there.
 
 Exit status: 0 no fault; 1 there are `marked` or `fault` lines, or gaps that count; 3
-refused: 1 a byte is no cell, 10 packed cells end wrongly; or as for every command.
+refused: 1 a byte is not a cell, 10 packed cells end wrongly; or as for every command.
 
 Examples:
     aes3 check < line.txt | sed -n 1,3p
@@ -271,20 +289,22 @@ Examples:
 pub const SHOW: Texts<'static> = Texts {
     about: "Print the channel status of each whole block",
     usage: "aes3 show [--packed-in|--raw-in] [--lsb-first] [--changes] [--at|--more|--names] [FILE]",
-    more: "Reads cells, begun anywhere and in either polarity.
-Writes two lines for each whole block, channel 1 and then channel 2: `block=N channel=C`,
-N from 0, then `consumer` or `professional`, then each field as `name=value`. A code that
-its table has no word for is printed as `code` and its number. `check` of professional
-use is `good`, `bad`, or `absent` where it does not hold and byte 23 is zero. With
---changes both lines of the first block are written, and of each other a channel's line
-where its status is not that of the block before. With --at ` at=P` stands behind each
-line: P is the cell at which the block begins, counted from 0. With --more ` v=N u=N at=P`
-does: how many of the channel's 192 validity bits are 1, and how many of its user bits.
-With --names the meanings of codes printed as numbers follow, each as ` NAME=WORD`:
-`category`, `rate` and `original` of consumer use, `mode` of professional use, and its
-`rate` if byte 4 has it, as 96000.
+    more: "Reads cells. They may begin anywhere, in either polarity.
+Prints two lines for each whole block, for channel 1 and then for channel 2. A line has
+`block=N channel=C`, N from 0, then `consumer` or `professional`, then each field as
+`name=value`. If there is no word for a code, the value is `code` and its number.
+`check` of professional use is `good`, `bad` or `absent`. It is `absent` if byte 23 is
+zero and that is not the right check byte.
+With --changes both lines of the first block are printed. For each other block, a
+channel's line is printed only if its status differs from that in the block before.
+With --at each line ends with ` at=P`: the block begins at cell P, counted from 0. With
+--more it ends with ` v=N u=N at=P`: how many of the channel's 192 validity bits are 1,
+and how many of its user bits. With --names it ends with the meanings of codes that are
+printed as numbers, each as ` NAME=WORD`. Consumer use has them for `category`, `rate`
+and `original`. Professional use has them for `mode`, and for `rate` if byte 4 has it,
+as 96000.
 
-Exit status: 0 done, also where no block was found; 3 refused: 1 a byte is no cell, 10
+Exit status: 0 done, also if no block was found; 3 refused: 1 a byte is not a cell, 10
 packed cells end wrongly; or as for every command.
 
 Examples:
@@ -298,35 +318,45 @@ Examples:
 pub const WATCH: Texts<'static> = Texts {
     about: "Print where a line locks, is lost, comes back, slips or changes",
     usage: "aes3 watch [OPTIONS] [FILE]",
-    more: "Reads cells, begun anywhere and in either polarity, as long as they come.
-Writes a line only where something changes. P numbers the cells from 0:
-  locked at P before L   the first whole block begins at cell P; L is the level before it
-  lost at P              a block's length of cells or more from P on is in no whole block
-  back at P lost N       the first whole block behind them begins at P, N cells behind
-  slipped at P cells N   a whole block begins at P, N cells, fewer than a block has, behind
-                         the one before it: cells were lost or doubled
-  status at P channel C HEX48  the block at P has another status of channel C than the
-                         whole block before it
-  validity at P channel C V    its validity bits are otherwise than there: V is `clear`
-                         where all are 0, `set` where all are 1, or `mixed`
-  end at P locked        the cells end at P, fewer than a block has behind a whole block
-  end at P lost          they end otherwise
-`lost` comes once a line of `check` behind that block's length is due, or two blocks' cells
-have come from P on. `check --gaps` tells the same cells block by block. With --rate HZ
-` time S` stands behind P: P as seconds with three places, 128 HZ cells a second. With
---json each line is a JSON object: its first word is `event`, the one that stands alone at
-the end `status`, `validity` or `state`, and the others are named as above. With --every
-CELLS, 2^40 at most, there is also a line for each CELLS cells and for what is left at the
-end, with --every-seconds N for each N seconds, 3,600 at most, by --rate HZ:
+    more: "Reads cells as long as they come. They may begin anywhere, in either polarity.
+Prints a line only when something changes. P numbers the cells from 0:
+  locked at P before L   the first whole block begins at cell P; L is the level before
+                         it
+  lost at P              from P on, at least a block length of cells is in no whole
+                         block
+  back at P lost N       the first whole block after the N lost cells begins at P
+  slipped at P cells N   a whole block begins at P, N cells after the end of the one
+                         before it. N is less than a block length: cells were lost or
+                         doubled
+  status at P channel C HEX48  the status of channel C in the block at P is HEX48, and
+                         differs from that in the whole block before it
+  validity at P channel C V  the validity bits of channel C are V in the block at P, and
+                         were not in the whole block before it. V is `clear` if all are
+                         0, `set` if all are 1, or `mixed`
+  end at P locked        the cells end at P, less than a block length after a whole
+                         block
+  end at P lost          the cells end at P in any other case
+`lost` is printed once `check` has a line for a place after that length, or once two
+blocks of cells have come from P on. `check --gaps` prints the same cells block by
+block.
+With --rate HZ, ` time S` follows P: S is P in seconds with three places, at 128 times
+HZ cells a second. With --json each line is a JSON object. The first word is the value
+of `event`. A value without a name at the end of a line is named `status`, `validity` or
+`state`. The other names are as above.
+With --every CELLS, at most 2^40, a line of sums is also printed for each CELLS cells,
+and at the end for what is left. With --every-seconds N, at most 3,600, it is printed
+for each N seconds, by --rate HZ:
   sum from P to Q whole N marked N fault N preamble N biphase N unclosed N lost N
       invalid1 N invalid2 N changes N
-in one line: of the cells from P on and before Q the blocks and faults that `check` tells
-and begin there, the faults by their causes, the cells in gaps that count, the subframes
-of each channel of whole blocks whose V is 1, and the lines `status` and `validity`.
+This is one line. It covers the cells from P up to, but without, Q. `whole`, `marked`
+and `fault` count what `check` prints of blocks that begin there. `preamble`, `biphase`
+and `unclosed` count the faults by cause. `lost` counts the cells in gaps that count as
+faults. `invalid1` and `invalid2` count the subframes of a channel in whole blocks whose
+V is 1. `changes` counts the lines `status` and `validity`.
 
 Exit status: 0 no fault; 1 `check` has `marked` or `fault` lines, or there is `lost` or
-`slipped`; 3 refused: 1 a byte is no cell, 10 packed cells end wrongly; or as for every
-command.
+`slipped`; 3 refused: 1 a byte is not a cell, 10 packed cells end wrongly; or as for
+every command.
 
 Examples:
     aes3 watch < line.txt
@@ -338,34 +368,36 @@ Examples:
 pub const INFO: Texts<'static> = Texts {
     about: "Print one page about a recording: faults, rate, length, status and level",
     usage: "aes3 info [--packed-in|--raw-in] [--lsb-first] [--json] [FILE]",
-    more: "Reads cells, begun anywhere and in either polarity, to their end. Without --packed-in and
---raw-in the first octets decide: what is cell text is read as text, octets of no other
-kind of file as packed cells.
-Writes a page at the end, `NAME VALUE` a line:
+    more: "Reads cells to their end. They may begin anywhere, in either polarity. Without
+--packed-in and --raw-in the first octets decide the form. Cell text is read as text.
+Octets of no known kind of file are read as packed cells.
+Prints a page at the end, with `NAME VALUE` on each line:
   cells, rate, seconds   how many cells; the sampling frequency in Hz that the status of
-                         channel 1 names in the first whole block; how long the cells take
-                         at it. `unknown` where it names none
+                         channel 1 names in the first whole block; how long the cells
+                         take at it. The last two are `unknown` if the status names none
   whole, marked          how many blocks `check` prints as `whole` and as `marked`
-  fault                  how many lines `fault`; by their causes `preamble`, `biphase` and
-                         `unclosed`
-  unfinished             how many blocks the end cuts
-  gaps, lost, cut        how many gaps of `check --gaps` count; the cells in them; and the
-                         cells in the others, where the recording is cut
-and then these lines for channel 1 and for channel 2, whose number ends the name:
+  fault                  how many `fault` lines `check` prints. `preamble`, `biphase`
+                         and `unclosed` have the numbers by cause
+  unfinished             how many blocks the end of the input cuts
+  gaps, lost, cut        how many gaps of `check --gaps` count as faults; the cells in
+                         them; the cells in the other gaps, where the recording is cut
+Then come these lines for channel 1 and for channel 2. The name ends with the channel's
+number:
   status1                the status in the first whole block, as `show` prints it
-  changes1               how many whole blocks have another status than the one before
+  changes1               how many whole blocks have another status than the whole block
+                         before
   invalid1               how many subframes have V 1
-  peak1, peak_dbfs1      the greatest magnitude of a sample of 24 bits, also in dBFS
+  peak1, peak_dbfs1      the greatest magnitude of a sample of 24 bits; the same in dBFS
   rms_dbfs1              the RMS of the samples: a sine that just reaches full scale has
                          -3.0
-  silent1                `yes` where each sample is zero
-The samples are those of all whole blocks. A level of no power is `-inf`. With --json the
-page is one JSON object with the same names: a status is 48 hexadecimal digits there, and
-`unknown` and `-inf` are `null`.
+  silent1                `yes` if each sample is zero
+The samples are those of all whole blocks. A level without power is `-inf`. With --json
+the page is one JSON object with the same names. There a status is 48 hexadecimal
+digits, and `unknown` and `-inf` are `null`.
 
-Exit status: 0 no fault; 1 there are marked blocks, faults, or gaps that count; 3 refused:
-1 a byte is no cell, 10 packed cells end wrongly; or as for every command. Where it is
-refused nothing is written.
+Exit status: 0 no fault; 1 there are marked blocks, faults, or gaps that count; 3
+refused: 1 a byte is not a cell, 10 packed cells end wrongly; or as for every command.
+If the input is refused, nothing is written.
 
 Examples:
     aes3 info line.txt
@@ -376,14 +408,14 @@ Examples:
 pub const SCAN: Texts<'static> = Texts {
     about: "Print each preamble",
     usage: "aes3 scan [--packed-in|--raw-in] [--lsb-first] [FILE]",
-    more: "Reads cells, begun anywhere and in either polarity.
-Writes a line for each place where the eight cells of a preamble stand, in step with a
+    more: "Reads cells. They may begin anywhere, in either polarity.
+Prints a line for each place that has the eight cells of a preamble, in step with a
 block or not:
   mark M at P before L  preamble M at cell P, counted from 0, after level L. Z begins a
                         block, X is channel 1 of its other frames, Y is channel 2
 
-Exit status: 0 done, also where there is none; 3 refused: 1 a byte is no cell, 10 packed
-cells end wrongly; or as for every command.
+Exit status: 0 done, also if there is no preamble; 3 refused: 1 a byte is not a cell, 10
+packed cells end wrongly; or as for every command.
 
 Examples:
     aes3 cut 0 1 < line.txt | aes3 scan | sed -n 1,3p
@@ -391,14 +423,14 @@ Examples:
 };
 
 pub const CUT: Texts<'static> = Texts {
-    about: "Write COUNT of the whole blocks, from number FROM on",
-    usage: "aes3 cut [OPTIONS] <FROM> <COUNT> < CELLS > CELLS",
+    about: "Write COUNT whole blocks, from number FROM on",
+    usage: "aes3 cut [OPTIONS] [-i FILE] <FROM> <COUNT> > CELLS",
     more: "Reads cells as `aes3 normal` does, to their end.
-Writes the cells of COUNT of the whole blocks in them, or as many as there are, from
-number FROM on, counted from 0, as one line in the normal polarity. A block lasts 192
-frames, 4 milliseconds at 48 kHz.
+Writes the cells of COUNT whole blocks as one line in the normal polarity, from number
+FROM on, counted from 0. If there are fewer, it writes those. A block lasts 192 frames,
+4 milliseconds at 48 kHz.
 
-Exit status: 0 done, also where no block was found; 3 refused: 1 a byte is no cell, 10
+Exit status: 0 done, also if no block was found; 3 refused: 1 a byte is not a cell, 10
 packed cells end wrongly; or as for every command.
 
 Examples:
@@ -410,28 +442,32 @@ pub const REWRITE: Texts<'static> = Texts {
     about: "Write the whole blocks with new channel status, V or U",
     usage: "aes3 rewrite [OPTIONS] [FILE] > CELLS",
     more: "Reads cells as `aes3 normal` does.
-Writes what it would, with the channel status of each block set as the options ask. HEX48
-is the 24 bytes of a channel's status as 48 hexadecimal digits, byte 0 first. A channel
-without it begins with the status of --preset, where that is given: `consumer` is linear
-PCM, no copyright, words of 24 bits; `professional` is linear PCM, no emphasis, two
-channels, words of 24 bits. Then --set NAME=WORD sets a field of both channels, --set1
-and --set2 one of channel 1 or 2, by the names and words that `aes3 show` prints, with
---names too, and use=professional or use=consumer sets the use. A channel has 32 settings at
-most: first those of --set, then those of its own option, each in the order typed.
-origin=, destination=, local= and time= come last. A setting that does not apply is
-skipped: its field belongs to the other use, or its word has no code, as word=24 of a
-consumer status without greatest=24 before it. At the end standard error lists, as they
-were typed, the settings that no block took, those of --set as --set1 and --set2. With
---exact a block that can't take all of them is an error that names its place. That block
-and all after it are not written. The input is read to its end first.
-Where a field is set, or --preset or --mend-check is given, byte 23 of each channel whose
-status is professional then becomes its check byte. --valid1 0 and --valid2 0 make V of
-all subframes of a channel 0, which says that their samples can be taken as they are;
-with 1 it says that they can't. --clear-user1 and --clear-user2 make U of all of them 0.
-Without any option the blocks are as they were.
+Writes what `normal` would write, with the channel status of each block set as the
+options ask. HEX48 is the 24 bytes of a channel's status as 48 hexadecimal digits, byte
+0 first. If a channel has no HEX48 and --preset is given, it begins with the status of
+--preset. The preset `consumer` is linear PCM, no copyright, words of 24 bits. The
+preset `professional` is linear PCM, no emphasis, two channels, words of 24 bits.
 
-Exit status: 0 done, also where no block was found; 3 refused: 9 a status is not 48
-hexadecimal digits, and nothing is read, 1 a byte is no cell, 10 packed cells end
+Then --set NAME=WORD sets a field of both channels. --set1 and --set2 set a field of
+channel 1 or 2. The names and words are those that `aes3 show` prints, with --names too.
+use=professional or use=consumer sets the use. A channel has 32 settings at most: first
+those of --set, then those of its own option, each in the order typed. origin=,
+destination=, local= and time= come last.
+A setting that does not apply is skipped: its field belongs to the other use, or its
+word has no code. For example, word=24 of a consumer status has no code without
+greatest=24 before it. At the end standard error lists the settings that no block took,
+as they were typed. Those of --set are listed as --set1 and --set2. With --exact, a
+block that can't take all settings is an error that gives its place. That block and all
+blocks after it are not written. The input is read to its end first.
+If a field is set, or --preset or --mend-check is given, byte 23 of each professional
+status then becomes its check byte.
+
+--valid1 0 and --valid2 0 set V of all subframes of a channel to 0: the samples are
+valid. With 1 they are not valid. --clear-user1 and --clear-user2 set U of all subframes
+of a channel to 0. Without any option the blocks are unchanged.
+
+Exit status: 0 done, also if no block was found; 3 refused: 9 a status is not 48
+hexadecimal digits, and nothing is read, 1 a byte is not a cell, 10 packed cells end
 wrongly, 13 with --exact a block does not take a setting; or as for every command.
 
 Examples:
@@ -446,13 +482,13 @@ Examples:
 pub const TO_BITS: Texts<'static> = Texts {
     about: "Write the user, validity or status bits of a channel",
     usage: "aes3 to-bits [OPTIONS] <user|validity|status> <1|2> [FILE] > BITS",
-    more: "Reads cells, begun anywhere and in either polarity.
-Writes of each whole block that stands in them the 192 bits of one kind that the subframes of
-a channel carry behind their audio, as 24 bytes, the bit of frame 0 in the lowest bit of the
-first: U with `user`, V with `validity`, C, the channel status, with `status`. What is cut
-or damaged is left out, and nothing is told of it: `aes3 check` tells it.
+    more: "Reads cells. They may begin anywhere, in either polarity.
+Writes 24 bytes for each whole block: the 192 bits of one kind in the subframes of a
+channel. `user` writes U, `validity` V, and `status` C, the channel status. The bit of
+frame 0 is the lowest bit of the first byte. Cut and damaged blocks are left out without
+a message; `aes3 check --gaps` reports them.
 
-Exit status: 0 done, also where no block was found; 3 refused: 1 a byte is no cell, 10
+Exit status: 0 done, also if no block was found; 3 refused: 1 a byte is not a cell, 10
 packed cells end wrongly; or as for every command.
 
 Examples:

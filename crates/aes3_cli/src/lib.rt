@@ -20,4 +20,4 @@ pub mod wording;
 pub use definitions::command_line;
 pub use fault::LineFault;
 pub use number::number_of_text;
-pub use options::file_of_options;
+pub use options::{file_of_options, output_of_options};

@@ -1,24 +1,45 @@
 //! What options say that `clap` found among words.
 
-ghost use Rattle.std.specs.Prelude.{◌≡◌};
+ghost use Rattle.std.specs.Prelude.{◌≡◌, option_and_then};
 ghost use Rattle.std.specs.Option.{option_map};
-ghost use Rattle.aes3_cli.specs.Options.{file_by, options_of};
+ghost use Rattle.aes3_cli.specs.Options.{file_by, name_by, named_file, options_of, output_by};
 
 use clap::ArgMatches;
 
-/// The word that stands for standard input where a file name may.
-const STANDARD_INPUT: &str = "-";
+/// The word that stands for a standard stream where a file name may.
+const STANDARD: &str = "-";
 
-/// The file that the options name in place of standard input; none where they name none, or name it `-`.
+/// The name of a file; none of a standard stream.
+fn named_file<'a>(name: Option<&'a str>) -> Option<&'a str>
+    ensures { option_map (λ name. name.now) result
+        ≡ option_and_then named_file (option_map (λ name. name.now) name.entry) }
+{
+    let Some(name) = name else {
+        return None;
+    };
+    if name == STANDARD { None } else { Some(name) }
+}
+
+/// The name that the options have for the file to read: at its place among the words, or after `-i`.
+fn name_of_options<'a>(options: &ArgMatches<'a>) -> Option<&'a str>
+    ensures { option_map (λ name. name.now) result ≡ name_by (options_of options.now) }
+{
+    match options.get_str("FILE") {
+        Some(name) => Some(name),
+        None => options.get_str("input"),
+    }
+}
+
+/// The file that the options name in place of standard input; none if they name none, or name it `-`.
 pub fn file_of_options<'a>(options: &ArgMatches<'a>) -> Option<&'a str>
     ensures { option_map (λ name. name.now) result ≡ file_by (options_of options.now) }
 {
-    let Some(name) = options.get_str("FILE") else {
-        return None;
-    };
-    if name == STANDARD_INPUT {
-        None
-    } else {
-        Some(name)
-    }
+    named_file(name_of_options(options))
+}
+
+/// The file that the options name in place of standard output; none if they name none, or name it `-`.
+pub fn output_of_options<'a>(options: &ArgMatches<'a>) -> Option<&'a str>
+    ensures { option_map (λ name. name.now) result ≡ output_by (options_of options.now) }
+{
+    named_file(options.get_str("output"))
 }

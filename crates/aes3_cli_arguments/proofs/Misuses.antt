@@ -1,5 +1,6 @@
 -- Options that are misused.
 use Rattle.std.proofs.Common.{◌≡◌, Bool, Option, Some, None, true, false, not, refl, sym, ap, cond, is_some, true≢false}
+use Rattle.std.specs.Option.{option_map}
 use Rattle.aes3_cli_arguments.specs.Jobs.{Options, has_no_cells_packed, has_no_rate, has_two_forms, has_two_periods}
 use Rattle.aes3_cli_arguments.specs.Jobs.{has_unknown_bits, misuse_by}
 use Rattle.aes3_cli_arguments.specs.declared.misuse.Misuse.{Misuse}
@@ -26,3 +27,8 @@ no_unknown_bits options none =
 pub none_is : (some none : Bool) → some ≡ not none → none ≡ not some
 none_is some true is = sym (ap not is)
 none_is some false is = sym (ap not is)
+
+-- what is made of something is something
+pub some_map : {A B : Type 0} (f : A → B) (o : Option A) → is_some (option_map f o) ≡ is_some o
+some_map f None = refl
+some_map f (Some x) = refl

@@ -190,7 +190,7 @@ encode_known = record {
   sound =
       also (flag_sound _ _ (codes "true") refl refl refl refl)
       (also (flag_sound _ _ (codes "true") refl refl refl refl) (also (value_sound _ _ refl refl refl)
-      (also (help_sound _ _ refl refl) tt)));
+      (also (value_sound _ _ refl refl refl) (also (value_sound _ _ refl refl refl) (also (help_sound _ _ refl refl) tt)))));
   numbers = λ rows name fit passed. other_name (codes "encode") refl name;
 }
 
@@ -200,7 +200,7 @@ decode_known = record {
       also (flag_sound _ _ (codes "true") refl refl refl refl)
       (also (flag_sound _ _ (codes "true") refl refl refl refl)
       (also (flag_sound _ _ (codes "true") refl refl refl refl) (also (value_sound _ _ refl refl refl)
-      (also (value_sound _ _ refl refl refl) (also (help_sound _ _ refl refl) tt)))));
+      (also (value_sound _ _ refl refl refl) (also (value_sound _ _ refl refl refl) (also (value_sound _ _ refl refl refl) (also (help_sound _ _ refl refl) tt)))))));
   numbers = λ rows name fit passed. other_name (codes "decode") refl name;
 }
 
@@ -210,7 +210,7 @@ reader_known name differs = record {
       also (flag_sound _ _ (codes "true") refl refl refl refl)
       (also (flag_sound _ _ (codes "true") refl refl refl refl)
       (also (flag_sound _ _ (codes "true") refl refl refl refl) (also (value_sound _ _ refl refl refl)
-      (also (help_sound _ _ refl refl) tt))));
+      (also (value_sound _ _ refl refl refl) (also (value_sound _ _ refl refl refl) (also (help_sound _ _ refl refl) tt))))));
   numbers = λ rows same fit passed. other_name name differs same;
 }
 
@@ -222,7 +222,7 @@ check_known = record {
       (also (flag_sound _ _ (codes "true") refl refl refl refl)
       (also (flag_sound _ _ (codes "true") refl refl refl refl)
       (also (flag_sound _ _ (codes "true") refl refl refl refl) (also (value_sound _ _ refl refl refl)
-      (also (help_sound _ _ refl refl) tt))))));
+      (also (value_sound _ _ refl refl refl) (also (value_sound _ _ refl refl refl) (also (help_sound _ _ refl refl) tt))))))));
   numbers = λ rows name fit passed. other_name (codes "check") refl name;
 }
 
@@ -234,7 +234,7 @@ watch_known = record {
       (also (flag_sound _ _ (codes "true") refl refl refl refl)
       (also (flag_sound _ _ (codes "true") refl refl refl refl) (also (value_sound _ _ refl refl refl)
       (also (value_sound _ _ refl refl refl) (also (value_sound _ _ refl refl refl)
-      (also (value_sound _ _ refl refl refl) (also (help_sound _ _ refl refl) tt))))))));
+      (also (value_sound _ _ refl refl refl) (also (value_sound _ _ refl refl refl) (also (value_sound _ _ refl refl refl) (also (help_sound _ _ refl refl) tt))))))))));
   numbers = λ rows name fit passed. other_name (codes "watch") refl name;
 }
 
@@ -245,7 +245,7 @@ info_known = record {
       (also (flag_sound _ _ (codes "true") refl refl refl refl)
       (also (flag_sound _ _ (codes "true") refl refl refl refl)
       (also (flag_sound _ _ (codes "true") refl refl refl refl) (also (value_sound _ _ refl refl refl)
-      (also (help_sound _ _ refl refl) tt)))));
+      (also (value_sound _ _ refl refl refl) (also (value_sound _ _ refl refl refl) (also (help_sound _ _ refl refl) tt)))))));
   numbers = λ rows name fit passed. other_name (codes "info") refl name;
 }
 
@@ -259,7 +259,7 @@ show_known = record {
       (also (flag_sound _ _ (codes "true") refl refl refl refl)
       (also (flag_sound _ _ (codes "true") refl refl refl refl)
       (also (flag_sound _ _ (codes "true") refl refl refl refl) (also (value_sound _ _ refl refl refl)
-      (also (help_sound _ _ refl refl) tt))))))));
+      (also (value_sound _ _ refl refl refl) (also (value_sound _ _ refl refl refl) (also (help_sound _ _ refl refl) tt))))))))));
   numbers = λ rows name fit passed. other_name (codes "show") refl name;
 }
 
@@ -270,7 +270,7 @@ normal_known = record {
       (also (flag_sound _ _ (codes "true") refl refl refl refl)
       (also (flag_sound _ _ (codes "true") refl refl refl refl)
       (also (flag_sound _ _ (codes "true") refl refl refl refl) (also (value_sound _ _ refl refl refl)
-      (also (help_sound _ _ refl refl) tt)))));
+      (also (value_sound _ _ refl refl refl) (also (value_sound _ _ refl refl refl) (also (help_sound _ _ refl refl) tt)))))));
   numbers = λ rows name fit passed. other_name (codes "normal") refl name;
 }
 
@@ -281,7 +281,7 @@ cut_known = record {
       (also (flag_sound _ _ (codes "true") refl refl refl refl)
       (also (flag_sound _ _ (codes "true") refl refl refl refl)
       (also (flag_sound _ _ (codes "true") refl refl refl refl) (also (value_sound _ _ refl refl refl)
-      (also (value_sound _ _ refl refl refl) (also (help_sound _ _ refl refl) tt))))));
+      (also (value_sound _ _ refl refl refl) (also (value_sound _ _ refl refl refl) (also (value_sound _ _ refl refl refl) (also (help_sound _ _ refl refl) tt))))))));
   numbers = λ rows name fit passed.
       let given = both_given (is_given (codes "FROM") rows) (is_given (codes "COUNT") rows)
       (nothing_wanted false false _ passed) in
@@ -304,7 +304,7 @@ rewrite_known = record {
       (also (flag_sound _ _ (codes "true") refl refl refl refl)
       (also (flag_sound _ _ (codes "true") refl refl refl refl)
       (also (flag_sound _ _ (codes "true") refl refl refl refl) (also (value_sound _ _ refl refl refl)
-      (also (help_sound _ _ refl refl) tt)))))))))))))))));
+      (also (value_sound _ _ refl refl refl) (also (value_sound _ _ refl refl refl) (also (help_sound _ _ refl refl) tt)))))))))))))))))));
   numbers = λ rows name fit passed. other_name (codes "rewrite") refl name;
 }
 
@@ -317,7 +317,7 @@ to_pcm_known = record {
       (also (flag_sound _ _ (codes "true") refl refl refl refl) (also (value_sound _ _ refl refl refl)
       (also (flag_sound _ _ (codes "true") refl refl refl refl)
       (also (flag_sound _ _ (codes "true") refl refl refl refl) (also (value_sound _ _ refl refl refl)
-      (also (help_sound _ _ refl refl) tt)))))))));
+      (also (value_sound _ _ refl refl refl) (also (value_sound _ _ refl refl refl) (also (help_sound _ _ refl refl) tt)))))))))));
   numbers = λ rows name fit passed. other_name (codes "to-pcm") refl name;
 }
 
@@ -327,8 +327,8 @@ to_bits_known = record {
       also (flag_sound _ _ (codes "true") refl refl refl refl)
       (also (flag_sound _ _ (codes "true") refl refl refl refl)
       (also (flag_sound _ _ (codes "true") refl refl refl refl) (also (value_sound _ _ refl refl refl)
-      (also (value_sound _ _ refl refl refl) (also (value_sound _ _ refl refl refl) (also (help_sound _ _ refl refl)
-      tt))))));
+      (also (value_sound _ _ refl refl refl) (also (value_sound _ _ refl refl refl) (also (value_sound _ _ refl refl refl) (also (value_sound _ _ refl refl refl) (also (help_sound _ _ refl refl)
+      tt))))))));
   numbers = λ rows name fit passed. other_name (codes "to-bits") refl name;
 }
 
@@ -340,8 +340,8 @@ from_pcm_known = record {
       (also (values_sound _ _ refl refl refl) (also (values_sound _ _ refl refl refl)
       (also (values_sound _ _ refl refl refl) (also (flag_sound _ _ (codes "true") refl refl refl refl)
       (also (flag_sound _ _ (codes "true") refl refl refl refl) (also (value_sound _ _ refl refl refl)
-      (also (value_sound _ _ refl refl refl) (also (value_sound _ _ refl refl refl) (also (help_sound _ _ refl refl)
-      tt))))))))))));
+      (also (value_sound _ _ refl refl refl) (also (value_sound _ _ refl refl refl) (also (value_sound _ _ refl refl refl) (also (value_sound _ _ refl refl refl) (also (help_sound _ _ refl refl)
+      tt))))))))))))));
   numbers = λ rows name fit passed. other_name (codes "from-pcm") refl name;
 }
 
@@ -351,8 +351,8 @@ to_wav_known = record {
       also (flag_sound _ _ (codes "true") refl refl refl refl)
       (also (flag_sound _ _ (codes "true") refl refl refl refl)
       (also (flag_sound _ _ (codes "true") refl refl refl refl) (also (value_sound _ _ refl refl refl)
-      (also (value_sound _ _ refl refl refl) (also (value_sound _ _ refl refl refl) (also (help_sound _ _ refl refl)
-      tt))))));
+      (also (value_sound _ _ refl refl refl) (also (value_sound _ _ refl refl refl) (also (value_sound _ _ refl refl refl) (also (value_sound _ _ refl refl refl) (also (help_sound _ _ refl refl)
+      tt))))))));
   numbers = λ rows name fit passed. other_name (codes "to-wav") refl name;
 }
 
@@ -365,7 +365,7 @@ from_wav_known = record {
       (also (values_sound _ _ refl refl refl) (also (values_sound _ _ refl refl refl)
       (also (values_sound _ _ refl refl refl) (also (flag_sound _ _ (codes "true") refl refl refl refl)
       (also (flag_sound _ _ (codes "true") refl refl refl refl) (also (value_sound _ _ refl refl refl)
-      (also (value_sound _ _ refl refl refl) (also (help_sound _ _ refl refl) tt))))))))))))));
+      (also (value_sound _ _ refl refl refl) (also (value_sound _ _ refl refl refl) (also (value_sound _ _ refl refl refl) (also (help_sound _ _ refl refl) tt))))))))))))))));
   numbers = λ rows name fit passed. other_name (codes "from-wav") refl name;
 }
 

@@ -51,6 +51,7 @@ use Rattle.aes3_wave.specs.declared.written.Depth.TheVariants.{Sixteen, TwentyFo
 use Rattle.aes3_forms_words.specs.declared.form.Words.{Words}
 use Rattle.aes3_forms_words.specs.declared.form.Words.TheVariants as word_form
 use Rattle.aes3_cli.specs.CommandLine.{command_line, most_cells, most_frames, most_seconds}
+use Rattle.aes3_cli.specs.Options.{file_by, output_by}
 use Rattle.aes3_cli.specs.Wording.{EndsWithUsage, usage_end, usage_of}
 use Rattle.aes3_cli_arguments.specs.Explained.{AsksToExplain, IsExplanation}
 use Rattle.aes3_cli_arguments.specs.StatusTexts.{status_in}
@@ -64,7 +65,7 @@ use Rattle.aes3_cli_arguments.specs.declared.layout.Octets.{Octets}
 use Rattle.aes3_cli_arguments.specs.declared.misuse.Misuse.{Misuse}
 use Rattle.aes3_cli_arguments.specs.declared.misuse.Misuse.TheVariants.{TwoForms, NoCellsPacked, TwoPeriods, NoRate}
 use Rattle.aes3_cli_arguments.specs.declared.misuse.Misuse.TheVariants.{UnknownBits, UnknownFilling, FillsValidSamples, ExactAndOthers}
-use Rattle.aes3_cli_arguments.specs.declared.misuse.Misuse.TheVariants.{MarkedUnfilled}
+use Rattle.aes3_cli_arguments.specs.declared.misuse.Misuse.TheVariants.{MarkedUnfilled, TwoFiles}
 use Rattle.aes3_cli_arguments.specs.declared.misuse.Misuse.TheVariants.{UnknownDepth, UnknownUse, PresetBesideUse, UnknownChannels, UnknownMono}
 use Rattle.aes3_cli_arguments.specs.declared.preset.Beginning.{Beginning}
 use Rattle.aes3_cli_arguments.specs.declared.preset.Beginning.TheVariants.{OfEachBlock, Unclaimed}
@@ -627,6 +628,10 @@ abbrev pub has_unknown_mono : Options → Bool
 has_unknown_mono options =
     option_map_or (λ text. not (is_some (mono_in text))) (first_of (codes "mono") options) false
 
+-- the file that is read is named twice
+abbrev pub has_two_files : Options → Bool
+has_two_files options = is_some (first_of (codes "FILE") options) && is_some (first_of (codes "input") options)
+
 -- what is wrong with options, of more the first
 abbrev pub misuse_by : Options → Option Misuse
 misuse_by options =
@@ -649,6 +654,7 @@ misuse_by options =
     else if has_preset_beside_use options then Some PresetBesideUse
     else if has_unknown_channels options then Some UnknownChannels
     else if has_unknown_mono options then Some UnknownMono
+    else if has_two_files options then Some TwoFiles
     else None
 
 -- ---- settings as they were typed
@@ -676,18 +682,15 @@ HaveOctets words octets = (name : Text) × (options : Options) × StandsIn words
 
 -- ---- the input
 
--- the name of a file; a minus sign alone is none
-abbrev pub named_file : Text → Option Text
-named_file text = if bytes_eq text (codes "-") then None else Some text
-
--- the file that the options name
-abbrev pub file_by : Options → Option Text
-file_by options = option_and_then named_file (first_of (codes "FILE") options)
-
 -- the command that stands in the words reads this file, in place of standard input
 abbrev pub ReadsFile : List Text → Text → Type 0
 ReadsFile words file = (name : Text) × (options : Options) × StandsIn words name options
     × (file_by options ≡ Some file)
+
+-- the command that stands in the words writes this file, in place of standard output
+abbrev pub WritesFile : List Text → Text → Type 0
+WritesFile words file = (name : Text) × (options : Options) × StandsIn words name options
+    × (output_by options ≡ Some file)
 
 -- ---- refusals
 
@@ -803,6 +806,7 @@ misuse_line PresetBesideUse = codes
 misuse_line UnknownChannels = codes
     "error: invalid value for '--channels <A,B>': it is two numbers from 1 on with a comma between them, as '1,2'"
 misuse_line UnknownMono = codes "error: invalid value for '--mono <both|first>': it is 'both' or 'first'"
+misuse_line TwoFiles = codes "error: the argument '--input <FILE>' cannot be used with '[FILE]'"
 misuse_line UnknownFormat =
     codes "error: invalid value for '--pcm <s32|s24|s24in32|s16>': it is 's32', 's24', 's24in32' or 's16'"
 

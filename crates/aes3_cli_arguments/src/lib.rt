@@ -44,7 +44,7 @@ mod wave;
 mod words;
 
 pub use explain::{advice, asks_to_explain, explanation};
-pub use file::file_of_line;
+pub use file::{file_of_line, output_of_line};
 pub use job::LineFault;
 pub use layout::Octets;
 pub use line::{CommandLine, job_of_words, line_of_words};

@@ -5,19 +5,19 @@ ghost use Rattle.std.specs.Option.{option_map};
 ghost use Rattle.clap.specs.Values.{kind_of};
 ghost use Rattle.aes3_cli_arguments.specs.Jobs.{AreBadOptionsOf, AreOctets, AreTyped, AsksFor, HaveOctets, HaveTyped};
 ghost use Rattle.aes3_cli_arguments.specs.Jobs.{IsFaultOf, IsJobOf};
-ghost use Rattle.aes3_cli_arguments.specs.Jobs.{IsLineFaultOf, IsLineOf, ReadsFile, StandsIn, Tells, TellsUsage, file_by};
+ghost use Rattle.aes3_cli.specs.Options.{file_by, output_by};
+ghost use Rattle.aes3_cli_arguments.specs.Jobs.{IsLineFaultOf, IsLineOf, ReadsFile, StandsIn, Tells, TellsUsage, WritesFile};
 ghost use Rattle.aes3_cli_arguments.specs.Jobs.{first_word, options_of};
 ghost use Rattle.aes3_cli_arguments.specs.Explained.{IsExplanation};
 
 use crate::explain::{asks_to_explain, explained_number, explanation};
-use crate::file::file;
 use crate::job::{LineFault, job_of_command};
 use crate::layout::{Octets, octets_of_options};
 use crate::misuse::{misuse_fault, misuse_of_options};
 use crate::typed::typed;
 use aes3_cell::RunError;
-use aes3_cli::command_line;
 use aes3_cli::wording::{own_text, usage_of};
+use aes3_cli::{command_line, file_of_options, output_of_options};
 use aes3_cli_jobs::Job;
 use aes3_status_text::TypedSettings;
 use clap::error::ErrorKind;
@@ -36,6 +36,9 @@ pub struct CommandLine<'a> {
     /// The name of the file that is read in place of standard input; none where the words name none,
     /// or name it `-`.
     pub file: Option<&'a str>,
+    /// The name of the file that is written in place of standard output; none where the words name none,
+    /// or name it `-`.
+    pub output: Option<&'a str>,
 }
 
 /// What a command line without the program's name asks for. It reads no input.
@@ -54,6 +57,10 @@ pub fn line_of_words<'a>(alloc: Global, words: &'a [&'a str]) -> Result<CommandL
         (λ name. ReadsFile (map (λ word. word.now) words.now) name.now)) }
     ensures standard { IfOk result (λ line. line.file ≡ None → (name : List ℕ)
         → ¬ ReadsFile (map (λ word. word.now) words.now) name) }
+    ensures output { IfOk result (λ line. IfSome line.output
+        (λ name. WritesFile (map (λ word. word.now) words.now) name.now)) }
+    ensures standard_output { IfOk result (λ line. line.output ≡ None → (name : List ℕ)
+        → ¬ WritesFile (map (λ word. word.now) words.now) name) }
     ensures fault { IfErr result (IsFaultOf (map (λ word. word.now) words.now)) }
 {
     if asks_to_explain(words) {
@@ -96,6 +103,10 @@ fn plain_line<'a>(alloc: Global, words: &'a [&'a str]) -> Result<CommandLine<'a>
         (λ name. ReadsFile (map (λ word. word.now) words.now) name.now)) }
     ensures standard { IfOk result (λ line. line.file ≡ None → (name : List ℕ)
         → ¬ ReadsFile (map (λ word. word.now) words.now) name) }
+    ensures output { IfOk result (λ line. IfSome line.output
+        (λ name. WritesFile (map (λ word. word.now) words.now) name.now)) }
+    ensures standard_output { IfOk result (λ line. line.output ≡ None → (name : List ℕ)
+        → ¬ WritesFile (map (λ word. word.now) words.now) name) }
     ensures fault { IfErr result (IsLineFaultOf (map (λ word. word.now) words.now)) }
 {
     let command = command_line(alloc)?;
@@ -154,6 +165,8 @@ fn line_of_command<'a>(
     ensures octets { IfOk result (λ line. AreOctets (options_of options.now) line.octets) }
     ensures file { IfOk result (λ line. option_map (λ name. name.now) line.file
         ≡ file_by (options_of options.now)) }
+    ensures output { IfOk result (λ line. option_map (λ name. name.now) line.output
+        ≡ output_by (options_of options.now)) }
     ensures fault { IfErr result (AreBadOptionsOf name.now (options_of options.now)) }
 {
     if let Some(misuse) = misuse_of_options(options) {
@@ -165,6 +178,7 @@ fn line_of_command<'a>(
         job,
         typed,
         octets: octets_of_options(options),
-        file: file(options),
+        file: file_of_options(options),
+        output: output_of_options(options),
     })
 }

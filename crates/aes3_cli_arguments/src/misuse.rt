@@ -4,7 +4,7 @@ ghost use Rattle.std.specs.Prelude.{◌≡◌, IfOk};
 ghost use Rattle.aes3_cli_arguments.specs.Jobs.{AreTaken, TellsMisuse, has_no_cells_packed, has_no_rate};
 ghost use Rattle.aes3_cli_arguments.specs.Jobs.{has_two_forms, has_two_periods, has_unknown_bits, misuse_by};
 ghost use Rattle.aes3_cli_arguments.specs.Jobs.{fills_valid_samples, has_exact_and_others, has_two_details};
-ghost use Rattle.aes3_cli_arguments.specs.Jobs.{has_marked_unfilled};
+ghost use Rattle.aes3_cli_arguments.specs.Jobs.{has_marked_unfilled, has_two_files};
 ghost use Rattle.aes3_cli_arguments.specs.Jobs.{misuse_line, misuse_text, options_of};
 
 use crate::carried::bits_of_text;
@@ -66,6 +66,8 @@ pub(crate) enum Misuse {
     UnknownChannels,
     /// `--mono` with what there is none of.
     UnknownMono,
+    /// `--input` beside a FILE.
+    TwoFiles,
 }
 
 /// What is wrong with the options, the first of it where there is more.
@@ -111,6 +113,8 @@ pub(crate) fn misuse_of_options(options: &ArgMatches<'_>) -> Option<Misuse>
         Some(Misuse::UnknownChannels)
     } else if has_unknown_mono(options) {
         Some(Misuse::UnknownMono)
+    } else if has_two_files(options) {
+        Some(Misuse::TwoFiles)
     } else {
         None
     }
@@ -194,6 +198,13 @@ fn has_two_details(options: &ArgMatches<'_>) -> bool
     flag(options, "names") && (flag(options, "at") || flag(options, "more"))
 }
 
+/// Whether the file that is read is named twice.
+fn has_two_files(options: &ArgMatches<'_>) -> bool
+    ensures { result ≡ has_two_files (options_of options.now) }
+{
+    options.get_str("FILE").is_some() && options.get_str("input").is_some()
+}
+
 /// What is told of it, where the options are those of the command of this name.
 pub(crate) fn misuse_fault(alloc: Global, name: &str, misuse: Misuse) -> LineFault
     ensures { TellsMisuse name.now misuse result }
@@ -268,6 +279,7 @@ fn misuse_line(misuse: Misuse) -> &'static str
         Misuse::UnknownMono => {
             "error: invalid value for '--mono <both|first>': it is 'both' or 'first'"
         }
+        Misuse::TwoFiles => "error: the argument '--input <FILE>' cannot be used with '[FILE]'",
         Misuse::UnknownFormat => {
             "error: invalid value for '--pcm <s32|s24|s24in32|s16>': it is 's32', 's24', 's24in32' or 's16'"
         }

@@ -83,6 +83,17 @@ impl<T: Sink + Drop> Hints<T> {
         self.names_file = true;
     }
 
+    /// Takes it that a file is written in place of standard output.
+    pub fn writes_file(&mut self)
+        ensures sink { self.new.sink ≡ self.old.sink }
+        ensures output { IsFalse self.new.terminals.output }
+        ensures errors { self.new.terminals.errors ≡ self.old.terminals.errors }
+        ensures job { self.new.job ≡ self.old.job }
+        ensures refusal { self.new.refusal ≡ self.old.refusal }
+    {
+        self.terminals.output = false;
+    }
+
     /// Watches this source for them, where there is a person to tell or a file is named.
     pub fn watch<S: Source + Drop>(&self, source: S) -> Watched<S>
         ensures { result.source ≡ source }

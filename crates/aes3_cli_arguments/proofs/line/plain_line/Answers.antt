@@ -4,7 +4,7 @@ use Rattle.clap.specs.Faults.{fault_of, is_simple_and_free}
 use Rattle.clap.specs.Kinds.{HasKind}
 use Rattle.clap.specs.Simple.{App, HasMatchesOf}
 use Rattle.aes3_cli_arguments.specs.Jobs.{StandsIn, options_of}
-use Rattle.aes3_cli_arguments.proofs.Files.{none_read, some_read}
+use Rattle.aes3_cli_arguments.proofs.Files.{none_read, none_written, some_read, some_written}
 use Rattle.aes3_cli_arguments.proofs.LineAnswers.{bad_option_told, command_stands, error_told, line_is_free}
 use Rattle.aes3_cli_arguments.proofs.line.plain_line.Goals as goal
 
@@ -71,6 +71,20 @@ returns-in-Some-clause-standard c =
     IfOk-weaker c.line_of_command.result _ _
     (λ line is. none_read words c.in-Some.name.now (options_of c.in-Some.options.now) line.file (stood c) is)
     c.line_of_command.ensures.file
+
+pub returns-in-Some-clause-output : goal.returns-in-Some-clause-output
+returns-in-Some-clause-output c =
+    let words = map (λ word. word.now) c.args.words.now in
+    IfOk-weaker c.line_of_command.result _ _
+    (λ line is. some_written words c.in-Some.name.now (options_of c.in-Some.options.now) line.output (stood c) is)
+    c.line_of_command.ensures.output
+
+pub returns-in-Some-clause-standard_output : goal.returns-in-Some-clause-standard_output
+returns-in-Some-clause-standard_output c =
+    let words = map (λ word. word.now) c.args.words.now in
+    IfOk-weaker c.line_of_command.result _ _
+    (λ line is. none_written words c.in-Some.name.now (options_of c.in-Some.options.now) line.output (stood c) is)
+    c.line_of_command.ensures.output
 
 pub returns-in-Some-clause-fault : goal.returns-in-Some-clause-fault
 returns-in-Some-clause-fault c =

@@ -1,0 +1,187 @@
+//! Standard output, or the file that a command line names in its place.
+
+use aes3_cell::StdSource;
+use aes3_wave::{Depth, header_of};
+use aes3_wave_runs::read_header;
+use std::alloc::AllocError;
+use std::cell::Cell;
+use std::fs::{self, File, OpenOptions};
+use std::io::{self, Error, ErrorKind, StdoutLock, Write};
+
+/// How many octets a header has at most that the program writes.
+const HEADER_MOST: u64 = 4096;
+
+/// The file that a command line names for its output.
+#[derive(Drop)]
+pub struct OutputFile {
+    name: String,
+    /// The name that it has until it is whole; none where the name is that of something else than a file,
+    /// such as a pipe, a device or a link.
+    part: Option<String>,
+}
+
+impl OutputFile {
+    /// The file of this name.
+    ///
+    /// # Errors
+    /// Memory was refused.
+    pub fn new(rt: &HostRuntime, name: &str) -> Result<Self, AllocError> {
+        let is_file = match fs::symlink_metadata(rt, name) {
+            Ok(kept) => kept.is_file(),
+            Err(_) => true,
+        };
+        let part = if is_file {
+            Some(joined(rt, name, ".part")?)
+        } else {
+            None
+        };
+        Ok(OutputFile {
+            name: joined(rt, name, "")?,
+            part,
+        })
+    }
+
+    /// The same where a name is given.
+    ///
+    /// # Errors
+    /// Memory was refused.
+    pub fn named(rt: &HostRuntime, name: Option<&str>) -> Result<Option<Self>, AllocError> {
+        match name {
+            Some(name) => match OutputFile::new(rt, name) {
+                Ok(file) => Ok(Some(file)),
+                Err(error) => Err(error),
+            },
+            None => Ok(None),
+        }
+    }
+
+    /// The name under which it is written.
+    fn written_name(&self) -> &str {
+        match &self.part {
+            Some(part) => part.as_str(),
+            None => self.name.as_str(),
+        }
+    }
+
+    /// Gives the file its name where the run is done, by its exit status, and removes it where the run was
+    /// refused. The header of a WAV file of this depth first gets the lengths.
+    ///
+    /// # Errors
+    /// What the system says. Then the file is removed.
+    pub fn finish(&self, rt: &HostRuntime, status: u8, depth: Option<Depth>) -> io::Result<()> {
+        let Some(part) = &self.part else {
+            return Ok(());
+        };
+        let kept = if status > 1 {
+            fs::remove_file(rt, part.as_str()).unwrap_or(());
+            return Ok(());
+        } else {
+            self.keep(rt, part.as_str(), depth)
+        };
+        if kept.is_err() {
+            fs::remove_file(rt, part.as_str()).unwrap_or(());
+        }
+        kept
+    }
+
+    /// Gives the file its name, with the lengths in the header of a WAV file.
+    fn keep(&self, rt: &HostRuntime, part: &str, depth: Option<Depth>) -> io::Result<()> {
+        if let Some(depth) = depth {
+            put_lengths(rt, part, depth)?;
+        }
+        fs::rename(rt, part, self.name.as_str())
+    }
+}
+
+/// A text with an end.
+fn joined(rt: &HostRuntime, text: &str, end: &str) -> Result<String, AllocError> {
+    let mut joined = String::new(rt.alloc());
+    joined.push_str(text)?;
+    joined.push_str(end)?;
+    Ok(joined)
+}
+
+/// Writes the header of a WAV file again, with the lengths. It is as long as the one without them.
+fn put_lengths(rt: &HostRuntime, name: &str, depth: Depth) -> io::Result<()> {
+    let file = File::open(rt, name)?;
+    let len = file.metadata()?.len();
+    let header = match read_header(&mut StdSource::new(file), HEADER_MOST) {
+        Ok(header) => header,
+        Err(_) => return Err(Error::from(ErrorKind::InvalidData)),
+    };
+    let samples = len.saturating_sub(header.start).min(i64::MAX as u64);
+    let octets = header_of(depth, header.format.rate, Some(samples));
+    let mut file = OpenOptions::new().write(true).open(rt, name)?;
+    file.write_all(octets.as_slice())
+}
+
+/// What a program writes.
+#[derive(Drop)]
+pub struct Output<'a> {
+    to: Place,
+    /// Why the system did not write on, or did not make the file.
+    trouble: &'a Cell<Option<Error>>,
+}
+
+/// Where it writes to.
+#[derive(Drop)]
+enum Place {
+    /// Standard output.
+    Standard(StdoutLock<'static>),
+    /// The file that the command line names.
+    File(File),
+    /// It names one that can't be made.
+    Unmade(Error),
+}
+
+impl<'a> Output<'a> {
+    /// The file, made, or standard output where there is none. What the system says of a failure is put
+    /// into `trouble`.
+    pub fn new(
+        rt: &HostRuntime,
+        file: Option<&OutputFile>,
+        trouble: &'a Cell<Option<Error>>,
+    ) -> Self {
+        let to = match file {
+            None => Place::Standard(rt.stdout().lock()),
+            Some(file) => match File::create(rt, file.written_name()) {
+                Ok(file) => Place::File(file),
+                Err(error) => Place::Unmade(error),
+            },
+        };
+        Output { to, trouble }
+    }
+
+    /// Notes a failure of the system.
+    fn note(&self, error: Error) {
+        if !matches!(error.kind(), ErrorKind::Interrupted) {
+            self.trouble.set(Some(error));
+        }
+    }
+}
+
+impl Write for Output<'_> {
+    fn write(&mut self, buf: &[u8]) -> io::Result<usize> {
+        let written = match &mut self.to {
+            Place::Standard(output) => return output.write(buf),
+            Place::File(file) => file.write(buf),
+            Place::Unmade(error) => Err(*error),
+        };
+        if let Err(error) = written {
+            self.note(error);
+        }
+        written
+    }
+
+    fn flush(&mut self) -> io::Result<()> {
+        let flushed = match &mut self.to {
+            Place::Standard(output) => return output.flush(),
+            Place::File(file) => file.flush(),
+            Place::Unmade(error) => Err(*error),
+        };
+        if let Err(error) = flushed {
+            self.note(error);
+        }
+        flushed
+    }
+}
