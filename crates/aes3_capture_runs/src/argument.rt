@@ -1,0 +1,96 @@
+//! The options and values that the program takes, each with its line of help.
+
+ghost use Rattle.aes3_cli.specs.CommandLine.{IsOption, flag, text_option};
+ghost use Rattle.aes3_capture_runs.specs.CellsLine.{rule};
+
+use clap::{Arg, ArgAction};
+use std::alloc::Global;
+
+/// An option or a value that the program takes.
+#[derive(Clone, Copy)]
+pub(crate) enum Argument {
+    /// `--rate HZ`: how many samples come in a second.
+    Rate,
+    /// `--at HZ`: the line's sampling frequency.
+    At,
+    /// `--unit OCTETS`: how many octets a sample has.
+    Unit,
+    /// `--bit BIT`: the line's bit in a sample.
+    Bit,
+    /// `--packed-out`: the cells that are written are packed.
+    PackedOut,
+    /// `--tell`: what was found is told on the way.
+    Tell,
+    /// The name of the file that is read in place of standard input.
+    File,
+}
+
+/// All of them, in the order in which help lists them.
+pub(crate) const ARGUMENTS: [Argument; 7] = [
+    Argument::Rate,
+    Argument::At,
+    Argument::Unit,
+    Argument::Bit,
+    Argument::PackedOut,
+    Argument::Tell,
+    Argument::File,
+];
+
+impl Argument {
+    /// Its definition, with its line of help.
+    pub(crate) fn define<'a>(self, alloc: Global) -> Arg<'a>
+        ensures { IsOption (rule self) result }
+    {
+        match self {
+            Argument::Rate => number(alloc, "rate", "HZ", "Samples a second"),
+            Argument::At => {
+                number(
+                    alloc,
+                    "at",
+                    "HZ",
+                    "The line's sampling frequency; wants --rate",
+                )
+            }
+            Argument::Unit => {
+                number(
+                    alloc,
+                    "unit",
+                    "OCTETS",
+                    "Octets a sample, 1 or 2; 1 if not given",
+                )
+            }
+            Argument::Bit => number(alloc, "bit", "BIT", "The line's bit in a sample"),
+            Argument::PackedOut => flag(alloc, "packed-out", "Write packed cells, eight an octet"),
+            Argument::Tell => {
+                flag(
+                    alloc,
+                    "tell",
+                    "Tell once a second what was found; wants --rate",
+                )
+            }
+            Argument::File => Arg::new(alloc, "FILE").help(
+                "The samples; standard input if it is not given, or `-`",
+            ),
+        }
+    }
+}
+
+/// The flag `--name`.
+fn flag<'a>(alloc: Global, name: &'a str, help: &'a str) -> Arg<'a>
+    ensures { IsOption (flag name.now) result }
+{
+    Arg::new(alloc, name)
+        .long(name)
+        .action(ArgAction::SetTrue)
+        .help(help)
+}
+
+/// The option `--name` with a value.
+fn number<'a>(alloc: Global, name: &'a str, value: &'a str, help: &'a str) -> Arg<'a>
+    ensures { IsOption (text_option name.now) result }
+{
+    Arg::new(alloc, name)
+        .long(name)
+        .value_name(value)
+        .help(help)
+}

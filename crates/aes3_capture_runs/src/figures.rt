@@ -1,0 +1,284 @@
+//! The lines that say what was found, or that no line was.
+
+ghost use Rattle.std.specs.Prelude.{◌≡◌, ◌++◌, IfOk, decimal};
+ghost use Rattle.aes3_capture_runs.specs.Lines.{IsFiguresLine, IsFoundLine, IsFoundText, IsMean, cells_text};
+ghost use Rattle.aes3_capture_runs.specs.Lines.{dead_text, distance_of, distance_text, doubt_text, edges_text};
+ghost use Rattle.aes3_capture_runs.specs.Lines.{found_behind, frequency_text, latest_text, lost_text, no_line_text};
+ghost use Rattle.aes3_capture_runs.specs.Lines.{no_line_yet_text, period_text, reason_text, thousandths, was_lost};
+
+use aes3_capture_recovery::Figures;
+use itoa::Buffer;
+use std::alloc::{AllocError, Global};
+
+/// Appends a number in decimal.
+fn add_number(text: &mut String, number: u64) -> Result<(), AllocError>
+    ensures { IfOk result (λ _. text.new.bytes.items ≡ text.old.bytes.items ++ decimal number) }
+{
+    text.push_str(Buffer::new().format(number))
+}
+
+/// Appends a number of so many thousandths.
+fn add_thousandths(text: &mut String, number: u64) -> Result<(), AllocError>
+    ensures { IfOk result (λ _. text.new.bytes.items ≡ text.old.bytes.items ++ thousandths number) }
+{
+    add_number(text, number / 1000)?;
+    text.push_str(".")?;
+    add_number(text, number / 100 % 10)?;
+    add_number(text, number / 10 % 10)?;
+    add_number(text, number % 10)
+}
+
+/// Appends the line's sampling frequency, where the samples' rate is known.
+fn add_frequency(text: &mut String, rate: Option<u64>, period: u64) -> Result<(), AllocError>
+    ensures { IfOk result (λ _. text.new.bytes.items
+        ≡ text.old.bytes.items ++ frequency_text rate period) }
+{
+    let Some(rate) = rate else {
+        return Ok(());
+    };
+    text.push_str(", ")?;
+    add_number(text, rate.saturating_mul(512) / period.max(256))?;
+    text.push_str(" Hz")
+}
+
+/// Appends how long a cell is, and the line's sampling frequency.
+fn add_period(text: &mut String, rate: Option<u64>, period: u64) -> Result<(), AllocError>
+    ensures { IfOk result (λ _. text.new.bytes.items
+        ≡ text.old.bytes.items ++ period_text rate period) }
+{
+    add_thousandths(text, period.max(256).saturating_mul(1000) / 65_536)?;
+    text.push_str(" samples a cell")?;
+    add_frequency(text, rate, period)
+}
+
+/// How far an edge was from its place at most, in thousandths of a cell.
+fn distance_of(figures: &Figures) -> u64
+    ensures { result ≡ distance_of figures.now }
+{
+    figures.greatest.saturating_mul(1000) / (figures.period.max(256) / 256)
+}
+
+/// The root of the mean of the squares of these distances, in thousandths of a cell.
+fn mean_of(figures: &Figures) -> u64
+    ensures { IsMean figures.now result }
+{
+    let unit = figures.period.max(256) / 256;
+    let square = (figures.squares / figures.edges.max(1)).saturating_mul(1_000_000);
+    (square / unit.saturating_mul(unit).max(1)).isqrt()
+}
+
+/// Appends how far edges were from their places, in mean and at most.
+fn add_edges(text: &mut String, figures: &Figures, mean: u64) -> Result<(), AllocError>
+    ensures { IfOk result (λ _. text.new.bytes.items
+        ≡ text.old.bytes.items ++ edges_text figures.now mean) }
+{
+    text.push_str(", edges ")?;
+    add_thousandths(text, mean)?;
+    text.push_str(" of a cell rms, ")?;
+    add_thousandths(text, distance_of(figures))?;
+    text.push_str(" at most")
+}
+
+/// Appends from where on the line was dead the last time, if it was.
+fn add_latest(text: &mut String, figures: &Figures) -> Result<(), AllocError>
+    ensures { IfOk result (λ _. text.new.bytes.items
+        ≡ text.old.bytes.items ++ latest_text figures.now) }
+{
+    if figures.dead == 0 {
+        return Ok(());
+    }
+    text.push_str(", the latest from sample ")?;
+    add_number(text, figures.dead_at)
+}
+
+/// Appends how often the line was dead, and from where on the last time.
+fn add_dead(text: &mut String, figures: &Figures) -> Result<(), AllocError>
+    ensures { IfOk result (λ _. text.new.bytes.items
+        ≡ text.old.bytes.items ++ dead_text figures.now) }
+{
+    text.push_str(", ")?;
+    add_number(text, figures.dead)?;
+    text.push_str(" dead stretches")?;
+    add_latest(text, figures)
+}
+
+/// Appends how many cells there are, behind the program's name.
+fn add_cells(text: &mut String, figures: &Figures) -> Result<(), AllocError>
+    ensures { IfOk result (λ _. text.new.bytes.items
+        ≡ text.old.bytes.items ++ cells_text figures.now) }
+{
+    text.push_str("aes3-cells: ")?;
+    add_number(text, figures.cells)?;
+    text.push_str(" cells")
+}
+
+/// Appends the line of what was found of a line, for people: the samples a cell, the line's sampling
+/// frequency where the samples' rate is known, how far edges were from their places, of which `mean`
+/// is the mean, and where it was dead last.
+fn add_found(
+    text: &mut String,
+    figures: &Figures,
+    rate: Option<u64>,
+    mean: u64,
+) -> Result<(), AllocError>
+    ensures { IfOk result (λ _. text.new.bytes.items
+        ≡ found_behind text.old.bytes.items figures.now rate mean) }
+{
+    add_cells(text, figures)?;
+    text.push_str(", ")?;
+    add_period(text, rate, figures.period)?;
+    add_edges(text, figures, mean)?;
+    add_dead(text, figures)?;
+    text.push_str(", measured ")?;
+    add_number(text, figures.measured)?;
+    text.push_str(" times\n")
+}
+
+/// The same line alone.
+///
+/// # Errors
+/// Memory was refused.
+fn found_line(alloc: Global, figures: &Figures, rate: Option<u64>) -> Result<String, AllocError>
+    ensures { IfOk result (λ text. IsFoundLine figures.now rate text.bytes.items) }
+{
+    let mut text = String::new(alloc);
+    add_found(&mut text, figures, rate, mean_of(figures))?;
+    Ok(text)
+}
+
+/// How many cells there are while no line was found.
+///
+/// # Errors
+/// Memory was refused.
+fn no_line_yet(alloc: Global, figures: &Figures) -> Result<String, AllocError>
+    ensures { IfOk result (λ text. text.bytes.items ≡ no_line_yet_text figures.now) }
+{
+    let mut text = String::new(alloc);
+    add_cells(&mut text, figures)?;
+    text.push_str(", no line yet\n")?;
+    Ok(text)
+}
+
+/// The line of what was found so far, for people.
+///
+/// # Errors
+/// Memory was refused.
+pub fn figures_line(
+    alloc: Global,
+    figures: &Figures,
+    rate: Option<u64>,
+) -> Result<String, AllocError>
+    ensures { IfOk result (λ text. IsFiguresLine figures.now rate text.bytes.items) }
+{
+    if figures.measured == 0 {
+        no_line_yet(alloc, figures)
+    } else {
+        found_line(alloc, figures, rate)
+    }
+}
+
+/// What was found in all, for people, and why cells are likely to be wrong, where that is so.
+///
+/// # Errors
+/// Memory was refused.
+pub fn found_text(alloc: Global, figures: &Figures, rate: Option<u64>) -> Result<String, AllocError>
+    ensures { IfOk result (λ text. IsFoundText figures.now rate text.bytes.items) }
+{
+    let mut text = found_line(alloc, figures, rate)?;
+    add_doubt(&mut text, figures)?;
+    Ok(text)
+}
+
+/// That no line was found, why, and what to try, for people. Where the samples a cell are given, that
+/// the cells were written by these alone, and whether enough edges came to find a line.
+///
+/// # Errors
+/// Memory was refused.
+pub fn no_line_text(
+    alloc: Global,
+    figures: &Figures,
+    period: Option<u64>,
+    why: &str,
+) -> Result<String, AllocError>
+    ensures { IfOk result (λ text. text.bytes.items ≡ no_line_text figures.now period why.now) }
+{
+    let mut text = String::new(alloc);
+    match period {
+        None => {
+            text.push_str("aes3-cells: no line was found, ")?;
+            text.push_str(why)?;
+            text.push_str(
+                ": try another --bit, --unit 2 for sixteen channels, or --rate with --at\n",
+            )?;
+        }
+        Some(_) => {
+            add_cells(&mut text, figures)?;
+            text.push_str(" were written by --rate and --at, and no measurement confirmed them: ")?;
+            text.push_str(reason_of(figures))?;
+            text.push_str("\n")?;
+        }
+    }
+    Ok(text)
+}
+
+/// Why no measurement confirmed the samples a cell.
+fn reason_of<'a>(figures: &Figures) -> &'a str
+    ensures { result.now ≡ reason_text figures.now }
+{
+    if figures.misses == 0 {
+        "too few edges came to check them, which takes 129 up to the end, or 257 up to a dead stretch"
+    } else {
+        "no line of this rate was found in this bit: try another --bit, --unit 2 for sixteen channels, or another --at"
+    }
+}
+
+/// From which distance of an edge from its place on, in thousandths of a cell, others are likely to
+/// be half a cell away, and counted to the next cell.
+const DOUBTFUL_DISTANCE: u64 = 400;
+
+/// How many cells a line has at least each time that it is measured: those of a block.
+const CELLS_A_MEASUREMENT: u64 = 24_576;
+
+/// Whether a line was measured so often that each time too few cells came for a block.
+fn was_lost(figures: &Figures) -> bool
+    ensures { result ≡ was_lost figures.now }
+{
+    figures.measured > 2 && figures.cells / figures.measured < CELLS_A_MEASUREMENT
+}
+
+/// Appends that the line was lost, and measured so often.
+fn add_lost(text: &mut String, measured: u64) -> Result<(), AllocError>
+    ensures { IfOk result (λ _. text.new.bytes.items ≡ text.old.bytes.items ++ lost_text measured) }
+{
+    text.push_str("aes3-cells: the line was lost and measured anew ")?;
+    add_number(text, measured)?;
+    text.push_str(
+        " times: these cells are likely to be wrong; is it an AES3 line, and sampled often enough?\n",
+    )
+}
+
+/// Appends that an edge was so many thousandths of a cell from its place.
+fn add_distance(text: &mut String, distance: u64) -> Result<(), AllocError>
+    ensures { IfOk result (λ _. text.new.bytes.items ≡ text.old.bytes.items ++ distance_text distance) }
+{
+    text.push_str("aes3-cells: an edge was ")?;
+    add_thousandths(text, distance)?;
+    text.push_str(
+        " of a cell from its place, and 0.5 makes wrong cells: take more samples a second\n",
+    )
+}
+
+/// Appends why cells of a line that was found are likely to be wrong; nothing where nothing speaks for it.
+fn add_doubt(text: &mut String, figures: &Figures) -> Result<(), AllocError>
+    ensures { IfOk result (λ _. text.new.bytes.items ≡ text.old.bytes.items ++ doubt_text figures.now) }
+{
+    if was_lost(figures) {
+        return add_lost(text, figures.measured);
+    }
+    let distance = distance_of(figures);
+    if distance >= DOUBTFUL_DISTANCE {
+        add_distance(text, distance)
+    } else {
+        Ok(())
+    }
+}

@@ -1,0 +1,33 @@
+//! Runs over captures: from the samples of a line, as a logic analyser takes them, to its cells, by
+//! the words of a command line.
+#![tactic(auto)]
+
+/// The options and values that the program takes.
+mod argument;
+/// A job on the file or standard input.
+mod capture;
+/// The lines that say what was found.
+mod figures;
+/// What the program says of itself.
+mod help;
+/// What the words of a command line ask for.
+mod line;
+/// What the first samples tell where no line is found.
+mod look;
+/// What to do with a file that is no capture.
+mod other_file;
+/// A job between its streams, and what is said of it.
+mod run;
+/// How samples lie, and the bit of them that is the line.
+mod samples;
+/// The bit in which the line lies, where none is asked for.
+mod search;
+/// The values of options.
+mod value;
+/// What is wrong with the values of options.
+mod wrong;
+
+pub use capture::run_capture;
+pub use line::{Job, job_of_words};
+pub use look::Look;
+pub use run::{Unread, report_fault, report_unread, run_job};

@@ -1,0 +1,260 @@
+//! What the words of a command line ask for.
+
+ghost use Rattle.std.specs.Prelude.{◌≡◌, [], IfErr, IfOk, None, Some, codes, map};
+ghost use Rattle.aes3_cli.specs.CommandLine.{IsDefinedAs};
+ghost use Rattle.aes3_cli.specs.Options.{options_of};
+ghost use Rattle.clap.specs.Walk.{first_of, one_of};
+ghost use Rattle.aes3_cell.specs.declared.form.Form.TheVariants as form;
+ghost use Rattle.aes3_capture_runs.specs.Asks.{AsksFor, FitTogether, IsChosen, IsJobOf, IsValueBy};
+ghost use Rattle.aes3_capture_runs.specs.Asks.{at_by, octets_by, period_of, rate_by, value_by};
+ghost use Rattle.aes3_capture_runs.specs.CellsLine.{cells_line, line_with};
+ghost use Rattle.aes3_capture_runs.specs.Faults.{AreApart, HasNoValue, IsFaultOf, IsOptionFault, IsWrongWith};
+ghost use Rattle.aes3_capture_runs.specs.Values.{bit_in, frequency_in, octets_in};
+
+use crate::argument::ARGUMENTS;
+use crate::help::{ABOUT, MORE, USAGE, VERSION};
+use crate::value::{bit_of_text, frequency_of_text, octets_of_text, period_of};
+use crate::wrong::{Wrong, wrong_fault};
+use aes3_cell::Form;
+use aes3_cli::{LineFault, file_of_options};
+use clap::{ArgMatches, Command};
+use std::alloc::{AllocError, Global};
+
+/// What a run is to do.
+#[derive(Clone, Copy)]
+pub struct Job<'a> {
+    /// The form of the cells that are written.
+    pub form: Form,
+    /// How many octets a sample has.
+    pub octets: usize,
+    /// In which of its bits the line lies, where that is said.
+    pub bit: Option<u8>,
+    /// Samples a second.
+    pub rate: Option<u64>,
+    /// How long a cell is, in parts of a sample.
+    pub period: Option<u64>,
+    /// How many samples come between two lines of what was found, where it is told on the way.
+    pub tell_each: Option<u64>,
+    /// The name of the file that is read in place of standard input.
+    pub file: Option<&'a str>,
+}
+
+/// The command line.
+fn command_line<'a>(alloc: Global) -> Result<Command<'a>, AllocError>
+    ensures { IfOk result (IsDefinedAs cells_line) }
+{
+    let mut line = program(alloc);
+    for argument in ARGUMENTS.iter() {
+        line = line.arg(argument.define(alloc))?;
+    }
+    Ok(line)
+}
+
+/// The command line that takes no word yet.
+fn program<'a>(alloc: Global) -> Command<'a>
+    ensures { IsDefinedAs (line_with []) result }
+{
+    Command::new(alloc, "aes3-cells")
+        .about(ABOUT)
+        .override_usage(USAGE)
+        .after_help(MORE)
+        .no_binary_name(true)
+        .version(VERSION)
+}
+
+/// What the words ask for, without the program's name. It reads no input.
+///
+/// # Errors
+/// `Usage` where the definitions of the command line don't take the words or a value among them is
+/// wrong, `Help` where they ask for help or the version, and `Memory` where memory was refused.
+pub fn job_of_words<'a>(alloc: Global, words: &'a [&'a str]) -> Result<Job<'a>, LineFault>
+    ensures job { IfOk result (IsJobOf (map (λ word. word.now) words.now)) }
+    ensures fault { IfErr result (IsFaultOf (map (λ word. word.now) words.now)) }
+{
+    let command = command_line(alloc)?;
+    match command.try_get_matches_from(words) {
+        Ok(options) => job_of_options(alloc, &options),
+        Err(error) => Err(LineFault::of_error(alloc, &error, USAGE)),
+    }
+}
+
+/// The job that options ask for.
+///
+/// # Errors
+/// `Usage` where a value of them is wrong, and `Memory` where memory was refused.
+fn job_of_options<'a>(alloc: Global, options: &ArgMatches<'a>) -> Result<Job<'a>, LineFault>
+    ensures job { IfOk result (AsksFor (options_of options.now)) }
+    ensures fault { IfErr result (IsOptionFault (options_of options.now)) }
+{
+    match job_by(options) {
+        Ok(job) => Ok(job),
+        Err(wrong) => Err(wrong_fault(alloc, wrong)),
+    }
+}
+
+/// The same job.
+///
+/// # Errors
+/// What is wrong with the options.
+fn job_by<'a>(options: &ArgMatches<'a>) -> Result<Job<'a>, Wrong>
+    ensures job { IfOk result (AsksFor (options_of options.now)) }
+    ensures wrong { IfErr result (IsWrongWith (options_of options.now)) }
+{
+    let rate = rate(options)?;
+    let at = at(options)?;
+    let octets = octets(options)?;
+    let bit = bit(options, octets)?;
+    want_rate(options)?;
+    let period = period(rate, at)?;
+    Ok(Job {
+        form: form(options),
+        octets,
+        bit,
+        rate,
+        period,
+        tell_each: tell_each(options, rate),
+        file: file_of_options(options),
+    })
+}
+
+/// The form of the cells that are written.
+fn form(options: &ArgMatches<'_>) -> Form
+    ensures { IsChosen (options_of options.now) (codes "packed-out") form.Packed form.Text result }
+{
+    if options.get_flag("packed-out") {
+        Form::Packed
+    } else {
+        Form::Text
+    }
+}
+
+/// How many samples come between two lines of what was found, at this rate.
+fn tell_each(options: &ArgMatches<'_>, rate: Option<u64>) -> Option<u64>
+    ensures { IsChosen (options_of options.now) (codes "tell") rate None result }
+{
+    if options.get_flag("tell") { rate } else { None }
+}
+
+/// The frequency that the option of this name gives, if it stands.
+///
+/// # Errors
+/// Its text is no frequency.
+fn frequency(options: &ArgMatches<'_>, name: &str, wrong: Wrong) -> Result<Option<u64>, Wrong>
+    ensures value { IfOk result (λ _. IsValueBy frequency_in name.now (options_of options.now)) }
+    ensures frequency { IfOk result (λ frequency. frequency
+        ≡ value_by frequency_in name.now (options_of options.now)) }
+    ensures is { IfErr result (λ error. error ≡ wrong) }
+    ensures none { IfErr result (λ _. HasNoValue frequency_in name.now (options_of options.now)) }
+{
+    let Some(text) = options.get_str(name) else {
+        return Ok(None);
+    };
+    match frequency_of_text(text) {
+        Some(frequency) => Ok(Some(frequency)),
+        None => Err(wrong),
+    }
+}
+
+/// How many samples come in a second, where that is said.
+///
+/// # Errors
+/// What is wrong with the option.
+fn rate(options: &ArgMatches<'_>) -> Result<Option<u64>, Wrong>
+    ensures value { IfOk result (λ _. IsValueBy frequency_in (codes "rate") (options_of options.now)) }
+    ensures rate { IfOk result (λ rate. rate ≡ rate_by (options_of options.now)) }
+    ensures wrong { IfErr result (IsWrongWith (options_of options.now)) }
+{
+    frequency(options, "rate", Wrong::Rate)
+}
+
+/// The line's sampling frequency, where that is said.
+///
+/// # Errors
+/// What is wrong with the option.
+fn at(options: &ArgMatches<'_>) -> Result<Option<u64>, Wrong>
+    ensures value { IfOk result (λ _. IsValueBy frequency_in (codes "at") (options_of options.now)) }
+    ensures at { IfOk result (λ at. at ≡ at_by (options_of options.now)) }
+    ensures wrong { IfErr result (IsWrongWith (options_of options.now)) }
+{
+    frequency(options, "at", Wrong::At)
+}
+
+/// How many octets a sample has.
+///
+/// # Errors
+/// What is wrong with the option.
+fn octets(options: &ArgMatches<'_>) -> Result<usize, Wrong>
+    ensures value { IfOk result (λ _. IsValueBy octets_in (codes "unit") (options_of options.now)) }
+    ensures octets { IfOk result (λ octets. octets ≡ octets_by (options_of options.now)) }
+    ensures wrong { IfErr result (IsWrongWith (options_of options.now)) }
+{
+    let Some(text) = options.get_str("unit") else {
+        return Ok(1);
+    };
+    match octets_of_text(text) {
+        Some(octets) => Ok(octets),
+        None => Err(Wrong::Unit),
+    }
+}
+
+/// The bit of samples of so many octets in which the line lies, where that is said.
+///
+/// # Errors
+/// What is wrong with the option.
+fn bit(options: &ArgMatches<'_>, octets: usize) -> Result<Option<u8>, Wrong>
+    requires { octets ≡ octets_by (options_of options.now) }
+    ensures value { IfOk result (λ _. IsValueBy (bit_in (octets_by (options_of options.now))) (codes "bit")
+        (options_of options.now)) }
+    ensures bit { IfOk result (λ bit. bit ≡ value_by (bit_in (octets_by (options_of options.now))) (codes "bit")
+        (options_of options.now)) }
+    ensures wrong { IfErr result (IsWrongWith (options_of options.now)) }
+{
+    let Some(text) = options.get_str("bit") else {
+        return Ok(None);
+    };
+    match bit_of_text(text, octets) {
+        Some(bit) => Ok(Some(bit)),
+        None => Err(Wrong::Bit),
+    }
+}
+
+/// Looks whether `--rate` stands where other options want it.
+///
+/// # Errors
+/// The first option that wants it.
+fn want_rate(options: &ArgMatches<'_>) -> Result<(), Wrong>
+    ensures at { IfOk result (λ _. first_of (codes "rate") (options_of options.now) ≡ None
+        → first_of (codes "at") (options_of options.now) ≡ None) }
+    ensures tell { IfOk result (λ _. first_of (codes "rate") (options_of options.now) ≡ None
+        → one_of (codes "tell") (options_of options.now) ≡ Some (codes "true") → ⊥) }
+    ensures wrong { IfErr result (IsWrongWith (options_of options.now)) }
+{
+    if options.get_str("rate").is_some() {
+        return Ok(());
+    }
+    if options.get_str("at").is_some() {
+        return Err(Wrong::AtAlone);
+    }
+    if options.get_flag("tell") {
+        return Err(Wrong::TellAlone);
+    }
+    Ok(())
+}
+
+/// How long a cell is at this rate and sampling frequency, where both are said.
+///
+/// # Errors
+/// It is too short or too long.
+fn period(rate: Option<u64>, at: Option<u64>) -> Result<Option<u64>, Wrong>
+    ensures fit { IfOk result (λ _. FitTogether rate at) }
+    ensures period { IfOk result (λ period. period ≡ period_of rate at) }
+    ensures wrong { IfErr result (λ error. AreApart rate at error) }
+{
+    let (Some(rate), Some(at)) = (rate, at) else {
+        return Ok(None);
+    };
+    match period_of(rate, at) {
+        Some(period) => Ok(Some(period)),
+        None => Err(Wrong::Period),
+    }
+}
