@@ -1,32 +1,13 @@
 //! The program `aes3-spoil`: the cells of a line, with errors put in on purpose.
 #![tactic(auto)]
 
-/// The options and values that the program takes.
-mod argument;
-/// What the program says of itself.
-mod help;
-/// What the words of a command line ask for.
-mod line;
-/// What to do with an input that was refused.
-mod looks;
-/// Errors by the options that ask for them.
-mod named;
-/// The line of a refusal.
-mod refusal;
-/// A job between its streams, and what is reported of it.
-mod run;
-/// The values of options.
-mod value;
-/// What is wrong with the values of options.
-mod wrong;
-
 ghost use Rattle.std.specs.Prelude.{◌≡◌, ◌<◌, ◌+◌, ◌^◌, IfErr};
 
 use aes3_cell::{BufferedSink, Sink, StdSink, StdSource};
 use aes3_files::{Input, Preview};
-use line::{file_of_line, job_of_words};
-use looks::{advice_on, say_more};
-use run::{Unread, report_unread, run_line};
+use aes3_spoil_runs::{
+    Unread, advice_on, file_of_line, job_of_words, report_unread, run_line, say_more,
+};
 use std::cell::Cell;
 use std::env;
 use std::io::ErrorKind;

@@ -1,0 +1,108 @@
+//! The options and values that the program takes, each with its line of help.
+
+ghost use Rattle.aes3_cli.specs.CommandLine.{IsOption, flag, settings_option};
+ghost use Rattle.aes3_spoil_runs.specs.Faults.{value_name};
+ghost use Rattle.aes3_spoil_runs.specs.SpoilLine.{rule};
+ghost use Rattle.std.specs.Prelude.{◌≡◌};
+
+use crate::named::NamedError;
+use clap::{Arg, ArgAction};
+use std::alloc::Global;
+
+/// An option or a value that the program takes.
+#[derive(Clone, Copy)]
+pub(crate) enum Argument {
+    /// `--packed-in`: the cells that are read are packed.
+    PackedIn,
+    /// `--packed-out`: the cells that are written are packed.
+    PackedOut,
+    /// An error at a place.
+    Named(NamedError),
+    /// `--every N:KIND`: errors that come again and again.
+    Every,
+    /// The name of the file that is read in place of standard input.
+    File,
+}
+
+/// All of them, in the order in which help lists them.
+pub(crate) const ARGUMENTS: [Argument; 12] = [
+    Argument::PackedIn,
+    Argument::PackedOut,
+    Argument::Named(NamedError::Cell),
+    Argument::Named(NamedError::Invert),
+    Argument::Named(NamedError::Lost),
+    Argument::Named(NamedError::Double),
+    Argument::Named(NamedError::Parity),
+    Argument::Named(NamedError::Biphase),
+    Argument::Named(NamedError::Preamble),
+    Argument::Named(NamedError::CheckByte),
+    Argument::Every,
+    Argument::File,
+];
+
+impl Argument {
+    /// Its definition, with its line of help.
+    pub(crate) fn define<'a>(self, alloc: Global) -> Arg<'a>
+        ensures { IsOption (rule self) result }
+    {
+        match self {
+            Argument::PackedIn => flag(alloc, "packed-in", "Read packed cells, eight an octet"),
+            Argument::PackedOut => flag(alloc, "packed-out", "Write packed cells, eight an octet"),
+            Argument::Named(named) => {
+                places(alloc, named.name(), value_name(named), help(named))
+            }
+            Argument::Every => Arg::new(alloc, "every")
+                .long("every")
+                .value_name("N:KIND")
+                .help("Put an error at each N-th cell: cell, invert, drop or double"),
+            Argument::File => Arg::new(alloc, "FILE").help(
+                "What to read, standard input where it is `-` or left out",
+            ),
+        }
+    }
+}
+
+/// The flag `--name`.
+fn flag<'a>(alloc: Global, name: &'a str, help: &'a str) -> Arg<'a>
+    ensures { IsOption (flag name.now) result }
+{
+    Arg::new(alloc, name)
+        .long(name)
+        .action(ArgAction::SetTrue)
+        .help(help)
+}
+
+/// The option `--name` that puts in errors, which may stand more than once.
+fn places<'a>(alloc: Global, name: &'a str, value: &'a str, help: &'a str) -> Arg<'a>
+    ensures { IsOption (settings_option name.now) result }
+{
+    Arg::new(alloc, name)
+        .long(name)
+        .value_name(value)
+        .action(ArgAction::Append)
+        .help(help)
+}
+
+/// What help calls the option's value.
+pub(crate) fn value_name<'a>(named: NamedError) -> &'a str
+    ensures { result.now ≡ value_name named }
+{
+    match named {
+        NamedError::Biphase => "P:SLOT",
+        _ => "P",
+    }
+}
+
+/// The option's line of help.
+fn help<'a>(named: NamedError) -> &'a str {
+    match named {
+        NamedError::Cell => "Turn cell P: it has the other level",
+        NamedError::Invert => "Turn cell P and all behind it",
+        NamedError::Lost => "Leave cell P out",
+        NamedError::Double => "Write cell P twice",
+        NamedError::Parity => "Make the parity of the subframe at cell P wrong",
+        NamedError::Biphase => "Begin time slot SLOT of the subframe at cell P with no change",
+        NamedError::Preamble => "Break the preamble of the subframe at cell P",
+        NamedError::CheckByte => "Make the check byte of the block at cell P wrong, channel 1",
+    }
+}

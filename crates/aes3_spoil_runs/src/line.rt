@@ -1,0 +1,235 @@
+//! What the words of a command line ask for.
+
+ghost use Rattle.std.specs.Prelude.{◌≡◌, ◌++◌, [], IfErr, IfOk, IfSome, None, codes, map};
+ghost use Rattle.std.specs.List.{All, flat_map};
+ghost use Rattle.std.specs.Option.{option_map};
+ghost use Rattle.clap.specs.Walk.{first_of};
+ghost use Rattle.aes3_cli.specs.CommandLine.{IsDefinedAs};
+ghost use Rattle.aes3_cli.specs.Options.{file_by, options_of};
+ghost use Rattle.aes3_spoil.specs.Errors.{errors_of};
+ghost use Rattle.aes3_spoil_runs.specs.Asks.{AreValues, AsksFor, IsEvery, IsFormOf, IsJobOf, IsValue};
+ghost use Rattle.aes3_spoil_runs.specs.Asks.{all_errors, errors_by, errors_in, every_by, named_errors};
+ghost use Rattle.aes3_spoil_runs.specs.Faults.{IsFaultOf, IsOptionFault, IsWrongAfter};
+ghost use Rattle.aes3_spoil_runs.specs.Faults.{IsWrongAt, IsWrongIn, IsWrongWith};
+ghost use Rattle.aes3_spoil_runs.specs.SpoilLine.{line_with, spoil_line};
+
+use crate::argument::ARGUMENTS;
+use crate::help::{ABOUT, MORE, USAGE, VERSION};
+use crate::named::{NAMED, NamedError};
+use crate::value::{every_of_text, spot_of_text};
+use crate::wrong::{Wrong, wrong_fault};
+use aes3_cell::Form;
+use aes3_cli::{LineFault, file_of_options};
+use aes3_spoil::Errors;
+use clap::{ArgMatches, Command};
+use std::alloc::{AllocError, Global};
+
+/// What a run is to do.
+#[derive(Clone, Copy)]
+pub struct Job<'a> {
+    /// The form of the cells that are read.
+    pub input: Form,
+    /// The form of those that are written.
+    pub output: Form,
+    /// The errors that are put in.
+    pub errors: Errors,
+    /// The name of the file that is read in place of standard input; none where the words name none,
+    /// or name it `-`.
+    pub file: Option<&'a str>,
+}
+
+/// The command line.
+fn command_line<'a>(alloc: Global) -> Result<Command<'a>, AllocError>
+    ensures { IfOk result (IsDefinedAs spoil_line) }
+{
+    let mut line = program(alloc);
+    for argument in ARGUMENTS.iter() {
+        line = line.arg(argument.define(alloc))?;
+    }
+    Ok(line)
+}
+
+/// The command line that takes no word yet.
+fn program<'a>(alloc: Global) -> Command<'a>
+    ensures { IsDefinedAs (line_with []) result }
+{
+    Command::new(alloc, "aes3-spoil")
+        .about(ABOUT)
+        .override_usage(USAGE)
+        .after_help(MORE)
+        .no_binary_name(true)
+        .version(VERSION)
+}
+
+/// What the words ask for, without the program's name. It reads no input.
+///
+/// # Errors
+/// `Usage` where the definitions of the command line don't take the words, a value among them is
+/// wrong or they name more than 64 errors, `Help` where they ask for help or the version, and
+/// `Memory` where memory was refused.
+pub fn job_of_words<'a>(alloc: Global, words: &'a [&'a str]) -> Result<Job<'a>, LineFault>
+    ensures job { IfOk result (IsJobOf (map (λ word. word.now) words.now)) }
+    ensures fault { IfErr result (IsFaultOf (map (λ word. word.now) words.now)) }
+{
+    let command = command_line(alloc)?;
+    match command.try_get_matches_from(words) {
+        Ok(options) => job_of_options(alloc, &options),
+        Err(error) => Err(LineFault::of_error(alloc, &error, USAGE)),
+    }
+}
+
+/// The job that options ask for.
+///
+/// # Errors
+/// `Usage` where a value of them is wrong or they name more than 64 errors, and `Memory` where memory
+/// was refused.
+fn job_of_options<'a>(alloc: Global, options: &ArgMatches<'a>) -> Result<Job<'a>, LineFault>
+    ensures job { IfOk result (AsksFor (options_of options.now)) }
+    ensures fault { IfErr result (IsOptionFault (options_of options.now)) }
+{
+    match errors_of_options(options) {
+        Ok(errors) => Ok(job_with(options, errors)),
+        Err(wrong) => Err(wrong_fault(alloc, wrong)),
+    }
+}
+
+/// The job with these errors, in the forms and of the file that the options name.
+fn job_with<'a>(options: &ArgMatches<'a>, errors: Errors) -> Job<'a>
+    ensures errors { result.errors ≡ errors }
+    ensures input { IsFormOf (options_of options.now) (codes "packed-in") result.input }
+    ensures output { IsFormOf (options_of options.now) (codes "packed-out") result.output }
+    ensures file { option_map (λ name. name.now) result.file ≡ file_by (options_of options.now) }
+{
+    Job {
+        input: form(options, "packed-in"),
+        output: form(options, "packed-out"),
+        errors,
+        file: file_of_options(options),
+    }
+}
+
+/// The form of the cells of which a flag speaks.
+fn form(options: &ArgMatches<'_>, flag: &str) -> Form
+    ensures { IsFormOf (options_of options.now) flag.now result }
+{
+    if options.get_flag(flag) {
+        Form::Packed
+    } else {
+        Form::Text
+    }
+}
+
+/// The file that a line's job reads in place of standard input; none where the line asks for no job.
+pub fn file_of_line<'a>(line: &Result<Job<'a>, LineFault>) -> Option<&'a str>
+    ensures job { IfOk line.now (λ job. result ≡ job.file) }
+    ensures fault { IfErr line.now (λ _. result ≡ None) }
+{
+    match line {
+        Ok(job) => job.file,
+        Err(_) => None,
+    }
+}
+
+/// The errors that the options ask for.
+///
+/// # Errors
+/// What is wrong with their values.
+fn errors_of_options<'a>(options: &ArgMatches<'a>) -> Result<Errors, Wrong<'a>>
+    ensures values { IfOk result (λ _. All (AreValues (options_of options.now)) named_errors) }
+    ensures list { IfOk result (λ errors. errors_of errors ≡ all_errors (options_of options.now)) }
+    ensures every_value { IfOk result (λ _. IfSome
+        (first_of (codes "every") (options_of options.now)) IsEvery) }
+    ensures every { IfOk result (λ errors. errors.every ≡ every_by (options_of options.now)) }
+    ensures wrong { IfErr result (IsWrongWith (options_of options.now)) }
+{
+    let mut errors = Errors::new();
+    for named in NAMED.iter() {
+        add_option(&mut errors, *named, options)?;
+    }
+    set_every(&mut errors, options)?;
+    Ok(errors)
+}
+
+/// Adds the errors that an option asks for.
+///
+/// # Errors
+/// What is wrong with its values.
+fn add_option<'a>(
+    errors: &mut Errors,
+    named: NamedError,
+    options: &ArgMatches<'a>,
+) -> Result<(), Wrong<'a>>
+    ensures values { IfOk result (λ _. AreValues (options_of options.now) named) }
+    ensures list { IfOk result (λ _. errors_of errors.new
+        ≡ errors_of errors.old ++ errors_by (options_of options.now) named) }
+    ensures every { errors.new.every ≡ errors.old.every }
+    ensures wrong { IfErr result (IsWrongIn (errors_of errors.old) (options_of options.now) named) }
+{
+    match options.get_strs(named.name()) {
+        Some(texts) => add_texts(errors, named, texts),
+        None => Ok(()),
+    }
+}
+
+/// Adds the errors of an option's values.
+///
+/// # Errors
+/// What is wrong with them.
+fn add_texts<'a>(errors: &mut Errors, named: NamedError, texts: &[&'a str]) -> Result<(), Wrong<'a>>
+    ensures values { IfOk result (λ _. All (IsValue named) (map (λ text. text.now) texts.now)) }
+    ensures list { IfOk result (λ _. errors_of errors.new
+        ≡ errors_of errors.old ++ flat_map (errors_in named) (map (λ text. text.now) texts.now)) }
+    ensures every { errors.new.every ≡ errors.old.every }
+    ensures wrong { IfErr result (IsWrongAfter (errors_of errors.old) named
+        (map (λ text. text.now) texts.now)) }
+{
+    for text in texts.iter() {
+        add_text(errors, named, *text)?;
+    }
+    Ok(())
+}
+
+/// Adds the error of one of them.
+///
+/// # Errors
+/// What is wrong with it.
+fn add_text<'a>(errors: &mut Errors, named: NamedError, text: &'a str) -> Result<(), Wrong<'a>>
+    ensures list { IfOk result (λ _. errors_of errors.new
+        ≡ errors_of errors.old ++ errors_in named text.now) }
+    ensures value { IfOk result (λ _. IsValue named text.now) }
+    ensures every { errors.new.every ≡ errors.old.every }
+    ensures wrong { IfErr result (IsWrongAt (errors_of errors.old) named text.now) }
+{
+    let Some(spot) = spot_of_text(named, text) else {
+        return Err(Wrong::Value { error: named, text });
+    };
+    if named.add(errors, spot) {
+        Ok(())
+    } else {
+        Err(Wrong::TooMany)
+    }
+}
+
+/// Sets the errors that come again and again, where the options ask for some.
+///
+/// # Errors
+/// What is wrong with the value.
+fn set_every<'a>(errors: &mut Errors, options: &ArgMatches<'a>) -> Result<(), Wrong<'a>>
+    requires { errors.old.every ≡ None }
+    ensures value { IfOk result (λ _. IfSome
+        (first_of (codes "every") (options_of options.now)) IsEvery) }
+    ensures list { errors_of errors.new ≡ errors_of errors.old }
+    ensures every { IfOk result (λ _. errors.new.every ≡ every_by (options_of options.now)) }
+    ensures wrong { IfErr result (IsWrongWith (options_of options.now)) }
+{
+    let Some(text) = options.get_str("every") else {
+        return Ok(());
+    };
+    match every_of_text(text) {
+        Some(every) => {
+            errors.set_every(every.cells, every.kind);
+            Ok(())
+        }
+        None => Err(Wrong::Every { text }),
+    }
+}
