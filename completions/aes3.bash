@@ -78,7 +78,7 @@ _aes3() {
         --words) _aes3_words own alsa am824; return ;;
         --pcm) _aes3_words s32 s24 s24in32 s16; return ;;
         --fill) _aes3_words zero hold; return ;;
-        --channels | --every | --every-seconds | --rate | --status1 | --status2) return ;;
+        --channels | --every | --every-seconds | --input | --output | --rate | --status1 | --status2) return ;;
         --explain) _aes3_words 1 2 3 4 5 6 7 8 9 10 11 12 13 14 15; return ;;
     esac
     [ -z "$option" ] || return
@@ -93,21 +93,21 @@ _aes3() {
         decode | normal | check | watch | info | show | scan | rewrite | to-pcm | from-pcm | to-wav | from-wav | to-bits) [[ $typed == -* ]] || { compopt -o default; return; } ;;
     esac
     case ${COMP_WORDS[1]} in
-        encode) _aes3_words --packed-out --lsb-first --words --help ;;
-        decode) _aes3_words --packed-in --raw-in --lsb-first --words --help ;;
-        normal) _aes3_words --packed-in --raw-in --packed-out --lsb-first --help ;;
-        check) _aes3_words --packed-in --raw-in --lsb-first --faults --gaps --help ;;
-        watch) _aes3_words --packed-in --raw-in --lsb-first --json --rate --every --every-seconds --help ;;
-        info) _aes3_words --packed-in --raw-in --lsb-first --json --help ;;
-        show) _aes3_words --packed-in --raw-in --lsb-first --changes --at --more --names --help ;;
-        scan) _aes3_words --packed-in --raw-in --lsb-first --help ;;
-        cut) _aes3_words --packed-in --raw-in --packed-out --lsb-first --help ;;
-        rewrite) _aes3_words --packed-in --raw-in --packed-out --lsb-first --status1 --status2 --preset --set --set1 --set2 --mend-check --valid1 --valid2 --clear-user1 --clear-user2 --exact --help ;;
-        to-pcm) _aes3_words --packed-in --raw-in --lsb-first --pcm --valid --fill --marked --exact --help ;;
-        from-pcm) _aes3_words --status1 --status2 --preset --rate --set --set1 --set2 --mend-check --exact --pcm --words --help ;;
-        to-wav) _aes3_words --packed-in --raw-in --lsb-first --bits --rate --help ;;
-        from-wav) _aes3_words --channels --mono --use --status1 --status2 --preset --rate --set --set1 --set2 --mend-check --exact --words --help ;;
-        to-bits) _aes3_words --packed-in --raw-in --lsb-first --help ;;
+        encode) _aes3_words --packed-out --lsb-first --words --input --output --help ;;
+        decode) _aes3_words --packed-in --raw-in --lsb-first --words --input --output --help ;;
+        normal) _aes3_words --packed-in --raw-in --packed-out --lsb-first --input --output --help ;;
+        check) _aes3_words --packed-in --raw-in --lsb-first --faults --gaps --input --output --help ;;
+        watch) _aes3_words --packed-in --raw-in --lsb-first --json --rate --every --every-seconds --input --output --help ;;
+        info) _aes3_words --packed-in --raw-in --lsb-first --json --input --output --help ;;
+        show) _aes3_words --packed-in --raw-in --lsb-first --changes --at --more --names --input --output --help ;;
+        scan) _aes3_words --packed-in --raw-in --lsb-first --input --output --help ;;
+        cut) _aes3_words --packed-in --raw-in --packed-out --lsb-first --input --output --help ;;
+        rewrite) _aes3_words --packed-in --raw-in --packed-out --lsb-first --status1 --status2 --preset --set --set1 --set2 --mend-check --valid1 --valid2 --clear-user1 --clear-user2 --exact --input --output --help ;;
+        to-pcm) _aes3_words --packed-in --raw-in --lsb-first --pcm --valid --fill --marked --exact --input --output --help ;;
+        from-pcm) _aes3_words --status1 --status2 --preset --rate --set --set1 --set2 --mend-check --exact --pcm --words --input --output --help ;;
+        to-wav) _aes3_words --packed-in --raw-in --lsb-first --bits --rate --input --output --help ;;
+        from-wav) _aes3_words --channels --mono --use --status1 --status2 --preset --rate --set --set1 --set2 --mend-check --exact --words --input --output --help ;;
+        to-bits) _aes3_words --packed-in --raw-in --lsb-first --input --output --help ;;
     esac
 }
 complete -F _aes3 aes3
