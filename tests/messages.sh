@@ -56,7 +56,7 @@ words "error: invalid value '0' for '--every <CELLS>': it is a number of cells, 
 words "error: invalid value '-1' for '--every-seconds <N>': it is a number of seconds, from 1 to 3,600" "$watch" "$aes3" watch --every-seconds=-1
 words "error: invalid value '2' for '--valid1 <0|1>': it is 0 or 1" "aes3 rewrite [OPTIONS] [FILE] > CELLS" "$aes3" rewrite --valid1 2
 words "error: invalid value '3' for '<CHANNEL>': it is 1 or 2" "aes3 to-bits [OPTIONS] <user|validity|status> <1|2> [FILE] > BITS" "$aes3" to-bits user 3
-words "error: unexpected argument '-o' found" "aes3 check [--packed-in|--raw-in] [--lsb-first] [--faults] [--gaps] [FILE]" "$aes3" check -o
+words "error: unexpected argument '-x' found" "aes3 check [--packed-in|--raw-in] [--lsb-first] [--faults] [--gaps] [FILE]" "$aes3" check -x
 words "error: unexpected argument '--gap' found
 
   tip: a similar argument exists: '--gaps'" "aes3 check [--packed-in|--raw-in] [--lsb-first] [--faults] [--gaps] [FILE]" "$aes3" check --gap

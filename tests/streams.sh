@@ -124,7 +124,7 @@ aes3 normal -o "$folder/new" "$folder/refused" 2> "$folder/errors"
 status=$?
 expect "a refusal with a new output file" 3 "aes3: refused 1 at 49920"
 if [ -e "$folder/new" ] || [ -e "$folder/new.part" ]; then wrong "a refusal leaves a file"; else well "a refusal leaves no file"; fi
-sed '1s/^1110/1111/' "$folder/named" > "$folder/faulty"
+sed '200s/^1/0/' "$folder/named" > "$folder/faulty"
 aes3 check "$folder/faulty" > "$folder/wanted"
 aes3 check -o "$folder/out" "$folder/faulty" 2> "$folder/errors"
 status=$?
@@ -302,10 +302,10 @@ for command in check 'check --gaps' watch normal decode show scan to-pcm to-wav 
     # shellcheck disable=SC2086 # a command is several words
     "$program" $command < "$folder/cells" > "$folder/expected" 2>&1
     # shellcheck disable=SC2086
-    if (ulimit -s 512 && ulimit -v 5120 && exec "$program" $command) < "$folder/cells" 2>&1 | cmp -s - "$folder/expected"; then
+    if (ulimit -s 576 && ulimit -v 5120 && exec "$program" $command) < "$folder/cells" 2>&1 | cmp -s - "$folder/expected"; then
         well "$command in little memory"
     else
-        wrong "$command in 5 MB of address space, with 512 KB of stack"
+        wrong "$command in 5 MB of address space, with 576 KB of stack"
     fi
 done
 "$program" to-wav < "$folder/cells" > "$folder/wave"

@@ -68,6 +68,8 @@ impl OutputFile {
     ///
     /// # Errors
     /// What the system says. Then the file is removed.
+    // Not inlined, so that the stack of a run has no room for the header that is read here.
+    #[inline(never)]
     pub fn finish(&self, rt: &HostRuntime, status: u8, depth: Option<Depth>) -> io::Result<()> {
         let Some(part) = &self.part else {
             return Ok(());
