@@ -155,9 +155,14 @@ leaves "it" "$folder/out"
 ln -s target "$folder/link"
 aes3 encode -o "$folder/link" < "$zero" 2> "$folder/errors"
 status=$?
-expect "a link as output file" 0 ""
-leaves "what it leads to" "$folder/target"
-if [ -L "$folder/link" ]; then well "the link stays"; else wrong "the link is gone"; fi
+if [ "$status" = 3 ] && grep -q "$folder/link: " "$folder/errors"; then well "a link to a file as output file"; else wrong "a link to a file as output file: $status"; fi
+if [ -L "$folder/link" ] && [ ! -s "$folder/target" ]; then well "the link and its file stay"; else wrong "the link or its file is another"; fi
+cp "$folder/wanted" "$folder/other.part"
+aes3 normal -o "$folder/other" "$folder/other.part" 2> "$folder/errors"
+status=$?
+expect "an output whose other name is that of the input" 3 "aes3: refused 6
+aes3: $folder/other: File exists (os error 17)"
+if cmp "$folder/wanted" "$folder/other.part" && [ ! -e "$folder/other" ]; then well "the input stays"; else wrong "the input is gone"; fi
 aes3 encode --help -o "$folder/help" > /dev/null 2> "$folder/errors"
 status=$?
 expect "help with an output file" 0 ""

@@ -16,8 +16,10 @@ const HEADER_MOST: u64 = 4096;
 pub struct OutputFile {
     name: String,
     /// The name that it has until it is whole; none where the name is that of something else than a file,
-    /// such as a pipe, a device or a link.
+    /// such as a pipe or a device.
     part: Option<String>,
+    /// Whether this run has made the file of that name, so that it may remove it.
+    is_made: Cell<bool>,
 }
 
 impl OutputFile {
@@ -38,6 +40,7 @@ impl OutputFile {
         Ok(OutputFile {
             name: joined(rt, name, "")?,
             part,
+            is_made: Cell::new(false),
         })
     }
 
@@ -55,12 +58,18 @@ impl OutputFile {
         }
     }
 
-    /// The name under which it is written.
-    fn written_name(&self) -> &str {
-        match &self.part {
-            Some(part) => part.as_str(),
-            None => self.name.as_str(),
-        }
+    /// Makes the file. One that already has the other name stays, and so does one that the name is a link
+    /// to: either may be the input.
+    fn make(&self, rt: &HostRuntime) -> io::Result<File> {
+        let Some(part) = &self.part else {
+            if fs::metadata(rt, self.name.as_str())?.is_file() {
+                return Err(Error::from(ErrorKind::AlreadyExists));
+            }
+            return OpenOptions::new().write(true).open(rt, self.name.as_str());
+        };
+        let file = File::create_new(rt, part.as_str())?;
+        self.is_made.set(true);
+        Ok(file)
     }
 
     /// Gives the file its name where the run is done, by its exit status, and removes it where the run was
@@ -74,6 +83,9 @@ impl OutputFile {
         let Some(part) = &self.part else {
             return Ok(());
         };
+        if !self.is_made.get() {
+            return Ok(());
+        }
         let kept = if status > 1 {
             fs::remove_file(rt, part.as_str()).unwrap_or(());
             return Ok(());
@@ -146,7 +158,7 @@ impl<'a> Output<'a> {
     ) -> Self {
         let to = match file {
             None => Place::Standard(rt.stdout().lock()),
-            Some(file) => match File::create(rt, file.written_name()) {
+            Some(file) => match file.make(rt) {
                 Ok(file) => Place::File(file),
                 Err(error) => Place::Unmade(error),
             },
