@@ -1,7 +1,7 @@
 #!/bin/sh
 # tests/all.sh [PROGRAM]: all that is run with a built program, with bin/aes3's where none is given: how bin/aes3 and bin/build have it built, the worked rows, the machine's own
 # streams, refused memory, the examples of help, README, tutorial and docs/COMMANDS.md, the manual page, the shells' completions, the pictures,
-# the figures and the links of the books, captures with jitter, errors put in on purpose, round trips with other programs, the examples from C (also
+# the figures and the links of the books, captures with jitter and in the files of other programs, errors put in on purpose, round trips with other programs, the examples from C (also
 # for 64-bit ARM), C++, Python and Rust, and of the page in a browser, and the Debian packages in a root of their own.
 #
 # The C library is built first, where that is still to be done. Each part has folders of its own, and as many run side by side as there
@@ -99,6 +99,7 @@ part tests/manual.sh
 part_with python3 tests/completions.py "$program"
 part tests/captures.sh "$root/crates/aes3_cells_program/out/aes3_cells_program" "$program"
 part tests/other_files.sh "$program" "$root/crates/aes3_cells_program/out/aes3_cells_program"
+part tests/capture_files.sh "$program" "$root/crates/aes3_cells_program/out/aes3_cells_program"
 part tests/spoil.sh "$root/crates/aes3_spoil_program/out/aes3_spoil_program" "$program"
 part_with python3 bin/figures --check
 part_with python3 tests/links
