@@ -8,8 +8,8 @@
 # and aes3-spoil likewise where bin/build left them or CELLS and SPOIL name them, and the folder examples is a copy. A block that
 # begins with ```sh needs TOOL.. is left out, with a word, where one of the tools is not there.
 #
-# Of a table after a line `<!-- run -->` each command is run too, that is, what stands in backquotes and has a program's name first and a word
-# after it. The files that it may read are made below (make_inputs). It has to end with status 0 and to write something, if only into a file.
+# Of a table after a line `<!-- run -->` each command is run too, that is, what stands in backquotes and has a program's name or path first and a
+# word after it. The files that it may read are made below (make_inputs). It has to end with status 0 and to write something, if only into a file.
 #
 # They may leave files in out/ alone. The last line is `N passed, M failed`, and the status 0 where each example printed what it should.
 
@@ -53,7 +53,7 @@ tabled() {
             gsub(/\\\|/, "\001")
             count = split($0, part, "`")
             for (i = 2; i <= count; i += 2)
-                if (part[i] ~ /^(aes3|aes3-cells|aes3-spoil|sigrok-cli|sox) /) { gsub("\001", "|", part[i]); print FNR ":" part[i] }
+                if (part[i] ~ /^(aes3|aes3-cells|aes3-spoil|sigrok-cli|sox|examples\/[a-z]+\/[a-z_.]+) /) { gsub("\001", "|", part[i]); print FNR ":" part[i] }
         }
     ' "$1"
 }
@@ -69,9 +69,12 @@ make_inputs() {
     aes3 cut 100 5 <line.txt | "$root/examples/neighbours/samples.py" 3.90625 0.2 >capture.bin
     if command -v sigrok-cli >/dev/null; then
         sigrok-cli -I binary:numchannels=8:samplerate=24000000 -i capture.bin -o capture.sr
-        sigrok-cli -i capture.sr -O vcd >capture.vcd
     fi
+    aes3 cut 100 5 <line.txt | tr -d '\n' | fold -w 1 | awk '
+        BEGIN { print "$timescale 1 ns $end $var wire 1 ! line $end $enddefinitions $end" }
+        $1 != before { printf "#%d %d!\n", NR * 162.76, $1; before = $1 }' >dump.vcd
     aes3 to-wav line.txt >audio.wav
+    ln -s "$root/examples" examples
 }
 
 # How many files of a folder have something in them.
@@ -79,7 +82,7 @@ filled() { find "$1" -type f -size +0 | wc -l; }
 
 lacking() {
     for tool in $1; do
-        [ -e "$work/here/bin/$tool" ] || command -v "$tool" >/dev/null 2>&1 || echo "$tool"
+        [ -e "$work/here/bin/$tool" ] || [ -e "$root/$tool" ] || command -v "$tool" >/dev/null 2>&1 || echo "$tool"
     done
 }
 
