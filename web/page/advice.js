@@ -3,14 +3,17 @@
 import { samplesIn } from "./capture.js";
 import { TURNED } from "./cells.js";
 import { wholeIn } from "./reading.js";
-import { counted, plain } from "./words.js";
+import { counted } from "./words.js";
 
 const RECOVER = "aes3-cells";
 const CHANNEL = `${RECOVER} --bit BIT < SAMPLES > LINE    # BIT: the number of the line's channel, counted from 0`;
 const SESSION = "sigrok-cli -i FILE -O binary -o SAMPLES";
 const latin = bytes => String.fromCharCode(...bytes.subarray(0, 1024));
 
-const VCD = /^\s*\$(date|version|timescale|comment|scope)\b/;
+/* The commands for a file that lists when signals change, and where their script is. */
+const changes = signal => [`examples/captures/transitions.py${signal} FILE > SAMPLES`, `${RECOVER} < SAMPLES > LINE`];
+const SCRIPT = "transitions.py is in the sources of aes3, and in /usr/share/doc/aes3 of its Debian package. It needs Python 3. ";
+const RATE = "It writes 100,000,000 samples a second; --rate sets another number. To make cells of them:";
 
 /* Files that tell by their first bytes what they are, and the commands that make cells of them. */
 const BEGINNINGS = [
@@ -19,35 +22,16 @@ const BEGINNINGS = [
         ["sox FILE -t wav - | aes3 from-wav | aes3 encode > LINE"]],
     [/^PK\x03\x04[^]*(version|metadata|logic-)/, "This is a sigrok session (.sr): it holds samples of a logic analyser, and no cells "
         + "yet. To make cells of them:", [SESSION, CHANNEL]],
-    [VCD, "This is a VCD file: it holds the changes of a logic analyser's channels, and no cells yet. ", []],
+    [/^; CSV\b[^\n]*sigrok/, "This is a CSV file of sigrok: it holds samples of a logic analyser, and no cells yet. To make cells of them:",
+        ["sigrok-cli -I csv -i FILE -O binary -o SAMPLES", CHANNEL]],
+    [/^\s*\$(date|version|timescale|comment|scope)\b/, "This is a VCD file: it lists when signals change, and holds no cells yet. "
+        + `${SCRIPT}NAME is a signal of one bit. If it is wrong, the script prints the valid names. ${RATE}`, changes(" --signal NAME")],
+    [/^Time ?\[s\],/, "This is a CSV file of Saleae Logic: it lists when channels change, and holds no cells yet. "
+        + `${SCRIPT}NAME is the title of a column. If it is wrong, the script prints the valid titles. ${RATE}`, changes(' --signal "NAME"')],
+    [/^<SALEAE>/, "This is a binary file of Saleae Logic: it lists when a channel changes, and holds no cells yet. "
+        + SCRIPT + RATE, changes("")],
     [/^(PK\x03\x04|\x1f\x8b|\xfd7zXZ|BZh|\x28\xb5\x2f\xfd)/, "This is a compressed file or an archive. Unpack it first.", []],
 ];
-
-const UNITS = { s: 1, ms: 1e3, us: 1e6, ns: 1e9, ps: 1e12, fs: 1e15 };
-const ENOUGH = 1e8; // samples a second: four a cell of 192 kHz, sixteen of 48 kHz
-
-/* What to say of a VCD file beside what it is. sigrok-cli writes a sample for each of the file's units of time, unless it is given how
-   many of them make one. */
-function vcdAdvice(head) {
-    const [, number, unit] = /\$timescale\s+(\d+)\s*(s|ms|us|ns|ps|fs)\b/.exec(head) ?? [];
-    const rate = UNITS[unit] / number;
-    const factor = Math.floor(rate / ENOUGH);
-    // By a session: the samples that sigrok-cli makes of a VCD file at once have a line of text before them.
-    const command = option => [`sigrok-cli -I vcd${option} -i FILE -o SESSION.sr`, SESSION.replace("FILE", "SESSION.sr"), CHANNEL];
-    if (factor === 0 || factor === 1) {
-        return { says: "To make cells of them:", commands: command("") };
-    }
-    const how = "A line needs four samples a cell: 25,000,000 a second at 48 kHz, 100,000,000 at 192 kHz. ";
-    return factor ? {
-        says: `Its unit of time is ${number} ${unit}. sigrok-cli writes a sample for each unit, ${plain(rate)} a second, unless downsample= says `
-            + `how many units make one. ${how}${plain(factor)} units make ${plain(rate / factor)} a second. To make cells of them:`,
-        commands: command(`:downsample=${factor}`),
-    } : {
-        says: "sigrok-cli writes a sample for each unit of time that $timescale in the file names, unless downsample= says how many units "
-            + `make one. ${how}So for a unit of 1 ns UNITS is 10, for 1 ps 10000, for 1 fs 10000000. To make cells of them:`,
-        commands: command(":downsample=UNITS"),
-    };
-}
 
 /* Whether words of a block file stand there: bits 0 to 3 of each are 0, and some sample is not. */
 const areWords = bytes => bytes.length >= 1536 && bytes.every((byte, i) => i % 4 > 0 || (byte & 15) === 0);
@@ -79,8 +63,7 @@ export async function adviceOf(codec, cells) {
         return { says: "The file is empty.", commands: [] };
     }
     if (known) {
-        const { says, commands } = known[0] === VCD ? vcdAdvice(latin(head)) : { says: "", commands: known[2] };
-        return { says: known[1] + says, commands, isOther: true };
+        return { says: known[1], commands: known[2], isOther: true };
     }
     const samples = form === "packed" && samplesIn(head);
     if (samples) {
