@@ -48,7 +48,7 @@ impl Argument {
                     alloc,
                     "at",
                     "HZ",
-                    "The line's sampling frequency; wants --rate",
+                    "The line's sampling frequency; needs --rate",
                 )
             }
             Argument::Unit => {
@@ -65,11 +65,11 @@ impl Argument {
                 flag(
                     alloc,
                     "tell",
-                    "Tell once a second what was found; wants --rate",
+                    "Print once a second what was found; needs --rate",
                 )
             }
             Argument::File => Arg::new(alloc, "FILE").help(
-                "The samples; standard input if it is not given, or `-`",
+                "The file of samples; standard input if it is `-` or left out",
             ),
         }
     }
