@@ -54,9 +54,9 @@ impl Argument {
             Argument::Every => Arg::new(alloc, "every")
                 .long("every")
                 .value_name("N:KIND")
-                .help("Put an error at each N-th cell: cell, invert, drop or double"),
+                .help("Insert an error at each N-th cell: cell, invert, drop or double"),
             Argument::File => Arg::new(alloc, "FILE").help(
-                "What to read, standard input where it is `-` or left out",
+                "The file to read; standard input if it is `-` or left out",
             ),
         }
     }
@@ -96,13 +96,13 @@ pub(crate) fn value_name<'a>(named: NamedError) -> &'a str
 /// The option's line of help.
 fn help<'a>(named: NamedError) -> &'a str {
     match named {
-        NamedError::Cell => "Turn cell P: it has the other level",
-        NamedError::Invert => "Turn cell P and all behind it",
-        NamedError::Lost => "Leave cell P out",
+        NamedError::Cell => "Invert cell P",
+        NamedError::Invert => "Invert cell P and all cells after it",
+        NamedError::Lost => "Leave out cell P",
         NamedError::Double => "Write cell P twice",
         NamedError::Parity => "Make the parity of the subframe at cell P wrong",
-        NamedError::Biphase => "Begin time slot SLOT of the subframe at cell P with no change",
-        NamedError::Preamble => "Break the preamble of the subframe at cell P",
-        NamedError::CheckByte => "Make the check byte of the block at cell P wrong, channel 1",
+        NamedError::Biphase => "Begin slot SLOT of the subframe at cell P with no level change",
+        NamedError::Preamble => "Make the preamble of the subframe at cell P invalid",
+        NamedError::CheckByte => "Make the check byte of channel 1 wrong in the block at cell P",
     }
 }
