@@ -67,14 +67,14 @@ exact-append f (x ∷ xs) ys = go (block_fits f x.block) (exact-append f xs ys)
     go false e = sym (append-nil (narrowed f []))
 
 -- what reports write
-before-exact : (f : SampleFormat) (r : List Report)
+pub before-exact : (f : SampleFormat) (r : List Report)
     → before_end (exact_writing f) r ≡ exact_samples f (placed r)
 unfolding exact_writing
 before-exact f r =
     before-is (exact_writing f) (λ q. exact_samples f (placed q)) (narrowed-none f)
     (λ q x. ap (exact_samples f) (placed-append q (x ∷ [])) ∙ exact-append f (placed q) (placed (x ∷ []))) r
 
-with-exact : (f : SampleFormat) (r : List Report) → with_end (exact_writing f) r ≡ exact_samples f (placed r)
+pub with-exact : (f : SampleFormat) (r : List Report) → with_end (exact_writing f) r ≡ exact_samples f (placed r)
 unfolding with_end exact_writing
 with-exact f r = append-nil (before_end (exact_writing f) r) ∙ before-exact f r
 
@@ -110,7 +110,7 @@ placed-blocks (Marked at s wrong ∷ r) = placed-blocks r
 placed-blocks (Fault at cell why ∷ r) = placed-blocks r
 placed-blocks (Unfinished at cells ∷ r) = placed-blocks r
 
-all-given : (f : SampleFormat) (r : List Report) → first_unfit f (placed r) ≡ None
+pub all-given : (f : SampleFormat) (r : List Report) → first_unfit f (placed r) ≡ None
     → exact_samples f (placed r) ≡ narrowed f (samples (wholes r))
 all-given f r h = ap (λ v. narrowed f (samples v)) (none-unfit f (placed r) h ∙ placed-blocks r)
 
@@ -121,7 +121,7 @@ fits-wide S24 h b = refl
 fits-wide S24In32 h b = refl
 fits-wide S16 h b = absurd (h refl)
 
-none-refused : (f : SampleFormat) → f ≢ S16 → (xs : List Placed) → first_unfit f xs ≡ None
+pub none-refused : (f : SampleFormat) → f ≢ S16 → (xs : List Placed) → first_unfit f xs ≡ None
 none-refused f h [] = refl
 none-refused f h (x ∷ xs) =
     ap (λ (v : Bool). if v then first_unfit f xs else Some x.place) (fits-wide f h (block_samples x.block))

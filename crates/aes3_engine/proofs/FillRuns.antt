@@ -20,7 +20,7 @@ use Rattle.aes3_lock_runs.specs.ReportRuns.{counts_of, heard_cells, told_reports
 use Rattle.aes3_engine.specs.declared.filling.Filled.{Filled}
 use Rattle.aes3_engine.specs.Filling.{Placed, placed, given, marked_given, filled, frame_bytes, block_frames}
 use Rattle.aes3_engine.specs.Filling.{frames_filled, InRow, KeepsTime}
-use Rattle.aes3_engine.specs.FillRuns.{filled_cells, WroteFrames}
+use Rattle.aes3_engine.specs.FillRuns.{IsFilled, filled_cells, WroteFrames}
 use Rattle.aes3_engine.specs.declared.filling.FilledBlocks.{FilledBlocks}
 use Rattle.aes3_engine.specs.declared.mended.MendedBlocks.{MendedBlocks}
 use Rattle.aes3_engine.specs.FillSteps.{Apart, fill_writing, progress_of}
@@ -46,23 +46,28 @@ abbrev TellRun : ℕ → Form → SampleFormat → Fill → Bool → Movement �
 TellRun max form pcm fill = InputRun (told_reports form (fill_writing pcm fill)
     (λ (k : FilledBlocks) r. k.progress ≡ progress_of k.fill (placed r))) max
 
+pub is-filled : (form : Form) (fill : Fill) (b : List ℕ) (k : FilledBlocks) {n : Counts} {frames : ℕ}
+    → ((xs : List Placed) → Apart 0 xs → k.progress ≡ progress_of k.fill xs → n.blocks + 0 ≡ length xs
+    → frames ≡ frames_filled xs)
+    → n ≡ counts_of form b → k.progress ≡ progress_of k.fill (placed (reports (cells_of form b)))
+    → IsFilled (record { counts = n; frames = frames; marked = 0 }) false fill (cells_of form b)
+is-filled form fill b k t h p =
+    let c = cells_of form b in
+    let l = placed-count (reports c) in
+    let d = whole-count form b h in
+    record { frames = t (placed (reports c)) (apart-of c) p (omega arith); blocks = refl }
+
 pub fill-ok : {max : ℕ} (form : Form) (pcm : SampleFormat) (fill : Fill) {n : Counts} {k : FilledBlocks} {frames : ℕ}
     {ended : Bool} {source sink : Movement}
     → ((xs : List Placed) → Apart 0 xs → k.progress ≡ progress_of k.fill xs → n.blocks + 0 ≡ length xs
     → frames ≡ frames_filled xs)
     → TellRun max form pcm fill ended source sink (Ok (n, k))
     → FillRun max form pcm fill false ended source sink (Ok (record { counts = n; frames = frames; marked = 0 }))
-fill-ok form pcm fill t r =
+fill-ok form pcm fill {k = k} t r =
     run-ok (cells-give form (λ c. narrowed pcm (filled fill (placed (reports c))))
     (λ c. narrowed pcm (filled fill (placed (decided c)))) (λ c. with-filled pcm fill (reports c))
     (λ c. before-filled pcm fill (decided c)))
-    (λ b i h.
-    let c = cells_of form b in
-    let l = placed-count (reports c) in
-    let d = whole-count form b h.0 in (
-      h.0,
-      record { frames = t (placed (reports c)) (apart-of c) h.1 (omega arith); blocks = refl },
-    )) r
+    (λ b i h. (h.0, is-filled form fill b k t h.0 h.1)) r
 
 pub fill-err : {max : ℕ} (form : Form) (pcm : SampleFormat) (fill : Fill) {ended : Bool} {source sink : Movement}
     {x : RunError} → TellRun max form pcm fill ended source sink (Err x)
@@ -78,6 +83,23 @@ abbrev HearRun : ℕ → Form → SampleFormat → Fill → Bool → Movement �
 HearRun max form pcm fill = InputRun (heard_cells form (mend_writing pcm fill)
     (λ (k : MendedBlocks) c. IsMendedOf k c (reports c))) max
 
+pub is-mended : (form : Form) (fill : Fill) (b : List ℕ) (k : MendedBlocks) {n : Counts} {frames marked : ℕ}
+    → ((xs : List Placed) → Apart 0 xs → k.filled.progress ≡ progress_of k.filled.fill xs
+    → n.blocks + k.marked ≡ length xs → frames ≡ frames_filled xs)
+    → marked ≡ k.marked → n ≡ counts_of form b → IsMendedOf k (cells_of form b) (reports (cells_of form b))
+    → IsFilled (record { counts = n; frames = frames; marked = marked }) true fill (cells_of form b)
+is-mended form fill b k t z h p =
+    let c = cells_of form b in
+    let own = k.filled.fill in
+    let q = count-mended own c (reports c) in
+    let d = whole-count form b h in
+    let v = p.marked in
+    record {
+      frames = t (given true own c (reports c)) (apart-mended own c) p.progress (omega arith)
+          ∙ frames-same own fill c (reports c);
+      blocks = z ∙ v;
+    }
+
 pub mend-ok : {max : ℕ} (form : Form) (pcm : SampleFormat) (fill : Fill) {n : Counts} {k : MendedBlocks} {frames marked : ℕ}
     {ended : Bool} {source sink : Movement}
     → ((xs : List Placed) → Apart 0 xs → k.filled.progress ≡ progress_of k.filled.fill xs
@@ -89,19 +111,7 @@ pub mend-ok : {max : ℕ} (form : Form) (pcm : SampleFormat) (fill : Fill) {n : 
 mend-ok form pcm fill {k = k} t z r =
     run-ok (cells-give form (λ c. narrowed pcm (filled fill (given true fill c (reports c))))
     (λ c. narrowed pcm (filled fill (given true fill c (decided c)))) (with-mended pcm fill) (before-mended pcm fill))
-    (λ b i h.
-    let c = cells_of form b in
-    let own = k.filled.fill in
-    let q = count-mended own c (reports c) in
-    let d = whole-count form b h.0 in
-    let v = h.1.marked in (
-      h.0,
-      record {
-        frames = t (given true own c (reports c)) (apart-mended own c) h.1.progress (omega arith)
-            ∙ frames-same own fill c (reports c);
-        blocks = z ∙ v;
-      },
-    )) r
+    (λ b i h. (h.0, is-mended form fill b k t z h.0 h.1)) r
 
 pub mend-err : {max : ℕ} (form : Form) (pcm : SampleFormat) (fill : Fill) {ended : Bool} {source sink : Movement}
     {x : RunError} → HearRun max form pcm fill ended source sink (Err x)

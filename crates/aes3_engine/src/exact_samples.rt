@@ -34,13 +34,14 @@ pub struct Exact {
 /// Writes the samples of blocks in 16 bits, up to the first that would lose bits. It has no other
 /// form, so that what it found tells of no form that it might have had.
 #[derive(Drop)]
-struct ExactBlocks {
-    refused: Option<u64>,
+pub struct ExactBlocks {
+    /// The place of the first block that would have lost bits.
+    pub refused: Option<u64>,
 }
 
 impl ExactBlocks {
     /// A reporter that has taken no report.
-    fn new() -> Self
+    pub fn new() -> Self
         ensures { result.refused ≡ None }
     {
         ExactBlocks { refused: None }

@@ -121,15 +121,17 @@ fn put_narrowed_frames<T: Sink>(
 
 /// Writes the samples of blocks, and what fills the time between them.
 #[derive(Drop)]
-pub(crate) struct FilledBlocks {
-    pub(crate) fill: Fill,
-    pub(crate) format: SampleFormat,
+pub struct FilledBlocks {
+    /// What fills the time.
+    pub fill: Fill,
+    /// The form of the samples.
+    pub format: SampleFormat,
     progress: Option<Progress>,
 }
 
 impl FilledBlocks {
     /// A reporter that has taken no report.
-    pub(crate) fn new(fill: Fill, format: SampleFormat) -> Self
+    pub fn new(fill: Fill, format: SampleFormat) -> Self
         ensures fill { result.fill ≡ fill }
         ensures format { result.format ≡ format }
         ensures progress { result.progress ≡ None }
@@ -143,7 +145,7 @@ impl FilledBlocks {
 
     /// How many frames fill the time between the blocks that it has written, so many whole and so
     /// many marked ones: of all frames those that are of no block.
-    pub(crate) fn frames(&self, blocks: u64, marked: u64) -> u64
+    pub fn frames(&self, blocks: u64, marked: u64) -> u64
         ensures { (xs : List Placed) → Apart 0 xs
             → self.now.progress ≡ progress_of self.now.fill xs
             → blocks + marked ≡ length xs → result ≡ frames_filled xs }

@@ -34,18 +34,19 @@ mod words;
 
 pub use aes3_frame::Fill;
 pub use aes3_lock_runs::{
-    BlockWriter, Followed, Input, Listener, Reporter, Taker, Tally, cell, convert, drive,
-    run_blocks, run_cells, run_reports, word,
+    BlockReporter, BlockWriter, Followed, Input, Listener, ReportListener, Reporter, Taker, Tally, cell, convert,
+    drive, run_blocks, run_cells, run_reports, word,
 };
 pub use aes3_status::{CarriedBits, Change, Taken};
 pub use carrying::to_bits;
 pub use encoding::encode;
-pub use exact_samples::{Exact, to_exact_pcm};
-pub use filling::{Filled, to_filled_pcm};
+pub use exact_samples::{Exact, ExactBlocks, to_exact_pcm};
+pub use filling::{Filled, FilledBlocks, to_filled_pcm};
+pub use mended::MendedBlocks;
 pub use reading::{cut, decode, decode_words, normalise};
 pub use rewriting_exactly::rewrite_exactly;
 pub use rewriting_runs::{Rewritten, rewrite};
-pub use samples::{put_narrowed, to_pcm};
+pub use samples::{SampleBlocks, put_narrowed, to_pcm};
 pub use sampling::{SampleInput, from_pcm, from_pcm_words};
-pub use valid_samples::to_valid_pcm;
+pub use valid_samples::{ValidSampleBlocks, to_valid_pcm};
 pub use word_encoding::{EncodedWords, encode_words};

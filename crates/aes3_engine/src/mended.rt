@@ -21,17 +21,18 @@ use aes3_lock_runs::{Listener, run_cells};
 /// Hears of cells, and writes the samples of the whole and the marked blocks on them, and what fills
 /// the time between.
 #[derive(Drop)]
-pub(crate) struct MendedBlocks {
-    filled: FilledBlocks,
+pub struct MendedBlocks {
+    /// What writes them.
+    pub filled: FilledBlocks,
     /// The last block, or that of zeros.
     before: Block,
     /// How many of the blocks are marked.
-    marked: u64,
+    pub marked: u64,
 }
 
 impl MendedBlocks {
     /// A listener that has heard of no cell.
-    fn new(fill: Fill, format: SampleFormat) -> Self
+    pub fn new(fill: Fill, format: SampleFormat) -> Self
         ensures fill { result.filled.fill ≡ fill }
         ensures format { result.filled.format ≡ format }
         ensures progress { result.filled.progress ≡ None }

@@ -41,8 +41,9 @@ pub fn put_narrowed<T: Sink>(
 
 /// Writes blocks as their samples in a form.
 #[derive(Drop)]
-struct SampleBlocks {
-    format: SampleFormat,
+pub struct SampleBlocks {
+    /// The form of the samples.
+    pub format: SampleFormat,
 }
 
 impl BlockWriter for SampleBlocks {

@@ -53,8 +53,9 @@ fn silence(block: &mut Block)
 
 /// Writes blocks as their samples in a form, with zero in place of each that is not valid.
 #[derive(Drop)]
-struct ValidSampleBlocks {
-    format: SampleFormat,
+pub struct ValidSampleBlocks {
+    /// The form of the samples.
+    pub format: SampleFormat,
 }
 
 impl BlockWriter for ValidSampleBlocks {

@@ -40,11 +40,12 @@ pub trait BlockWriter {
 
 /// Hands the blocks of whole reports to a writer.
 #[derive(Drop)]
-struct Blocks<W> {
-    writer: W,
+pub struct BlockReporter<W> {
+    /// Who writes them.
+    pub writer: W,
 }
 
-impl<W: BlockWriter> Reporter for Blocks<W> {
+impl<W: BlockWriter> Reporter for BlockReporter<W> {
     ghost follows = { λ _ _. Unit {0} };
 
     ghost writes = { λ k. report_writing (report_bytes (W.writes k.writer)) (W.ends k.writer) };
@@ -89,6 +90,6 @@ pub fn run_blocks<S: Source, T: Sink, W: BlockWriter + Drop>(
         (movement_of T.taken T.failed sink.old sink.new) result }
     ensures passed_on { IfOk result (λ _. T.passed sink.new ≡ T.taken sink.new) }
 {
-    let (counts, _blocks) = run_reports(source, sink, max_bytes, input, Blocks { writer })?;
+    let (counts, _blocks) = run_reports(source, sink, max_bytes, input, BlockReporter { writer })?;
     Ok(counts)
 }

@@ -12,7 +12,7 @@ mod reporter;
 
 pub use aes3_input::{Input, Taker, cell, convert, drive, word};
 pub use aes3_lock::Tally;
-pub use blocks::{BlockWriter, run_blocks};
+pub use blocks::{BlockReporter, BlockWriter, run_blocks};
 pub use followed::{Followed, run_cells};
 pub use listener::Listener;
-pub use reporter::{Reporter, run_reports};
+pub use reporter::{ReportListener, Reporter, run_reports};

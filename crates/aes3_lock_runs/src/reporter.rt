@@ -56,11 +56,12 @@ pub trait Reporter {
 
 /// Hears of cells, and tells a reporter of the reports on them.
 #[derive(Drop)]
-struct Reports<R> {
-    reporter: R,
+pub struct ReportListener<R> {
+    /// Who is told of them.
+    pub reporter: R,
 }
 
-impl<R: Reporter> Listener for Reports<R> {
+impl<R: Reporter> Listener for ReportListener<R> {
     ghost follows = { λ k c. R.follows k.reporter (decided c) };
 
     ghost writes = { λ k. reporting (R.writes k.reporter) };
@@ -121,6 +122,6 @@ pub fn run_reports<S: Source, T: Sink, R: Reporter + Drop>(
         (movement_of T.taken T.failed sink.old sink.new) result }
     ensures passed_on { IfOk result (λ _. T.passed sink.new ≡ T.taken sink.new) }
 {
-    let (counts, reports) = run_cells(source, sink, max_bytes, input, Reports { reporter })?;
+    let (counts, reports) = run_cells(source, sink, max_bytes, input, ReportListener { reporter })?;
     Ok((counts, reports.reporter))
 }

@@ -3,7 +3,7 @@ use Rattle.aes3_cell.proofs.Writing.{wrote-is}
 use Rattle.aes3_lock.specs.Following.{report_in}
 use Rattle.aes3_lock_runs.specs.BlockRuns.{report_bytes}
 use Rattle.aes3_lock_runs.proofs.ReportLemmas.{adds-is}
-use Rattle.aes3_lock_runs.proofs.blocks.BlocksReporter.tell.Goals as goal
+use Rattle.aes3_lock_runs.proofs.blocks.BlockReporterReporter.tell.Goals as goal
 
 pub returns-in-Whole-clause-wrote : goal.returns-in-Whole-clause-wrote
 returns-in-Whole-clause-wrote g c = λ r n h.

@@ -1,7 +1,7 @@
 use Rattle.aes3_cell.proofs.Writing.{wrote-is}
 use Rattle.aes3_lock_runs.specs.BlockRuns.{report_bytes}
 use Rattle.aes3_lock_runs.proofs.ReportLemmas.{ends-is}
-use Rattle.aes3_lock_runs.proofs.blocks.BlocksReporter.finish.Goals as goal
+use Rattle.aes3_lock_runs.proofs.blocks.BlockReporterReporter.finish.Goals as goal
 
 pub returns : goal.returns
 returns g c = λ r h.

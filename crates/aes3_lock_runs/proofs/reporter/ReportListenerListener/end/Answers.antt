@@ -6,7 +6,7 @@ use Rattle.aes3_lock.specs.Following.{report_in}
 use Rattle.aes3_lock.specs.Reports.{decided}
 use Rattle.aes3_lock_runs.proofs.Listening.{end-none, end-one}
 use Rattle.aes3_lock_runs.proofs.Reports.{ends-none, ends-one}
-use Rattle.aes3_lock_runs.proofs.reporter.ReportsListener.end.Goals as goal
+use Rattle.aes3_lock_runs.proofs.reporter.ReportListenerListener.end.Goals as goal
 
 pub returns-in_ok-tell-in-Some-clause-done : goal.returns-in_ok-tell-in-Some-clause-done
 returns-in_ok-tell-in-Some-clause-done g c =

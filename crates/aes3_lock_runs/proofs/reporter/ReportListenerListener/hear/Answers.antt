@@ -6,7 +6,7 @@ use Rattle.aes3_lock.specs.Following.{report_in}
 use Rattle.aes3_lock.specs.Reports.{decided}
 use Rattle.aes3_lock_runs.proofs.Listening.{told-none, told-one}
 use Rattle.aes3_lock_runs.proofs.Reports.{adds-nothing, adds-report, same-reporting}
-use Rattle.aes3_lock_runs.proofs.reporter.ReportsListener.hear.Goals as goal
+use Rattle.aes3_lock_runs.proofs.reporter.ReportListenerListener.hear.Goals as goal
 
 pub returns-in-Some-clause-same : goal.returns-in-Some-clause-same
 returns-in-Some-clause-same g c = IfOk-weaker c.tell.result _ _ (λ u e. same-reporting e) c.tell.ensures.same
