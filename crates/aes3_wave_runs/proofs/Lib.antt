@@ -7,6 +7,7 @@ pub mod HeaderRuns
 pub mod FileRuns
 pub mod Rates
 pub mod Says
-pub mod WaveBlocks
+pub mod HeadedSamples
+pub mod WrittenRuns
 pub mod WrittenFrames
 pub mod SamplesBack

@@ -6,4 +6,5 @@ pub mod Headers
 pub mod Status
 pub mod FromWav
 pub mod ToWav
+pub mod HeadedSamples
 pub mod Laws

@@ -1,15 +1,22 @@
 -- Cells as a WAV file: the header of the samples of their whole blocks, and these samples.
 use Rattle.std.specs.Prelude.{ℕ, List, [], ◌∷◌, ◌++◌, Bool, Option, Some, None, ◌≡◌, true, false}
+use Rattle.std.specs.Prelude.{if◌then◌else◌}
+use Rattle.aes3_level.specs.declared.level.Level.{Level}
 use Rattle.aes3_cell.specs.declared.form.Form.{Form}
+use Rattle.aes3_frame.specs.declared.fill.Fill.{Fill}
 use Rattle.aes3_frame.specs.declared.status.Channel.TheVariants.{First}
 use Rattle.aes3_frame.specs.Samples.{samples}
 use Rattle.aes3_frame.specs.Statuses.{status_of}
 use Rattle.aes3_input.specs.Driving.{over_cells}
 use Rattle.aes3_input.specs.Inputs.{cells_of}
 use Rattle.aes3_input.specs.Running.{Promise}
-use Rattle.aes3_input.specs.Taking.{Writing}
 use Rattle.aes3_lock.specs.declared.report.Report.{Report}
-use Rattle.aes3_lock.specs.Reports.{blocks, wholes}
+use Rattle.aes3_lock.specs.declared.report.Report.TheVariants.{Whole, Marked, Fault, Unfinished}
+use Rattle.aes3_lock.specs.Reports.{blocks, decided, reports, wholes}
+use Rattle.aes3_engine.specs.ExactSamples.{exact_samples, first_unfit}
+use Rattle.aes3_engine.specs.FillRuns.{IsFilled}
+use Rattle.aes3_engine.specs.Filling.{filled, given, placed}
+use Rattle.aes3_engine.specs.ValidSamples.{valid_samples}
 use Rattle.aes3_forms_samples.specs.declared.format.SampleFormat.{SampleFormat}
 use Rattle.aes3_forms_samples.specs.declared.format.SampleFormat.TheVariants.{S16, S24, S32}
 use Rattle.aes3_forms_samples.specs.Formats.{narrowed}
@@ -18,6 +25,8 @@ use Rattle.aes3_lock_runs.specs.ReportRuns.{counts_of}
 use Rattle.aes3_wave.specs.declared.written.Depth.{Depth}
 use Rattle.aes3_wave.specs.declared.written.Depth.TheVariants.{Sixteen, TwentyFour, ThirtyTwo}
 use Rattle.aes3_wave.specs.Written.{written}
+use Rattle.aes3_wave_runs.specs.declared.options.ExactWave.{ExactWave}
+use Rattle.aes3_wave_runs.specs.declared.options.FilledWave.{FilledWave}
 use Rattle.aes3_wave_runs.specs.declared.options.WaveWritten.{WaveWritten}
 use Rattle.aes3_wave_runs.specs.Status.{rate_named}
 
@@ -58,39 +67,77 @@ wave_cells form depth rate =
     (λ c. begun_wave depth rate (decided_blocks c))
     (λ b n. (n.counts ≡ counts_of form b) × (n.named ≡ named_by (blocks (cells_of form b))))
 
--- ---- block by block
+-- ---- files of other samples
 
--- whether a block has come, what the first one names, and what more blocks write, with those that come
-abbrev pub begun_with : Bool → List (List (List Bool)) → Bool
-begun_with begun [] = begun
-begun_with begun (b ∷ bs) = true
+-- whether a report is of a block that is given: of a whole one, or, where marked ones are given, of such a one
+abbrev pub is_given : Bool → Report → Bool
+is_given marked (Whole at s b) = true
+is_given marked (Marked at s wrong) = marked
+is_given marked (Fault at cell why) = false
+is_given marked (Unfinished at cells) = false
 
-abbrev pub named_with : Bool → Option ℕ → List (List (List Bool)) → Option ℕ
-named_with begun named [] = named
-named_with true named (b ∷ bs) = named
-named_with false named (b ∷ bs) = rate_named (status_of b First)
+-- the report of the first block that is given
+abbrev pub first_given : Bool → List Report → Option Report
+first_given marked [] = None
+first_given marked (x ∷ r) = if is_given marked x then Some x else first_given marked r
 
-abbrev pub wave_with : Depth → Option ℕ → Bool → List (List (List Bool)) → List ℕ
-wave_with depth rate begun [] = []
-wave_with depth rate true (b ∷ bs) = narrowed (format_of depth) (samples (b ∷ bs))
-wave_with depth rate false (b ∷ bs) = wave_of depth rate (b ∷ bs)
+-- the sampling frequency that the block of a report names: a marked one names none, as its status may be wrong
+abbrev pub named_in : Report → Option ℕ
+named_in (Whole at s b) = rate_named (status_of b First)
+named_in (Marked at s wrong) = None
+named_in (Fault at cell why) = None
+named_in (Unfinished at cells) = None
 
--- the end writes the header where no block has come
-abbrev pub wave_end : Depth → Option ℕ → Bool → List ℕ
-wave_end depth rate true = []
-wave_end depth rate false = header_for depth rate []
+abbrev pub named_first : Option Report → Option ℕ
+named_first None = None
+named_first (Some x) = named_in x
 
-abbrev pub are_some : List (List (List Bool)) → Bool
-are_some [] = false
-are_some (b ∷ bs) = true
+-- the header of a file by the report of its first block, if there is one, and what is written of it before the end
+abbrev pub header_by : Depth → Option ℕ → Option Report → List ℕ
+header_by depth rate o = written depth (rate_for rate (named_first o)) None
 
-unfoldable pub wave_writing : Depth → Option ℕ → Writing Report
-wave_writing depth rate = record {
-  adds = λ r x. wave_with depth rate (are_some (wholes r)) (wholes (x ∷ []));
-  ends = λ r. wave_end depth rate (are_some (wholes r));
-}
+abbrev pub opened_by : Depth → Option ℕ → Option Report → List ℕ
+opened_by depth rate None = []
+opened_by depth rate (Some x) = header_by depth rate (Some x)
 
--- the blocks that have come, as they are noted
-pub record Noted (begun : Bool) (named : Option ℕ) (bs : List (List (List Bool))) : Type 0 where
-  pub some : begun ≡ are_some bs
-  pub first : named ≡ named_by bs
+-- the file whose samples are these, made of cells and the reports on them; and what is written of it before the end
+abbrev pub file_by : Depth → Option ℕ → Bool → (List Level → List Report → List ℕ) → List Level → List ℕ
+file_by depth rate marked pcm c = header_by depth rate (first_given marked (reports c)) ++ pcm c (reports c)
+
+abbrev pub begun_by : Depth → Option ℕ → Bool → (List Level → List Report → List ℕ) → List Level → List ℕ
+begun_by depth rate marked pcm c = opened_by depth rate (first_given marked (decided c)) ++ pcm c (decided c)
+
+-- what the first block names
+abbrev pub IsNamed : Form → Bool → List ℕ → Option ℕ → Type 0
+IsNamed form marked b named = named ≡ named_first (first_given marked (reports (cells_of form b)))
+
+-- what `to_valid_wav` promises: the samples of `to_valid_pcm`
+abbrev pub valid_pcm : Depth → List Level → List Report → List ℕ
+valid_pcm depth c r = narrowed (format_of depth) (valid_samples (wholes r))
+
+abbrev pub valid_wave_cells : Form → Depth → Option ℕ → Promise WaveWritten
+valid_wave_cells form depth rate =
+    over_cells form (file_by depth rate false (valid_pcm depth)) (begun_by depth rate false (valid_pcm depth))
+    (λ b n. (n.counts ≡ counts_of form b) × IsNamed form false b n.named)
+
+-- what `to_exact_wav` promises: those of `to_exact_pcm`
+abbrev pub exact_pcm : Depth → List Level → List Report → List ℕ
+exact_pcm depth c r = exact_samples (format_of depth) (placed r)
+
+abbrev pub exact_wave_cells : Form → Depth → Option ℕ → Promise ExactWave
+exact_wave_cells form depth rate =
+    over_cells form (file_by depth rate false (exact_pcm depth)) (begun_by depth rate false (exact_pcm depth))
+    (λ b n. (n.exact.counts ≡ counts_of form b)
+    × (n.exact.refused ≡ first_unfit (format_of depth) (placed (reports (cells_of form b))))
+    × IsNamed form false b n.named)
+
+-- what `to_filled_wav` promises: those of `to_filled_pcm`
+abbrev pub filled_pcm : Depth → Fill → Bool → List Level → List Report → List ℕ
+filled_pcm depth fill marked c r = narrowed (format_of depth) (filled fill (given marked fill c r))
+
+abbrev pub filled_wave_cells : Form → Depth → Option ℕ → Fill → Bool → Promise FilledWave
+filled_wave_cells form depth rate fill marked =
+    over_cells form (file_by depth rate marked (filled_pcm depth fill marked))
+    (begun_by depth rate marked (filled_pcm depth fill marked))
+    (λ b n. (n.filled.counts ≡ counts_of form b) × IsFilled n.filled marked fill (cells_of form b)
+    × IsNamed form marked b n.named)

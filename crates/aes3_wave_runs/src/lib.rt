@@ -5,6 +5,8 @@
 mod error;
 /// The samples of frames.
 mod frames;
+/// The header of a WAV file that is written, and the samples behind it.
+mod headed;
 /// The header of a WAV file, read from a source.
 mod header;
 /// The laws of sound files.
@@ -24,7 +26,7 @@ mod wave_writing;
 
 pub use error::WaveError;
 pub use header::read_header;
-pub use options::{Converted, WaveOptions, WaveWritten};
+pub use options::{Converted, ExactWave, FilledWave, WaveOptions, WaveWritten};
 pub use status::{StatusUse, Unsaid, rate_named, status_of, unsaid_of};
 pub use wave_reading::from_wav;
-pub use wave_writing::to_wav;
+pub use wave_writing::{to_exact_wav, to_filled_wav, to_valid_wav, to_wav};

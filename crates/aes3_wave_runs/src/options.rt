@@ -2,6 +2,7 @@
 
 use crate::status::StatusUse;
 use aes3_cell::Counts;
+use aes3_engine::{Exact, Filled};
 use aes3_forms_words::Words;
 use aes3_status::Change;
 use aes3_wave::{Channels, Mono, WaveHeader};
@@ -40,5 +41,24 @@ pub struct WaveWritten {
     pub counts: Counts,
     /// The sampling frequency that the first block names, in hertz; `None` where it names none, or no
     /// block came.
+    pub named: Option<u32>,
+}
+
+/// What `to_exact_wav` answers.
+#[derive(Clone, Copy)]
+pub struct ExactWave {
+    /// What `to_exact_pcm` answers.
+    pub exact: Exact,
+    /// The sampling frequency that the first block names, as in [`WaveWritten`].
+    pub named: Option<u32>,
+}
+
+/// What `to_filled_wav` answers.
+#[derive(Clone, Copy)]
+pub struct FilledWave {
+    /// What `to_filled_pcm` answers.
+    pub filled: Filled,
+    /// The sampling frequency that the first block names, as in [`WaveWritten`]; a marked block names
+    /// none.
     pub named: Option<u32>,
 }

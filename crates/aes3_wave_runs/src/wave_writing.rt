@@ -1,31 +1,26 @@
 //! Cells to a WAV file.
 
-ghost use Rattle.std.specs.Prelude.{◌≡◌, ℕ, ◌+◌, ◌<◌, ◌≤◌, ◌^◌, List, [], ◌∷◌, IfOk, None, true};
+ghost use Rattle.std.specs.Prelude.{◌≡◌, ◌≢◌, ℕ, ◌+◌, ◌<◌, ◌≤◌, ◌^◌, ◌++◌, List, [], IfOk, false, true};
 ghost use Rattle.aes3_cell.specs.Ends.{Grew, Told};
-ghost use Rattle.aes3_cell.specs.Writes.{Wrote};
+ghost use Rattle.aes3_forms_samples.specs.Formats.{narrowed};
 ghost use Rattle.aes3_input.specs.Inputs.{cells_of};
 ghost use Rattle.aes3_input.specs.Running.{InputRun, movement_of};
-ghost use Rattle.aes3_lock.specs.Following.{report_in};
-ghost use Rattle.aes3_lock.specs.Reports.{blocks, wholes};
-ghost use Rattle.aes3_wave.specs.Written.{written};
-ghost use Rattle.aes3_frame.specs.declared.status.Channel.TheVariants.{First};
-ghost use Rattle.aes3_frame.specs.Statuses.{status_of};
-ghost use Rattle.aes3_wave_runs.specs.Status.{rate_named};
-ghost use Rattle.aes3_wave_runs.specs.ToWav.{Noted, begun_with, format_of, header_for, named_with};
-ghost use Rattle.aes3_wave_runs.specs.ToWav.{rate_for, wave_cells, wave_of, wave_with, wave_writing};
+ghost use Rattle.aes3_lock.specs.Reports.{blocks};
+ghost use Rattle.aes3_wave.specs.declared.written.Depth.TheVariants.{Sixteen};
+ghost use Rattle.aes3_wave_runs.specs.HeadedSamples.{IsQuiet, headed_cells};
+ghost use Rattle.aes3_wave_runs.specs.ToWav.{exact_pcm, exact_wave_cells, file_by, filled_pcm};
+ghost use Rattle.aes3_wave_runs.specs.ToWav.{filled_wave_cells, format_of, valid_pcm};
+ghost use Rattle.aes3_wave_runs.specs.ToWav.{valid_wave_cells, wave_cells, wave_of};
 
-use crate::options::WaveWritten;
-use crate::status::rate_named;
-use aes3_block::{Block, samples_of_block};
-use aes3_cell::{Counts, Fault, Form, RunError, Sink, Source, write_all};
-use aes3_engine::{Reporter, put_narrowed, run_reports};
+use crate::headed::{GivenBlocks, Headed};
+use crate::options::{ExactWave, FilledWave, WaveWritten};
+use aes3_cell::{Form, RunError, Sink, Source};
+use aes3_engine::{
+    BlockReporter, Exact, ExactBlocks, Fill, Filled, FilledBlocks, Listener, MendedBlocks,
+    ReportListener, SampleBlocks, ValidSampleBlocks, run_cells,
+};
 use aes3_forms_samples::SampleFormat;
-use aes3_frame::Channel;
-use aes3_lock::{Ending, Lock};
-use aes3_wave::{Depth, header_of};
-
-/// The sampling frequency of a file whose blocks name none, in hertz.
-const USUAL_RATE: u32 = 48_000;
+use aes3_wave::Depth;
 
 /// The form of the samples.
 fn format_of(depth: Depth) -> SampleFormat
@@ -38,133 +33,36 @@ fn format_of(depth: Depth) -> SampleFormat
     }
 }
 
-/// The sampling frequency of the file: the one that is asked for, else the one that is named.
-fn rate_for(rate: Option<u32>, named: Option<u32>) -> u32
-    ensures { result ≡ rate_for rate named }
-{
-    match rate {
-        Some(rate) => rate,
-        None => match named {
-            Some(rate) => rate,
-            None => USUAL_RATE,
-        },
-    }
-}
-
-/// Writes the header of a file whose length is not known.
+/// Reads cells, and writes the samples that a listener makes of them behind the header of their file.
 ///
 /// # Errors
-/// The sink's fault; then it has taken a front of the octets.
-fn put_header<T: Sink>(sink: &mut T, depth: Depth, rate: u32) -> Result<(), Fault>
-    requires room { T.failed sink.old + 1 < 2 ^ 64 }
-    ensures { Wrote T.taken T.failed sink.old sink.new (written depth rate None) result }
-{
-    let header = header_of(depth, rate, None);
-    write_all(sink, header.as_slice())
-}
-
-/// Writes the header with the first block, and the samples of each.
-#[derive(Drop)]
-struct WaveBlocks {
+/// Those of `run_cells`.
+fn run_headed<S: Source, T: Sink, L: Listener + GivenBlocks + Drop>(
+    source: &mut S,
+    sink: &mut T,
+    max_bytes: u64,
+    input: Form,
     depth: Depth,
-    /// The sampling frequency that is asked for.
     rate: Option<u32>,
-    /// Whether a block has come.
-    has_begun: bool,
-    /// The sampling frequency that the status of the first one names.
-    named: Option<u32>,
-}
-
-impl WaveBlocks {
-    /// Writes the header with the first block, by its status.
-    ///
-    /// # Errors
-    /// The sink's fault; then it has taken a front of the octets.
-    fn begin<T: Sink>(&mut self, sink: &mut T, block: &Block) -> Result<(), Fault>
-        requires room { T.failed sink.old + 1 < 2 ^ 64 }
-        ensures depth { self.new.depth ≡ self.old.depth }
-        ensures rate { self.new.rate ≡ self.old.rate }
-        ensures begun { self.new.has_begun ≡ true }
-        ensures named { self.new.named ≡ rate_named (status_of block.now First) }
-        ensures wrote { Wrote T.taken T.failed sink.old sink.new
-            (header_for self.old.depth self.old.rate (block.now ∷ [])) result }
-    {
-        let named = rate_named(&block.channel_status(Channel::First));
-        self.has_begun = true;
-        self.named = named;
-        put_header(sink, self.depth, rate_for(self.rate, named))
-    }
-
-    /// Writes a block behind those that have come.
-    ///
-    /// # Errors
-    /// The sink's fault; then it has taken a front of the octets.
-    fn put_block<T: Sink>(&mut self, sink: &mut T, block: &Block) -> Result<(), Fault>
-        requires room { T.failed sink.old + 1 < 2 ^ 64 }
-        ensures depth { self.new.depth ≡ self.old.depth }
-        ensures rate { self.new.rate ≡ self.old.rate }
-        ensures begun { self.new.has_begun ≡ true }
-        ensures named { self.new.named
-            ≡ named_with self.old.has_begun self.old.named (block.now ∷ []) }
-        ensures wrote { Wrote T.taken T.failed sink.old sink.new
-            (wave_with self.old.depth self.old.rate self.old.has_begun (block.now ∷ [])) result }
-    {
-        let samples = samples_of_block(block);
-        if self.has_begun {
-            return put_narrowed(samples, format_of(self.depth), sink);
-        }
-        match self.begin(sink, block) {
-            Ok(()) => put_narrowed(samples, format_of(self.depth), sink),
-            Err(fault) => Err(fault),
-        }
-    }
-
-    /// Writes what a report gives.
-    ///
-    /// # Errors
-    /// The sink's fault; then it has taken a front of the octets.
-    fn put<T: Sink>(&mut self, sink: &mut T, lock: &Lock, ending: Ending) -> Result<(), Fault>
-        requires room { T.failed sink.old + 1 < 2 ^ 64 }
-        ensures depth { self.new.depth ≡ self.old.depth }
-        ensures rate { self.new.rate ≡ self.old.rate }
-        ensures begun { self.new.has_begun
-            ≡ begun_with self.old.has_begun (wholes (report_in lock.now ending ∷ [])) }
-        ensures named { self.new.named ≡ named_with self.old.has_begun self.old.named
-            (wholes (report_in lock.now ending ∷ [])) }
-        ensures wrote { Wrote T.taken T.failed sink.old sink.new
-            (wave_with self.old.depth self.old.rate self.old.has_begun
-            (wholes (report_in lock.now ending ∷ []))) result }
-    {
-        match ending {
-            Ending::Whole { .. } => self.put_block(sink, &lock.gathered().block()),
-            Ending::Marked { .. } => Ok(()),
-            Ending::Fault { .. } => Ok(()),
-            Ending::Unfinished { .. } => Ok(()),
-        }
-    }
-}
-
-impl Reporter for WaveBlocks {
-    ghost follows = { λ k r. Noted k.has_begun k.named (wholes r) };
-
-    ghost writes = { λ k. wave_writing k.depth k.rate };
-
-    fn tell<T: Sink>(
-        &mut self,
-        sink: &mut T,
-        _blocks: u64,
-        lock: &Lock,
-        ending: Ending,
-    ) -> Result<(), Fault> {
-        self.put(sink, lock, ending)
-    }
-
-    fn finish<T: Sink>(&self, sink: &mut T) -> Result<(), Fault> {
-        if self.has_begun {
-            return Ok(());
-        }
-        put_header(sink, self.depth, rate_for(self.rate, None))
-    }
+    samples: L,
+) -> Result<(WaveWritten, L), RunError>
+    requires source_room { S.failed source.old + 1 < 2 ^ 64 }
+    requires sink_room { T.failed sink.old + 1 < 2 ^ 64 }
+    requires limit { max_bytes ≤ 2 ^ 40 }
+    requires start { L.follows samples [] }
+    requires quiet { IsQuiet L.marked (L.writes samples) }
+    ensures ran { InputRun (headed_cells input depth rate L.marked (L.writes samples) L.finished)
+        max_bytes (S.has_ended source.new) (movement_of S.given S.failed source.old source.new)
+        (movement_of T.taken T.failed sink.old sink.new) result }
+    ensures passed_on { IfOk result (λ _. T.passed sink.new ≡ T.taken sink.new) }
+{
+    let headed: Headed<L> = Headed::new(depth, rate, samples);
+    let (counts, headed) = run_cells(source, sink, max_bytes, input, headed)?;
+    let written = WaveWritten {
+        counts,
+        named: headed.header.named,
+    };
+    Ok((written, headed.samples))
 }
 
 /// Reads cells from any cell on, and writes a WAV file of the samples of the blocks that stand whole and
@@ -198,17 +96,249 @@ pub fn to_wav<S: Source, T: Sink>(
         (movement_of T.taken T.failed sink.old sink.new) result }
     ensures passed_on { IfOk result (λ _. T.passed sink.new ≡ T.taken sink.new) }
 {
-    let blocks = WaveBlocks {
-        depth,
-        rate,
-        has_begun: false,
-        named: None,
+    let writer = SampleBlocks {
+        format: format_of(depth),
     };
-    match run_reports(source, sink, max_bytes, input, blocks) {
-        Ok((counts, blocks)) => Ok(WaveWritten {
-            counts,
-            named: blocks.named,
-        }),
-        Err(error) => Err(error),
+    let samples = ReportListener {
+        reporter: BlockReporter { writer },
+    };
+    let (written, _) = run_headed(source, sink, max_bytes, input, depth, rate, samples)?;
+    Ok(written)
+}
+
+/// Does what [`to_wav`] does with the samples of `to_valid_pcm`: zero for each that is not valid.
+///
+/// # Errors
+/// Those of `to_wav`.
+pub fn to_valid_wav<S: Source, T: Sink>(
+    source: &mut S,
+    sink: &mut T,
+    max_bytes: u64,
+    input: Form,
+    depth: Depth,
+    rate: Option<u32>,
+) -> Result<WaveWritten, RunError>
+    requires source_room { S.failed source.old + 1 < 2 ^ 64 }
+    requires sink_room { T.failed sink.old + 1 < 2 ^ 64 }
+    requires limit { max_bytes ≤ 2 ^ 40 }
+
+    // Where it answers Ok, the file of these samples is written.
+    ensures file { IfOk result (λ _. (b : List ℕ) → Told (S.given source.old) (S.given source.new) b
+        → Grew (T.taken sink.old) (T.taken sink.new)
+        (file_by depth rate false (valid_pcm depth) (cells_of input b))) }
+
+    // What it answers to every input, and has written then.
+    ensures run { InputRun (valid_wave_cells input depth rate) max_bytes (S.has_ended source.new)
+        (movement_of S.given S.failed source.old source.new)
+        (movement_of T.taken T.failed sink.old sink.new) result }
+    ensures passed_on { IfOk result (λ _. T.passed sink.new ≡ T.taken sink.new) }
+{
+    let writer = ValidSampleBlocks {
+        format: format_of(depth),
+    };
+    let samples = ReportListener {
+        reporter: BlockReporter { writer },
+    };
+    let (written, _) = run_headed(source, sink, max_bytes, input, depth, rate, samples)?;
+    Ok(written)
+}
+
+/// Does what [`to_exact_wav`] does, in 16 bits.
+fn to_exact_16<S: Source, T: Sink>(
+    source: &mut S,
+    sink: &mut T,
+    max_bytes: u64,
+    input: Form,
+    rate: Option<u32>,
+) -> Result<ExactWave, RunError>
+    requires source_room { S.failed source.old + 1 < 2 ^ 64 }
+    requires sink_room { T.failed sink.old + 1 < 2 ^ 64 }
+    requires limit { max_bytes ≤ 2 ^ 40 }
+    ensures run { InputRun (exact_wave_cells input Sixteen rate) max_bytes (S.has_ended source.new)
+        (movement_of S.given S.failed source.old source.new)
+        (movement_of T.taken T.failed sink.old sink.new) result }
+    ensures passed_on { IfOk result (λ _. T.passed sink.new ≡ T.taken sink.new) }
+{
+    let samples = ReportListener {
+        reporter: ExactBlocks::new(),
+    };
+    let (written, samples) = run_headed(
+        source,
+        sink,
+        max_bytes,
+        input,
+        Depth::Sixteen,
+        rate,
+        samples,
+    )?;
+    Ok(ExactWave {
+        exact: Exact {
+            counts: written.counts,
+            refused: samples.reporter.refused,
+        },
+        named: written.named,
+    })
+}
+
+/// Does what [`to_exact_wav`] does, in a width that holds 24 bits, where no sample loses any.
+fn to_exact_24<S: Source, T: Sink>(
+    source: &mut S,
+    sink: &mut T,
+    max_bytes: u64,
+    input: Form,
+    depth: Depth,
+    rate: Option<u32>,
+) -> Result<ExactWave, RunError>
+    requires source_room { S.failed source.old + 1 < 2 ^ 64 }
+    requires sink_room { T.failed sink.old + 1 < 2 ^ 64 }
+    requires limit { max_bytes ≤ 2 ^ 40 }
+    requires wide { depth ≢ Sixteen }
+    ensures run { InputRun (exact_wave_cells input depth rate) max_bytes (S.has_ended source.new)
+        (movement_of S.given S.failed source.old source.new)
+        (movement_of T.taken T.failed sink.old sink.new) result }
+    ensures passed_on { IfOk result (λ _. T.passed sink.new ≡ T.taken sink.new) }
+{
+    let written = to_wav(source, sink, max_bytes, input, depth, rate)?;
+    Ok(ExactWave {
+        exact: Exact {
+            counts: written.counts,
+            refused: None,
+        },
+        named: written.named,
+    })
+}
+
+/// Does what [`to_wav`] does with the samples of `to_exact_pcm`: up to the first block whose samples
+/// would lose bits in this width, which is told at the end.
+///
+/// # Errors
+/// Those of `to_wav`.
+pub fn to_exact_wav<S: Source, T: Sink>(
+    source: &mut S,
+    sink: &mut T,
+    max_bytes: u64,
+    input: Form,
+    depth: Depth,
+    rate: Option<u32>,
+) -> Result<ExactWave, RunError>
+    requires source_room { S.failed source.old + 1 < 2 ^ 64 }
+    requires sink_room { T.failed sink.old + 1 < 2 ^ 64 }
+    requires limit { max_bytes ≤ 2 ^ 40 }
+
+    // Where it answers Ok, the file of these samples is written.
+    ensures file { IfOk result (λ _. (b : List ℕ) → Told (S.given source.old) (S.given source.new) b
+        → Grew (T.taken sink.old) (T.taken sink.new)
+        (file_by depth rate false (exact_pcm depth) (cells_of input b))) }
+
+    // What it answers to every input, and has written then.
+    ensures run { InputRun (exact_wave_cells input depth rate) max_bytes (S.has_ended source.new)
+        (movement_of S.given S.failed source.old source.new)
+        (movement_of T.taken T.failed sink.old sink.new) result }
+    ensures passed_on { IfOk result (λ _. T.passed sink.new ≡ T.taken sink.new) }
+{
+    match depth {
+        Depth::Sixteen => to_exact_16(source, sink, max_bytes, input, rate),
+        Depth::TwentyFour => to_exact_24(source, sink, max_bytes, input, depth, rate),
+        Depth::ThirtyTwo => to_exact_24(source, sink, max_bytes, input, depth, rate),
+    }
+}
+
+/// Does what [`to_filled_wav`] does, and gives no marked block.
+fn to_filled_whole<S: Source, T: Sink>(
+    source: &mut S,
+    sink: &mut T,
+    max_bytes: u64,
+    input: Form,
+    depth: Depth,
+    rate: Option<u32>,
+    fill: Fill,
+) -> Result<FilledWave, RunError>
+    requires source_room { S.failed source.old + 1 < 2 ^ 64 }
+    requires sink_room { T.failed sink.old + 1 < 2 ^ 64 }
+    requires limit { max_bytes ≤ 2 ^ 40 }
+    ensures run { InputRun (filled_wave_cells input depth rate fill false) max_bytes
+        (S.has_ended source.new) (movement_of S.given S.failed source.old source.new)
+        (movement_of T.taken T.failed sink.old sink.new) result }
+    ensures passed_on { IfOk result (λ _. T.passed sink.new ≡ T.taken sink.new) }
+{
+    let samples = ReportListener {
+        reporter: FilledBlocks::new(fill, format_of(depth)),
+    };
+    let (written, samples) = run_headed(source, sink, max_bytes, input, depth, rate, samples)?;
+    Ok(FilledWave {
+        filled: Filled {
+            counts: written.counts,
+            frames: samples.reporter.frames(written.counts.blocks, 0),
+            marked: 0,
+        },
+        named: written.named,
+    })
+}
+
+/// Does what [`to_filled_wav`] does, and gives the marked blocks.
+fn to_filled_marked<S: Source, T: Sink>(
+    source: &mut S,
+    sink: &mut T,
+    max_bytes: u64,
+    input: Form,
+    depth: Depth,
+    rate: Option<u32>,
+    fill: Fill,
+) -> Result<FilledWave, RunError>
+    requires source_room { S.failed source.old + 1 < 2 ^ 64 }
+    requires sink_room { T.failed sink.old + 1 < 2 ^ 64 }
+    requires limit { max_bytes ≤ 2 ^ 40 }
+    ensures run { InputRun (filled_wave_cells input depth rate fill true) max_bytes
+        (S.has_ended source.new) (movement_of S.given S.failed source.old source.new)
+        (movement_of T.taken T.failed sink.old sink.new) result }
+    ensures passed_on { IfOk result (λ _. T.passed sink.new ≡ T.taken sink.new) }
+{
+    let samples = MendedBlocks::new(fill, format_of(depth));
+    let (written, samples) = run_headed(source, sink, max_bytes, input, depth, rate, samples)?;
+    Ok(FilledWave {
+        filled: Filled {
+            counts: written.counts,
+            frames: samples.filled.frames(written.counts.blocks, samples.marked),
+            marked: samples.marked,
+        },
+        named: written.named,
+    })
+}
+
+/// Does what [`to_wav`] does with the samples of `to_filled_pcm`: frames between them fill the time that
+/// no block gives, and where `marked` says so, marked blocks are given too. A marked block names no
+/// sampling frequency, as its channel status may be wrong.
+///
+/// # Errors
+/// Those of `to_wav`.
+pub fn to_filled_wav<S: Source, T: Sink>(
+    source: &mut S,
+    sink: &mut T,
+    max_bytes: u64,
+    input: Form,
+    depth: Depth,
+    rate: Option<u32>,
+    fill: Fill,
+    marked: bool,
+) -> Result<FilledWave, RunError>
+    requires source_room { S.failed source.old + 1 < 2 ^ 64 }
+    requires sink_room { T.failed sink.old + 1 < 2 ^ 64 }
+    requires limit { max_bytes ≤ 2 ^ 40 }
+
+    // Where it answers Ok, the file of these samples is written.
+    ensures file { IfOk result (λ _. (b : List ℕ) → Told (S.given source.old) (S.given source.new) b
+        → Grew (T.taken sink.old) (T.taken sink.new)
+        (file_by depth rate marked (filled_pcm depth fill marked) (cells_of input b))) }
+
+    // What it answers to every input, and has written then.
+    ensures run { InputRun (filled_wave_cells input depth rate fill marked) max_bytes
+        (S.has_ended source.new) (movement_of S.given S.failed source.old source.new)
+        (movement_of T.taken T.failed sink.old sink.new) result }
+    ensures passed_on { IfOk result (λ _. T.passed sink.new ≡ T.taken sink.new) }
+{
+    if marked {
+        to_filled_marked(source, sink, max_bytes, input, depth, rate, fill)
+    } else {
+        to_filled_whole(source, sink, max_bytes, input, depth, rate, fill)
     }
 }
