@@ -34,8 +34,8 @@ mod words;
 
 pub use aes3_frame::Fill;
 pub use aes3_lock_runs::{
-    BlockReporter, BlockWriter, Followed, Input, Listener, ReportListener, Reporter, Taker, Tally, cell, convert,
-    drive, run_blocks, run_cells, run_reports, word,
+    BlockReporter, BlockWriter, Followed, Input, Listener, ReportListener, Reporter, Taker, Tally,
+    cell, convert, drive, run_blocks, run_cells, run_reports, word,
 };
 pub use aes3_status::{CarriedBits, Change, Taken};
 pub use carrying::to_bits;

@@ -174,6 +174,14 @@ impl Input<Change> for SampleInput {
 }
 
 impl SampleInput {
+    /// How many bytes of the block that is begun have come.
+    pub fn begun_len(&self) -> usize
+        ensures len { result ≡ self.now.at }
+        ensures few { result < 1536 }
+    {
+        self.at
+    }
+
     /// Samples in this form, of which none has come; `exact` refuses those of more than 24 bits, and
     /// `words` is the form of the words that are written.
     pub fn new(format: SampleFormat, exact: bool, words: Words) -> Self

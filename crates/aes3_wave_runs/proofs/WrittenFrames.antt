@@ -1,6 +1,7 @@
 -- Frames of two samples in a form: they are made samples of 32 bits as the form makes them.
-use Rattle.std.proofs.Common.{◌≡◌, ℕ, zero, suc, ◌*◌, ◌≤◌, List, [], ◌∷◌, Some, length, take, refl, sym, ap, ap₂, ◌∙◌, arith}
-use Rattle.std.proofs.lemmas.List.{length-take-le, nil_from_length, take-take}
+use Rattle.std.proofs.Common.{◌≡◌, ℕ, zero, suc, ◌+◌, ◌-◌, ◌*◌, ◌≤◌, List, [], ◌∷◌, ◌++◌, Some, length, take, drop}
+use Rattle.std.proofs.Common.{refl, sym, ap, ap₂, ◌∙◌, arith, take-append-drop}
+use Rattle.std.proofs.lemmas.List.{length-take-le, nil_from_length, take-take, take_at}
 use Rattle.aes3_forms_samples.specs.declared.format.SampleFormat.{SampleFormat}
 use Rattle.aes3_forms_samples.specs.declared.format.SampleFormat.TheVariants.{S16, S24, S24In32, S32}
 use Rattle.aes3_forms_samples.specs.Formats.{block_len, wide_threes, wide_twos, widened}
@@ -14,7 +15,8 @@ use Rattle.aes3_wave.specs.Formats.{frame_len}
 use Rattle.aes3_wave.specs.Samples.{two_samples}
 use Rattle.aes3_wave.specs.Written.{written_format}
 use Rattle.aes3_wave_runs.specs.Frames.{IsForm, parts_of}
-use Rattle.aes3_wave_runs.proofs.Parts.{parts-take}
+use Rattle.aes3_wave_runs.proofs.FrameSteps.{eight}
+use Rattle.aes3_wave_runs.proofs.Parts.{length-parts, parts-join, parts-take}
 
 -- the samples of frames of two channels, of so many octets each
 abbrev pub pair_of : Depth → ℕ → List ℕ → List ℕ
@@ -82,18 +84,40 @@ block-parts f channels S32 b is long =
     ∙ sym (parts-take (pair_of ThirtyTwo f.rate) 8 192 1536 b (omega (arith, long)) (omega arith))
     ∙ thirty-two f.rate 192 (take 1536 b) (length-take-le 1536 b (omega (arith, long)))
 
-block-most : (form : SampleFormat) → block_len form ≤ 1536
-unfolding block_len
-block-most S16 = omega arith
-block-most S24 = omega arith
-block-most S24In32 = omega arith
-block-most S32 = omega arith
+pub frame-most : (f : WaveFormat) (channels : Channels) (form : SampleFormat) (n : ℕ) → IsForm f channels form → n ≤ 192
+    → n * frame_len f ≤ 1536
+frame-most f channels S16 n is few =
+    let e = ap (λ g. n * frame_len g) (format-is f Sixteen is.two is.bits.0 is.bits.1) in omega arith
+frame-most f channels S24 n is few =
+    let e = ap (λ g. n * frame_len g) (format-is f TwentyFour is.two is.bits.0 is.bits.1) in omega arith
+frame-most f channels S24In32 n is few = absurd is.bits
+frame-most f channels S32 n is few =
+    let e = ap (λ g. n * frame_len g) (format-is f ThirtyTwo is.two is.bits.0 is.bits.1) in omega arith
 
--- as the first of octets
-pub first-parts : (f : WaveFormat) (channels : Channels) (form : SampleFormat) (b block : List ℕ)
-    → IsForm f channels form → 1536 ≤ length b → block ≡ take 1536 b
-    → widened form (take (block_len form) block) ≡ parts_of (two_samples f channels) (frame_len f) 192 b
-first-parts f channels form b block is long first =
-    ap (λ v. widened form (take (block_len form) v)) first
-    ∙ ap (widened form) (take-take (block_len form) 1536 b (block-most form))
-    ∙ sym (block-parts f channels form b is long)
+-- what is made of the first n parts of some more
+front-made : (made : List ℕ → List ℕ) (len n m : ℕ) (b : List ℕ) → ((v : List ℕ) → length (made v) ≡ 8) → n ≤ m
+    → n * len ≤ length b → take (8 * n) (parts_of made len m b) ≡ parts_of made len n (take (n * len) b)
+front-made made len n m b h few long =
+    let p = take (n * len) b in
+    let q = drop (n * len) b in
+    let e : p ++ q ≡ b = take-append-drop (n * len) b in
+    let k : m ≡ n + (m - n) = omega arith in
+    ap (λ v. take (8 * n) (parts_of made len m v)) (sym e) ∙ ap (λ j. take (8 * n) (parts_of made len j (p ++ q))) k
+    ∙ ap (take (8 * n)) (parts-join made len n (m - n) p q (length-take-le (n * len) b long))
+    ∙ take_at (parts_of made len n p) (parts_of made len (m - n) q) (8 * n) (length-parts made len n p h)
+
+-- the first frames of octets b, of which a block has the first k
+pub first-frames : (f : WaveFormat) (channels : Channels) (form : SampleFormat) (n k : ℕ) (b block : List ℕ)
+    → IsForm f channels form → length block ≡ 1536 → n ≤ 192 → n * frame_len f ≤ length b → n * frame_len f ≤ k
+    → take k block ≡ take k b
+    → take (8 * n) (widened form (take (block_len form) block))
+    ≡ parts_of (two_samples f channels) (frame_len f) n b
+first-frames f channels form n k b block is long few enough within same =
+    let made = two_samples f channels in
+    let len = frame_len f in
+    let most = frame-most f channels form n is few in
+    let front : take (n * len) block ≡ take (n * len) b =
+    sym (take-take (n * len) k block within) ∙ ap (take (n * len)) same ∙ take-take (n * len) k b within in
+    ap (take (8 * n)) (sym (block-parts f channels form block is (omega arith)))
+    ∙ front-made made len n 192 block (eight f channels) few (omega arith)
+    ∙ ap (parts_of made len n) front ∙ parts-take made len n (n * len) b enough (omega arith)

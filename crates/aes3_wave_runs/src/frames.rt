@@ -31,25 +31,39 @@ fn form_of(format: WaveFormat, channels: Channels) -> Option<SampleFormat>
     }
 }
 
-/// Puts the samples of the block of frames that octets begin with, each as one of 32 bits, into a piece.
-/// Answers whether it did: where the frames have a form of `from_pcm_words`, and there are octets enough.
+/// A block that begins with these octets, and goes on with zeros.
+fn block_of(octets: &[u8]) -> [u8; BLOCK_BYTES]
+    requires few { length octets.now ≤ 1536 }
+    ensures len { length result ≡ 1536 }
+    ensures front { take (length octets.now) result ≡ octets.now }
+{
+    let mut block = [0; BLOCK_BYTES];
+    block[..octets.len()].copy_from_slice(octets);
+    block
+}
+
+/// Puts the samples of two channels of the first frames, of a block at most, into the front of a piece,
+/// each as one of 32 bits. Answers whether it did: where the frames have a form of `from_pcm_words`.
 /// It equals [`put_each`], which takes four times as long.
 fn put_block(
     format: WaveFormat,
     channels: Channels,
     octets: &[u8],
+    count: usize,
     wide: &mut [u8; BLOCK_BYTES],
 ) -> bool
-    ensures { result ≡ true → wide.new
-        ≡ parts_of (two_samples format channels) (frame_len format) BLOCK_FRAMES octets.now }
+    requires frames { count * frame_len format ≤ length octets.now }
+    requires room { count ≤ BLOCK_FRAMES }
+    ensures { result ≡ true → take (PAIR_LEN * count) wide.new
+        ≡ parts_of (two_samples format channels) (frame_len format) count octets.now }
 {
     let Some(form) = form_of(format, channels) else {
         return false;
     };
-    let Some(block) = octets.first_chunk() else {
-        return false;
+    *wide = match octets.first_chunk() {
+        Some(block) => form.widen(block),
+        None => form.widen(&block_of(octets)),
     };
-    *wide = form.widen(block);
     true
 }
 
@@ -88,7 +102,7 @@ pub(crate) fn put_frames(
     ensures { take (PAIR_LEN * count) wide.new
         ≡ parts_of (two_samples format channels) (frame_len format) count octets.now }
 {
-    if count < BLOCK_FRAMES || !put_block(format, channels, octets, wide) {
+    if !put_block(format, channels, octets, count, wide) {
         put_each(format, channels, octets, count, wide);
     }
 }

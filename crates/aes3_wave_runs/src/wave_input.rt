@@ -96,7 +96,9 @@ impl WaveInput {
             (movement_of T.taken T.failed sink.old sink.new) result }
     {
         let len = self.format.frame_len();
-        let count = (octets.len() / len).min(BLOCK_FRAMES);
+        // No more than the block that is begun lacks, so that those after it are taken whole.
+        let due = BLOCK_FRAMES - self.samples.begun_len() / PAIR_LEN;
+        let count = (octets.len() / len).min(due);
         let mut wide = [0; BLOCK_BYTES];
         put_frames(self.format, self.channels, octets, count, &mut wide);
         match feed_fronts(&mut self.samples, change, sink, &wide[..PAIR_LEN * count]) {

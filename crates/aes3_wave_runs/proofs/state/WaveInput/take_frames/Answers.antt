@@ -6,6 +6,22 @@ use Rattle.aes3_wave_runs.specs.Wave.{frames_state}
 use Rattle.aes3_wave_runs.proofs.FrameSteps.{div-some, frames-following, whole-fed, whole-fits, whole-refused}
 use Rattle.aes3_wave_runs.proofs.state.WaveInput.take_frames.Goals as goal
 
+pub put_frames-requires-clause-frames : goal.put_frames-requires-clause-frames
+put_frames-requires-clause-frames g c =
+    let s = c.args.self.now in
+    let xs = c.args.octets.now in
+    let count = c.min-count.result in
+    let m = c.min-count.ensures in
+    let len = c.frame_len-len.ensures.len in
+    let few = s.few in
+    let long = c.requires.some in
+    let due = c.begun_len.ensures.few in
+    let e : count * c.frame_len-len.result ≡ count * frame_len s.format = ap (λ k. count * k) len in
+    let one = div-some c.frame_len-len.result (length xs) (omega arith) (omega arith) in
+    let fits = whole-fits count c.frame_len-len.result (length xs) (omega arith) (omega arith) (omega arith) (omega arith) in
+    let all = fits.1 in
+    omega arith
+
 pub feed_fronts-requires-clause-following : goal.feed_fronts-requires-clause-following
 feed_fronts-requires-clause-following g c =
     let s = c.args.self.now in
