@@ -10,10 +10,10 @@ pub const FIRST_LEN: usize = 512;
 pub fn advice_on_other(first: &[u8], unit: Unit) -> Option<&'static str> {
     match FileKind::of(first) {
         FileKind::Sound(_) => Some(
-            "this is a sound file: `sox FILE -t s32 -c 2 - | aes3 from-pcm` takes its samples",
+            "this is a sound file: `aes3 from-wav FILE` makes a block file of a WAV file",
         ),
         FileKind::ValueChanges => Some(
-            "this is a value change dump: `sigrok-cli -I vcd:downsample=10 -i FILE -O binary | aes3-cells` makes cells of it, at a time scale of 1 ns",
+            "this is a value change dump: `transitions.py --signal NAME FILE | aes3-cells` makes cells of it, with the script that `man aes3-cells` names",
         ),
         FileKind::Session => Some(
             "a session of sigrok begins so: `sigrok-cli -i FILE -O binary | aes3-cells` makes cells of it",
@@ -24,7 +24,7 @@ pub fn advice_on_other(first: &[u8], unit: Unit) -> Option<&'static str> {
             Some("these are cells as text already: `aes3 check FILE` reads them")
         }
         FileKind::OtherText if first.contains(&b'\n') => Some(
-            "this is text, and may be a table (CSV) of a logic analyser: export its samples as octets",
+            "this is text, and may be a table (CSV) of a logic analyser: `man aes3-cells` has the command for it",
         ),
         _ if are_packed(first) && has_single_sample(first, unit) => {
             Some("these are packed cells already: `aes3 check --packed-in FILE` reads them")

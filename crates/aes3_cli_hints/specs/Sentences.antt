@@ -35,7 +35,7 @@ told_texts = codes "this is a WAV file: `aes3 from-wav` makes a block file of it
     ∷ codes "this is an AU file: `sox FILE -t s32 -c 2 - | aes3 from-pcm` takes its samples"
     ∷ codes "this is an MPEG-4 file: `ffmpeg -i FILE -ac 2 -f s32le - | aes3 from-pcm` takes its samples"
     ∷ codes
-    "this is a value change dump: `sigrok-cli -I vcd:downsample=10 -i FILE -O binary | aes3-cells` makes cells of it, at a time scale of 1 ns"
+    "this is a value change dump: `transitions.py --signal NAME FILE | aes3-cells` makes cells of it, with the script that `man aes3-cells` names"
     ∷ codes "this is a program"
     ∷ codes "a session of sigrok begins so: `sigrok-cli -i FILE -O binary | aes3-cells` makes cells of it"
     ∷ codes "these look like samples of a logic analyser: `aes3-cells < FILE` makes cells of them"

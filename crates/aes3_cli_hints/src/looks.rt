@@ -179,7 +179,7 @@ fn advice_on_other(error: RunError, looks: FileKind) -> Option<&'static str>
     let is_of_samples = matches!(error, RunError::BadSample { .. });
     match (error, looks) {
         (_, FileKind::ValueChanges) => Some(
-            "this is a value change dump: `sigrok-cli -I vcd:downsample=10 -i FILE -O binary | aes3-cells` makes cells of it, at a time scale of 1 ns",
+            "this is a value change dump: `transitions.py --signal NAME FILE | aes3-cells` makes cells of it, with the script that `man aes3-cells` names",
         ),
         (_, FileKind::Executable) => Some("this is a program"),
         (_, FileKind::Session) => Some(
