@@ -233,7 +233,9 @@ from_pcm = command (codes "from-pcm")
     ∷ flag (codes "mend-check") ∷ flag (codes "exact") ∷ pcm ∷ words ∷ input ∷ output ∷ file ∷ [])
 
 abbrev pub to_wav : Shape
-to_wav = reader_with (codes "to-wav") (text_option (codes "bits") ∷ number_option (codes "rate") 1 most_frames ∷ input ∷ output ∷ file ∷ [])
+to_wav = reader_with (codes "to-wav")
+    (text_option (codes "bits") ∷ number_option (codes "rate") 1 most_frames
+    ∷ flag (codes "valid") ∷ text_option (codes "fill") ∷ flag (codes "marked") ∷ flag (codes "exact") ∷ input ∷ output ∷ file ∷ [])
 
 abbrev pub from_wav : Shape
 from_wav = command (codes "from-wav")

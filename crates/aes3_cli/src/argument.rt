@@ -76,15 +76,15 @@ pub(crate) enum Argument {
     ClearUser1,
     /// `--clear-user2`: the user bits of channel 2 become 0.
     ClearUser2,
-    /// `--valid` of `to-pcm`.
+    /// `--valid` of `to-pcm` and `to-wav`.
     Valid,
-    /// `--fill zero|hold` of `to-pcm`.
+    /// `--fill zero|hold` of `to-pcm` and `to-wav`.
     Fill,
-    /// `--marked` of `to-pcm`.
+    /// `--marked` of `to-pcm` and `to-wav`.
     Marked,
     /// `--exact` of `from-pcm`.
     Exact,
-    /// `--exact` of `to-pcm`.
+    /// `--exact` of `to-pcm` and `to-wav`.
     ExactSamples,
     /// `--exact` of `rewrite`.
     ExactSettings,

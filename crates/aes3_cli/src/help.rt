@@ -195,11 +195,26 @@ that the channel status of channel 1 in the first block names. Otherwise it is 4
 Hz, and standard error says so. Cut and damaged blocks are left out without a message;
 `aes3 check --gaps` reports them.
 
+--valid, --fill, --marked and --exact do what they do in `aes3 to-pcm`.
+With --valid, a sample that is not valid (its validity bit is 1) is written as zero.
+With --fill the samples keep time. Frames are written for the time between two whole
+blocks: frames of zeros (`zero`) or copies of the last frame before (`hold`). So each
+block is at most half a frame from the time of its cells, counted from the first block.
+At the end standard error has the number of these frames, as `aes3: filled 192 frames`.
+With --marked too, a block whose only errors are parity errors is also written. Each of
+its subframes with a parity error is filled in the same way. A marked block names no
+sampling frequency: if one comes first, the file says 48000 Hz unless --rate is given.
+With --exact, a sample that would lose bits is an error that gives its block's place.
+With --bits 16 that is a sample of more than 16 bits. That block and all blocks after it
+are not written. The input is read to its end first.
+
 Exit status: 0 done, also if no block was found; 3 refused: 1 a byte is not a cell, 10
-packed cells end wrongly; or as for every command.
+packed cells end wrongly, 13 with --exact a block would lose bits; or as for every
+command.
 
 Examples:
     aes3 to-wav < line.txt > line.wav
+    aes3 to-wav --fill hold < line.txt > line.wav
     aes3 to-wav --bits 16 --rate 48000 < line.txt > small.wav
     aes3 encode < speech.block | aes3 to-wav | aes3 from-wav | aes3 encode | aes3 to-wav | cmp - line.wav",
 };

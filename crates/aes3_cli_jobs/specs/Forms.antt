@@ -7,6 +7,8 @@ use Rattle.aes3_cli_jobs.specs.declared.job.Job.{Job}
 use Rattle.aes3_cli_jobs.specs.declared.job.Job.TheVariants.{Encode, Stream, Read, FromPcm, FromWav}
 use Rattle.aes3_cli_jobs.specs.declared.work.ReadWork.{ReadWork}
 use Rattle.aes3_cli_jobs.specs.declared.work.ReadWork.TheVariants.{Check, Account, Watch, WatchSums, Info}
+use Rattle.aes3_cli_jobs.specs.declared.work.ReadWork.TheVariants.{ToWav, ToExactWav, ToFilledWav}
+use Rattle.aes3_wave.specs.declared.written.Depth.{Depth}
 
 -- whether it is the packed form
 abbrev pub is_packed : Form → Bool
@@ -55,3 +57,10 @@ read_finds_faults work = false
 abbrev pub finds_faults : Job → Bool
 finds_faults (Read input work) = read_finds_faults work
 finds_faults job = false
+
+-- the width of the samples of the WAV file that it writes, if it writes one
+abbrev pub wave_depth : ReadWork → Option Depth
+wave_depth (ToWav depth rate valid) = Some depth
+wave_depth (ToExactWav depth rate) = Some depth
+wave_depth (ToFilledWav depth rate fill marked) = Some depth
+wave_depth work = None

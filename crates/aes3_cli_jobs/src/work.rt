@@ -1,7 +1,7 @@
 //! What is done with the cells that a job reads.
 
 ghost use Rattle.std.specs.Prelude.{◌≡◌};
-ghost use Rattle.aes3_cli_jobs.specs.Forms.{read_finds_faults};
+ghost use Rattle.aes3_cli_jobs.specs.Forms.{read_finds_faults, wave_depth};
 
 use aes3_forms_samples::SampleFormat;
 use aes3_forms_words::Words;
@@ -78,11 +78,25 @@ pub enum ReadWork {
         fill: Fill,
         marked: bool,
     },
-    /// A WAV file of the samples of blocks, with this width; its sampling frequency is this in hertz, or
-    /// else that which the first block names.
+    /// A WAV file of the samples of blocks, with this width; where `valid`, with zero for those that are
+    /// not. Its sampling frequency is this in hertz, or else that which the first block names.
     ToWav {
         depth: Depth,
         rate: Option<u32>,
+        valid: bool,
+    },
+    /// Such a file of the samples up to the first block that would lose bits.
+    ToExactWav {
+        depth: Depth,
+        rate: Option<u32>,
+    },
+    /// Such a file with frames between blocks that fill the time which no block gives; where `marked`,
+    /// of blocks with wrong parity bits too, and these subframes are filled.
+    ToFilledWav {
+        depth: Depth,
+        rate: Option<u32>,
+        fill: Fill,
+        marked: bool,
     },
     /// The bits that the subframes of a channel carry after their audio.
     ToBits {
@@ -104,5 +118,17 @@ impl ReadWork {
                 | ReadWork::WatchSums { .. }
                 | ReadWork::Info { .. }
         )
+    }
+
+    /// The width of the samples of the WAV file that is written; none where none is.
+    pub fn wave_depth(&self) -> Option<Depth>
+        ensures { result ≡ wave_depth self.now }
+    {
+        match self {
+            ReadWork::ToWav { depth, .. }
+            | ReadWork::ToExactWav { depth, .. }
+            | ReadWork::ToFilledWav { depth, .. } => Some(*depth),
+            _ => None,
+        }
     }
 }
