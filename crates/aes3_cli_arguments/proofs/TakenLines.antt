@@ -351,8 +351,11 @@ to_wav_known = record {
       also (flag_sound _ _ (codes "true") refl refl refl refl)
       (also (flag_sound _ _ (codes "true") refl refl refl refl)
       (also (flag_sound _ _ (codes "true") refl refl refl refl) (also (value_sound _ _ refl refl refl)
-      (also (value_sound _ _ refl refl refl) (also (value_sound _ _ refl refl refl) (also (value_sound _ _ refl refl refl) (also (value_sound _ _ refl refl refl) (also (help_sound _ _ refl refl)
-      tt))))))));
+      (also (value_sound _ _ refl refl refl) (also (flag_sound _ _ (codes "true") refl refl refl refl)
+      (also (value_sound _ _ refl refl refl) (also (flag_sound _ _ (codes "true") refl refl refl refl)
+      (also (flag_sound _ _ (codes "true") refl refl refl refl) (also (value_sound _ _ refl refl refl)
+      (also (value_sound _ _ refl refl refl) (also (value_sound _ _ refl refl refl) (also (help_sound _ _ refl refl)
+      tt))))))))))));
   numbers = λ rows name fit passed. other_name (codes "to-wav") refl name;
 }
 

@@ -82,13 +82,13 @@ names_flags : EachShape (HasFlag (codes "names")) (built command_line).subs
 names_flags = (tt, (tt, (tt, (tt, (tt, (tt, (refl, (tt, (tt, (tt, (tt, (tt, (tt, (tt, (tt, tt)))))))))))))))
 
 valid_flags : EachShape (HasFlag (codes "valid")) (built command_line).subs
-valid_flags = (tt, (tt, (tt, (tt, (tt, (tt, (tt, (tt, (tt, (tt, (refl, (tt, (tt, (tt, (tt, tt)))))))))))))))
+valid_flags = (tt, (tt, (tt, (tt, (tt, (tt, (tt, (tt, (tt, (tt, (refl, (tt, (refl, (tt, (tt, tt)))))))))))))))
 
 marked_flags : EachShape (HasFlag (codes "marked")) (built command_line).subs
-marked_flags = (tt, (tt, (tt, (tt, (tt, (tt, (tt, (tt, (tt, (tt, (refl, (tt, (tt, (tt, (tt, tt)))))))))))))))
+marked_flags = (tt, (tt, (tt, (tt, (tt, (tt, (tt, (tt, (tt, (tt, (refl, (tt, (refl, (tt, (tt, tt)))))))))))))))
 
 exact_flags : EachShape (HasFlag (codes "exact")) (built command_line).subs
-exact_flags = (tt, (tt, (tt, (tt, (tt, (tt, (tt, (tt, (tt, (refl, (refl, (refl, (tt, (refl, (tt, tt)))))))))))))))
+exact_flags = (tt, (tt, (tt, (tt, (tt, (tt, (tt, (tt, (tt, (refl, (refl, (refl, (refl, (refl, (tt, tt)))))))))))))))
 
 mend_check_flags : EachShape (HasFlag (codes "mend-check")) (built command_line).subs
 mend_check_flags = (tt, (tt, (tt, (tt, (tt, (tt, (tt, (tt, (tt, (refl, (tt, (refl, (tt, (refl, (tt, tt)))))))))))))))

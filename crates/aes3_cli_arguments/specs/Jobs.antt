@@ -503,8 +503,15 @@ AsksToRead name options (read.ToExactPcm pcm) =
 AsksToRead name options (read.ToFilledPcm pcm fill marked) =
     (name ≡ codes "to-pcm") × (pcm ≡ format_by options) × (fill_by options ≡ Some fill)
     × (marked ≡ is_set options (codes "marked"))
-AsksToRead name options (read.ToWav depth rate) =
+AsksToRead name options (read.ToWav depth rate valid) =
     (name ≡ codes "to-wav") × (depth ≡ depth_by options) × (rate ≡ rate_by options)
+    × (valid ≡ is_set options (codes "valid")) × (fill_by options ≡ None) × (is_set options (codes "exact") ≡ false)
+AsksToRead name options (read.ToExactWav depth rate) =
+    (name ≡ codes "to-wav") × (depth ≡ depth_by options) × (rate ≡ rate_by options) × (fill_by options ≡ None)
+    × (is_set options (codes "exact") ≡ true)
+AsksToRead name options (read.ToFilledWav depth rate fill marked) =
+    (name ≡ codes "to-wav") × (depth ≡ depth_by options) × (rate ≡ rate_by options) × (fill_by options ≡ Some fill)
+    × (marked ≡ is_set options (codes "marked"))
 AsksToRead name options (read.ToBits bits channel) =
     (name ≡ codes "to-bits") × (bits_by options ≡ Some bits)
     × IsNumber options (codes "CHANNEL") (number_of channel)

@@ -9,7 +9,9 @@ ghost use Rattle.aes3_cli_arguments.specs.Jobs.{is_professional, mono_by, mono_i
 ghost use Rattle.aes3_cli_arguments.specs.Jobs.{options_of, use_in, use_named};
 
 use crate::preset::preset;
+use crate::samples::fill;
 use crate::style::rate;
+use crate::value::flag;
 use aes3_cli_jobs::ReadWork;
 use aes3_wave::{Channels, Depth, Mono};
 use clap::ArgMatches;
@@ -19,9 +21,22 @@ pub(crate) fn to_wav(options: &ArgMatches<'_>) -> ReadWork
     requires { AreTaken (options_of options.now) }
     ensures { AsksToRead (codes "to-wav") (options_of options.now) result }
 {
-    ReadWork::ToWav {
-        depth: depth(options),
-        rate: rate(options),
+    match fill(options) {
+        Some(fill) => ReadWork::ToFilledWav {
+            depth: depth(options),
+            rate: rate(options),
+            fill,
+            marked: flag(options, "marked"),
+        },
+        None if flag(options, "exact") => ReadWork::ToExactWav {
+            depth: depth(options),
+            rate: rate(options),
+        },
+        None => ReadWork::ToWav {
+            depth: depth(options),
+            rate: rate(options),
+            valid: flag(options, "valid"),
+        },
     }
 }
 
