@@ -10,7 +10,7 @@ ghost use Rattle.std.specs.Prelude.{◌+◌, ◌<◌, ◌^◌, ◌≡◌, IfErr}
 use aes3_cell::{BufferedSink, Sink, StdSink, StdSource};
 use aes3_cli_arguments::{CommandLine, LineFault, file_of_line, line_of_words, output_of_line};
 use aes3_cli_hints::{Hints, Terminals};
-use aes3_cli_jobs::{Job, ReadWork};
+use aes3_cli_jobs::Job;
 use aes3_cli_progress::Clearing;
 use aes3_files::{Input, Preview};
 use aes3_program::Unread;
@@ -140,10 +140,7 @@ fn depth_of_line(line: &Result<CommandLine<'_>, LineFault>) -> Option<Depth> {
         return None;
     };
     match line.job {
-        Job::Read {
-            work: ReadWork::ToWav { depth, .. },
-            ..
-        } => Some(depth),
+        Job::Read { work, .. } => work.wave_depth(),
         _ => None,
     }
 }

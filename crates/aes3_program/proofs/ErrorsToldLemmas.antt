@@ -15,7 +15,8 @@ use Rattle.aes3_cli_jobs.specs.declared.job.Job.{Job}
 use Rattle.aes3_cli_jobs.specs.declared.job.Job.TheVariants.{Encode, Stream, Read, FromPcm, FromWav}
 use Rattle.aes3_cli_jobs.specs.declared.work.ReadWork.{ReadWork}
 use Rattle.aes3_cli_jobs.specs.declared.work.ReadWork.TheVariants.{Decode, Check, Account, Watch, WatchSums, Info, Show}
-use Rattle.aes3_cli_jobs.specs.declared.work.ReadWork.TheVariants.{ShowChanges, Scan, ToPcm, ToExactPcm, ToFilledPcm, ToWav, ToBits}
+use Rattle.aes3_cli_jobs.specs.declared.work.ReadWork.TheVariants.{ShowChanges, Scan, ToPcm, ToExactPcm, ToFilledPcm, ToBits}
+use Rattle.aes3_cli_jobs.specs.declared.work.ReadWork.TheVariants.{ToWav, ToExactWav, ToFilledWav}
 use Rattle.aes3_cli_jobs.specs.declared.work.StreamWork.{StreamWork}
 use Rattle.aes3_cli_jobs.specs.declared.work.StreamWork.TheVariants.{Normal, Cut, Rewrite}
 use Rattle.aes3_cli_jobs.specs.declared.refusal.Refusal.{Refusal}
@@ -23,6 +24,7 @@ use Rattle.aes3_cli_jobs.specs.declared.refusal.Refusal.TheVariants.{Run}
 use Rattle.aes3_program.specs.declared.outcome.Outcome.{Outcome}
 use Rattle.aes3_program.specs.declared.outcome.Remark.{Remark}
 use Rattle.aes3_program.specs.declared.outcome.Remark.TheVariants.{Nothing, Filled, LeftOut, Settings, UsualRate, Wave, Inexact}
+use Rattle.aes3_program.specs.declared.outcome.Remark.TheVariants.{FilledAtUsualRate}
 use Rattle.aes3_program.specs.declared.outcome.Met.{Met}
 use Rattle.aes3_status.specs.declared.change.Change.{Change}
 use Rattle.aes3_status.specs.declared.setting.Settings.{Settings as GivenSettings}
@@ -100,8 +102,12 @@ of-read-remark typed i (ToPcm p true) b n h s = line-of typed h.2 refl
 of-read-remark typed i (ToPcm p false) b n h s = line-of typed h.2 refl
 of-read-remark typed i (ToExactPcm p) b n h s = absurd cc
 of-read-remark typed i (ToFilledPcm p fill marked) b n h s = absurd cc
-of-read-remark typed i (ToWav d (Some rate)) b n h s = line-of typed h.2 refl
-of-read-remark typed i (ToWav d None) b n h s = absurd cc
+of-read-remark typed i (ToWav d (Some rate) true) b n h s = line-of typed h.2 refl
+of-read-remark typed i (ToWav d (Some rate) false) b n h s = line-of typed h.2 refl
+of-read-remark typed i (ToWav d None true) b n h s = absurd cc
+of-read-remark typed i (ToWav d None false) b n h s = absurd cc
+of-read-remark typed i (ToExactWav d rate) b n h s = absurd cc
+of-read-remark typed i (ToFilledWav d rate fill marked) b n h s = absurd cc
 of-read-remark typed i (ToBits b' c) b n h s = line-of typed h.2 refl
 
 -- the same of what a job answered
@@ -166,6 +172,9 @@ of-answer line ended source before (Ok n) failed sink errors status run t = go n
         of-done line n errors status (of-answered-remark line.typed line.job ended source before n run)
         (s ∙ ap (λ (v : Remark). status_for v (status_by line.job n.counts)) e) r
     go UsualRate e s r =
+        of-done line n errors status (of-answered-remark line.typed line.job ended source before n run)
+        (s ∙ ap (λ (v : Remark). status_for v (status_by line.job n.counts)) e) r
+    go (FilledAtUsualRate frames) e s r =
         of-done line n errors status (of-answered-remark line.typed line.job ended source before n run)
         (s ∙ ap (λ (v : Remark). status_for v (status_by line.job n.counts)) e) r
     go (Wave unsaid first second) e s r =

@@ -33,7 +33,7 @@ use Rattle.aes3_text.specs.Runs.{change_details, detail_lines}
 use Rattle.aes3_text_reports.specs.Lines.{report_lines}
 use Rattle.aes3_text_reports.specs.Scanning.{scan_counts}
 use Rattle.aes3_wave_runs.specs.FromWav.{WaveRun}
-use Rattle.aes3_wave_runs.specs.ToWav.{wave_cells}
+use Rattle.aes3_wave_runs.specs.ToWav.{exact_wave_cells, filled_wave_cells, valid_wave_cells, wave_cells}
 use Rattle.aes3_wave_runs.specs.declared.error.WaveError.{WaveError}
 use Rattle.aes3_wave_runs.specs.declared.options.Converted.{Converted}
 use Rattle.aes3_wave_runs.specs.declared.options.WaveOptions.{WaveOptions}
@@ -52,7 +52,8 @@ use Rattle.aes3_cli_jobs.specs.declared.job.Job.{Job}
 use Rattle.aes3_cli_jobs.specs.declared.job.Job.TheVariants.{Encode, Stream, Read, FromPcm, FromWav}
 use Rattle.aes3_cli_jobs.specs.declared.work.ReadWork.{ReadWork}
 use Rattle.aes3_cli_jobs.specs.declared.work.ReadWork.TheVariants.{Decode, Check, Account, Watch, WatchSums, Info, Show}
-use Rattle.aes3_cli_jobs.specs.declared.work.ReadWork.TheVariants.{ShowChanges, Scan, ToPcm, ToExactPcm, ToFilledPcm, ToWav, ToBits}
+use Rattle.aes3_cli_jobs.specs.declared.work.ReadWork.TheVariants.{ShowChanges, Scan, ToPcm, ToExactPcm, ToFilledPcm, ToBits}
+use Rattle.aes3_cli_jobs.specs.declared.work.ReadWork.TheVariants.{ToWav, ToExactWav, ToFilledWav}
 use Rattle.aes3_cli_jobs.specs.declared.refusal.Refusal.{Refusal}
 use Rattle.aes3_cli_jobs.specs.declared.refusal.Refusal.TheVariants.{Run}
 use Rattle.aes3_cli_jobs.specs.declared.work.StreamWork.{StreamWork}
@@ -61,7 +62,9 @@ use Rattle.aes3_program.specs.declared.outcome.Outcome.{Outcome}
 use Rattle.aes3_program.specs.Lines.{refusal_line, remark_line}
 use Rattle.aes3_program.specs.declared.outcome.Remark.{Remark}
 use Rattle.aes3_program.specs.declared.outcome.Remark.TheVariants.{Nothing, Filled, LeftOut, Settings, UsualRate, Wave, Inexact}
+use Rattle.aes3_program.specs.declared.outcome.Remark.TheVariants.{FilledAtUsualRate}
 use Rattle.aes3_program.specs.Outcomes.{RemarkTold, of_counts, of_exact, of_filled, of_rewritten}
+use Rattle.aes3_program.specs.Outcomes.{of_exact_wave, of_filled_wave}
 use Rattle.aes3_program.specs.Outcomes.{of_samples, of_wave, of_words, run_answer, told_as, wave_answer}
 use Rattle.aes3_program.specs.Streams.{Streams}
 
@@ -125,7 +128,11 @@ read_promise i (ToPcm format false) =
     (counts_of i)
 read_promise i (ToExactPcm format) = told_as of_exact (exact_cells i format)
 read_promise i (ToFilledPcm format fill marked) = told_as of_filled (filled_cells i format fill marked)
-read_promise i (ToWav depth rate) = told_as (of_wave rate) (wave_cells i depth rate)
+read_promise i (ToWav depth rate true) = told_as (of_wave rate) (valid_wave_cells i depth rate)
+read_promise i (ToWav depth rate false) = told_as (of_wave rate) (wave_cells i depth rate)
+read_promise i (ToExactWav depth rate) = told_as (of_exact_wave rate) (exact_wave_cells i depth rate)
+read_promise i (ToFilledWav depth rate fill marked) =
+    told_as (of_filled_wave rate) (filled_wave_cells i depth rate fill marked)
 read_promise i (ToBits bits channel) =
     plain_cells i
     (λ c. all_carried bits channel (blocks c))
@@ -197,6 +204,7 @@ status_for (Filled frames) status = status
 status_for (LeftOut words) status = status
 status_for (Settings first second) status = status
 status_for UsualRate status = status
+status_for (FilledAtUsualRate frames) status = status
 status_for (Wave unsaid first second) status = status
 status_for (Inexact at) status = 3
 

@@ -7,7 +7,7 @@ use Rattle.aes3_cli_jobs.specs.declared.refusal.Refusal.{Refusal}
 use Rattle.aes3_cli_jobs.specs.declared.refusal.Refusal.TheVariants.{Run}
 use Rattle.aes3_program.specs.declared.outcome.Remark.{Remark}
 use Rattle.aes3_program.specs.declared.outcome.Remark.TheVariants.{Nothing, Filled, LeftOut, Settings, Inexact}
-use Rattle.aes3_program.specs.declared.outcome.Remark.TheVariants.{UsualRate, Wave}
+use Rattle.aes3_program.specs.declared.outcome.Remark.TheVariants.{UsualRate, FilledAtUsualRate, Wave}
 use Rattle.aes3_program.specs.declared.outcome.UnsaidFormat.{UnsaidFormat}
 use Rattle.aes3_program.specs.declared.outcome.Met.{Met}
 use Rattle.aes3_status_text.specs.Untaken.{texts_of, untaken_lines}
@@ -65,6 +65,7 @@ remark_line typed (LeftOut words) = left_out_line words
 remark_line typed (Settings first second) =
     met_lines 1 (texts_of typed.first) first ++ met_lines 2 (texts_of typed.second) second
 remark_line typed UsualRate = usual_rate_line
+remark_line typed (FilledAtUsualRate frames) = filled_line frames ++ usual_rate_line
 remark_line typed (Wave unsaid first second) =
     unsaid_lines unsaid ++ (met_lines 1 (texts_of typed.first) first ++ met_lines 2 (texts_of typed.second) second)
 remark_line typed (Inexact at) = refusal_line (Run (refusal.Inexact at))

@@ -13,6 +13,8 @@ use Rattle.aes3_wave_runs.specs.Status.{lacks_rate, lacks_width, status_for}
 use Rattle.aes3_wave_runs.specs.declared.error.WaveError.{WaveError}
 use Rattle.aes3_wave_runs.specs.declared.error.WaveError.TheVariants as wave_error
 use Rattle.aes3_wave_runs.specs.declared.options.Converted.{Converted}
+use Rattle.aes3_wave_runs.specs.declared.options.ExactWave.{ExactWave}
+use Rattle.aes3_wave_runs.specs.declared.options.FilledWave.{FilledWave}
 use Rattle.aes3_wave_runs.specs.declared.options.WaveOptions.{WaveOptions}
 use Rattle.aes3_wave_runs.specs.declared.options.WaveWritten.{WaveWritten}
 use Rattle.aes3_wave.specs.declared.format.WaveFormat.{WaveFormat}
@@ -29,7 +31,7 @@ use Rattle.aes3_engine.specs.declared.filling.Filled.{Filled as FilledRun}
 use Rattle.aes3_program.specs.declared.outcome.Outcome.{Outcome}
 use Rattle.aes3_program.specs.declared.outcome.Remark.{Remark}
 use Rattle.aes3_program.specs.declared.outcome.Remark.TheVariants.{Nothing, Filled, LeftOut, Settings, Inexact}
-use Rattle.aes3_program.specs.declared.outcome.Remark.TheVariants.{UsualRate, Wave}
+use Rattle.aes3_program.specs.declared.outcome.Remark.TheVariants.{UsualRate, FilledAtUsualRate, Wave}
 use Rattle.aes3_program.specs.declared.outcome.UnsaidFormat.{UnsaidFormat}
 
 -- what a run's answer is as that of a job: nothing is remarked on counts alone
@@ -76,10 +78,31 @@ of_samples change n = record {
 }
 
 -- a WAV file that is written: it is remarked on where its sampling frequency is neither given nor named
+abbrev pub rate_remark : Option ℕ → Option ℕ → Remark
+rate_remark rate named = if is_some rate || is_some named then Nothing else UsualRate
+
 abbrev pub of_wave : Option ℕ → WaveWritten → Outcome
-of_wave rate n = record {
-  counts = n.counts;
-  remark = if is_some rate || is_some n.named then Nothing else UsualRate;
+of_wave rate n = record { counts = n.counts; remark = rate_remark rate n.named }
+
+-- one of blocks that are given exactly: where one is not, that is remarked alone
+abbrev pub exact_or : Option ℕ → Remark → Remark
+exact_or None remark = remark
+exact_or (Some at) remark = Inexact at
+
+abbrev pub of_exact_wave : Option ℕ → ExactWave → Outcome
+of_exact_wave rate n = record {
+  counts = n.exact.counts;
+  remark = exact_or n.exact.refused (rate_remark rate n.named);
+}
+
+-- one with frames that fill time: both are remarked
+abbrev pub filled_remark : ℕ → Option ℕ → Option ℕ → Remark
+filled_remark frames rate named = if is_some rate || is_some named then Filled frames else FilledAtUsualRate frames
+
+abbrev pub of_filled_wave : Option ℕ → FilledWave → Outcome
+of_filled_wave rate n = record {
+  counts = n.filled.counts;
+  remark = filled_remark n.filled.frames rate n.named;
 }
 
 -- how many bits of a sample count

@@ -11,7 +11,7 @@ use Rattle.aes3_status_text.specs.declared.typed.TypedSettings.{TypedSettings}
 use Rattle.aes3_cli_jobs.specs.declared.job.Job.{Job}
 use Rattle.aes3_cli_jobs.specs.declared.job.Job.TheVariants.{Encode, Stream, Read, FromPcm, FromWav}
 use Rattle.aes3_cli_jobs.specs.declared.work.ReadWork.{ReadWork}
-use Rattle.aes3_cli_jobs.specs.declared.work.ReadWork.TheVariants.{ToExactPcm, ToFilledPcm, ToWav}
+use Rattle.aes3_cli_jobs.specs.declared.work.ReadWork.TheVariants.{ToExactPcm, ToFilledPcm, ToWav, ToExactWav, ToFilledWav}
 use Rattle.aes3_cli_jobs.specs.declared.work.StreamWork.{StreamWork}
 use Rattle.aes3_cli_jobs.specs.declared.work.StreamWork.TheVariants.{Normal, Cut, Rewrite}
 use Rattle.aes3_forms_words.specs.declared.form.Words.TheVariants.{Own, Alsa, Am824}
@@ -45,7 +45,9 @@ stream_remarks (Rewrite change exact) = exact || sets_fields change
 abbrev pub read_remarks : ReadWork → Bool
 read_remarks (ToExactPcm format) = true
 read_remarks (ToFilledPcm format fill marked) = true
-read_remarks (ToWav depth rate) = not (is_some rate)
+read_remarks (ToWav depth rate valid) = not (is_some rate)
+read_remarks (ToExactWav depth rate) = true
+read_remarks (ToFilledWav depth rate fill marked) = true
 read_remarks work = false
 
 abbrev pub remarks : Job → Bool

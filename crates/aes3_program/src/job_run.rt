@@ -2,12 +2,13 @@
 
 ghost use Rattle.std.specs.Prelude.{◌≡◌, ◌<◌, ◌≤◌, ◌+◌, ◌^◌, IfOk};
 ghost use Rattle.aes3_input.specs.Running.{movement_of};
-ghost use Rattle.aes3_cli_jobs.specs.declared.work.ReadWork.TheVariants.{ToPcm};
+ghost use Rattle.aes3_cli_jobs.specs.declared.work.ReadWork.TheVariants.{ToPcm, ToWav};
 ghost use Rattle.aes3_cli_jobs.specs.declared.work.StreamWork.TheVariants.{Rewrite};
 ghost use Rattle.aes3_program.specs.JobRuns.{Answered, ReadRan, StreamRan, period, status_by, use_for};
 
 use crate::outcome::{
     Outcome, encoded, exact, filled, of_file, of_run, plain, rewritten, sampled, waved,
+    waved_exactly, waved_in_time,
 };
 use aes3_cell::{Counts, Form, RunError, Sink, Source};
 use aes3_cli_jobs::{Job, ReadWork, Refusal, StreamWork};
@@ -20,7 +21,10 @@ use aes3_info::info;
 use aes3_status::Change;
 use aes3_text::{check, scan, show_changes, show_detail};
 use aes3_watch::{account, watch, watch_sums};
-use aes3_wave_runs::{StatusUse, WaveOptions, from_wav, to_wav};
+use aes3_wave::Depth;
+use aes3_wave_runs::{
+    StatusUse, WaveOptions, from_wav, to_exact_wav, to_filled_wav, to_valid_wav, to_wav,
+};
 
 /// How many bytes an input may have.
 const MAX_BYTES: u64 = 1 << 40;
@@ -71,6 +75,32 @@ fn run_samples<S: Source, T: Sink>(
         plain(to_valid_pcm(source, sink, MAX_BYTES, input, format))
     } else {
         plain(to_pcm(source, sink, MAX_BYTES, input, format))
+    }
+}
+
+/// Runs `to-wav`: of all samples, or with zero for those that are not valid.
+fn run_wave<S: Source, T: Sink>(
+    source: &mut S,
+    sink: &mut T,
+    input: Form,
+    depth: Depth,
+    rate: Option<u32>,
+    valid: bool,
+) -> Result<Outcome, RunError>
+    requires source_room { S.failed source.old + 1 < 2 ^ 64 }
+    requires sink_room { T.failed sink.old + 1 < 2 ^ 64 }
+    ensures ran { ReadRan input (ToWav depth rate valid) (S.has_ended source.new)
+        (movement_of S.given S.failed source.old source.new)
+        (movement_of T.taken T.failed sink.old sink.new) result }
+    ensures passed_on { IfOk result (λ _. T.passed sink.new ≡ T.taken sink.new) }
+{
+    if valid {
+        waved(
+            to_valid_wav(source, sink, MAX_BYTES, input, depth, rate),
+            rate,
+        )
+    } else {
+        waved(to_wav(source, sink, MAX_BYTES, input, depth, rate), rate)
     }
 }
 
@@ -163,9 +193,24 @@ fn run_read<S: Source, T: Sink>(
             fill,
             marked,
         } => filled(to_filled_pcm(source, sink, MAX_BYTES, input, format, fill, marked)),
-        ReadWork::ToWav { depth, rate } => {
-            waved(to_wav(source, sink, MAX_BYTES, input, depth, rate), rate)
+        ReadWork::ToWav { depth, rate, valid } => {
+            run_wave(source, sink, input, depth, rate, valid)
         }
+        ReadWork::ToExactWav { depth, rate } => {
+            waved_exactly(
+                to_exact_wav(source, sink, MAX_BYTES, input, depth, rate),
+                rate,
+            )
+        }
+        ReadWork::ToFilledWav {
+            depth,
+            rate,
+            fill,
+            marked,
+        } => waved_in_time(
+            to_filled_wav(source, sink, MAX_BYTES, input, depth, rate, fill, marked),
+            rate,
+        ),
         ReadWork::ToBits { bits, channel } => {
             plain(to_bits(source, sink, MAX_BYTES, input, bits, channel))
         }

@@ -5,6 +5,7 @@ ghost use Rattle.std.specs.Option.{unwrap_or};
 ghost use Rattle.aes3_engine.specs.RewritingRuns.{taken_of};
 ghost use Rattle.aes3_program.specs.Outcomes.{answer_as, exactness, of_counts, of_exact, of_filled};
 ghost use Rattle.aes3_program.specs.Outcomes.{bits_of, of_converted, of_rewritten, of_samples, of_wave, of_words};
+ghost use Rattle.aes3_program.specs.Outcomes.{exact_or, filled_remark, of_exact_wave, of_filled_wave, rate_remark};
 ghost use Rattle.aes3_program.specs.Outcomes.{refusal_of, run_answer, unsaid_format, wave_answer};
 ghost use Rattle.aes3_wave_runs.specs.FromWav.{or_status};
 ghost use Rattle.aes3_wave_runs.specs.Status.{status_for};
@@ -14,7 +15,9 @@ use aes3_cli_jobs::Refusal;
 use aes3_engine::{EncodedWords, Exact, Filled, Rewritten};
 use aes3_status::{Change, Settings, Taken};
 use aes3_wave::{WaveFormat, Width};
-use aes3_wave_runs::{Converted, WaveError, WaveOptions, WaveWritten, status_of, unsaid_of};
+use aes3_wave_runs::{
+    Converted, ExactWave, FilledWave, WaveError, WaveOptions, WaveWritten, status_of, unsaid_of,
+};
 
 /// The settings of a channel, and which of them some block took.
 #[derive(Clone, Copy, PartialEq, Eq)]
@@ -52,8 +55,13 @@ pub enum Remark {
         first: Met,
         second: Met,
     },
-    /// Neither an option nor a block names the sampling frequency of the WAV file that is written.
+    /// Neither an option nor the first block names the sampling frequency of the WAV file that is
+    /// written.
     UsualRate,
+    /// That, and so many frames fill the time between blocks.
+    FilledAtUsualRate {
+        frames: u64,
+    },
     /// The status of blocks of a WAV file does not say this of its format; these settings were given for
     /// channel 1 and channel 2: those that the status did not take are told.
     Wave {
@@ -202,6 +210,39 @@ pub(crate) fn sampled(ran: Result<Counts, RunError>, change: &Change) -> Result<
     })
 }
 
+/// What is remarked on a WAV file, by the sampling frequency that an option gives and the one that its
+/// first block names.
+fn rate_remark(rate: Option<u32>, named: Option<u32>) -> Remark
+    ensures { result ≡ rate_remark rate named }
+{
+    if rate.is_some() || named.is_some() {
+        Remark::Nothing
+    } else {
+        Remark::UsualRate
+    }
+}
+
+/// What is remarked on one with so many frames that fill time.
+fn filled_remark(frames: u64, rate: Option<u32>, named: Option<u32>) -> Remark
+    ensures { result ≡ filled_remark frames rate named }
+{
+    if rate.is_some() || named.is_some() {
+        Remark::Filled { frames }
+    } else {
+        Remark::FilledAtUsualRate { frames }
+    }
+}
+
+/// What is remarked on a job that gives blocks exactly: that it is refused, or else this.
+fn exact_or(refused: Option<u64>, remark: Remark) -> Remark
+    ensures { result ≡ exact_or refused remark }
+{
+    match refused {
+        Some(at) => Remark::Inexact { at },
+        None => remark,
+    }
+}
+
 /// The answer of a job that writes a WAV file, whose sampling frequency is this where it is given.
 pub(crate) fn waved(
     ran: Result<WaveWritten, RunError>,
@@ -212,11 +253,35 @@ pub(crate) fn waved(
     let written = ran?;
     Ok(Outcome {
         counts: written.counts,
-        remark: if rate.is_some() || written.named.is_some() {
-            Remark::Nothing
-        } else {
-            Remark::UsualRate
-        },
+        remark: rate_remark(rate, written.named),
+    })
+}
+
+/// The answer of one that gives blocks exactly.
+pub(crate) fn waved_exactly(
+    ran: Result<ExactWave, RunError>,
+    rate: Option<u32>,
+) -> Result<Outcome, RunError>
+    ensures { result ≡ answer_as (of_exact_wave rate) ran }
+{
+    let written = ran?;
+    Ok(Outcome {
+        counts: written.exact.counts,
+        remark: exact_or(written.exact.refused, rate_remark(rate, written.named)),
+    })
+}
+
+/// The answer of one that fills time.
+pub(crate) fn waved_in_time(
+    ran: Result<FilledWave, RunError>,
+    rate: Option<u32>,
+) -> Result<Outcome, RunError>
+    ensures { result ≡ answer_as (of_filled_wave rate) ran }
+{
+    let written = ran?;
+    Ok(Outcome {
+        counts: written.filled.counts,
+        remark: filled_remark(written.filled.frames, rate, written.named),
     })
 }
 

@@ -64,6 +64,18 @@ fn put_usual_rate<T: Sink>(sink: &mut T) -> Result<(), Fault>
     write_all(sink, line.as_slice())
 }
 
+/// Writes the line of how many frames fill, and then the line of the sampling frequency.
+///
+/// # Errors
+/// The sink's fault; then it has taken a front of the lines.
+fn put_filled_at_usual_rate<T: Sink>(frames: u64, sink: &mut T) -> Result<(), Fault>
+    requires room { T.failed sink.old + 1 < 2 ^ 64 }
+    ensures { Wrote T.taken T.failed sink.old sink.new (filled_line frames ++ usual_rate_line) result }
+{
+    put_filled(frames, sink)?;
+    put_usual_rate(sink)
+}
+
 /// Writes the line that the status has no code for a sampling frequency, as one buffer.
 ///
 /// # Errors
@@ -295,6 +307,7 @@ fn put_remark<T: Sink>(
         Remark::LeftOut { words } => put_left_out(*words, sink),
         Remark::Settings { first, second } => put_settings(typed, first, second, sink),
         Remark::UsualRate => put_usual_rate(sink),
+        Remark::FilledAtUsualRate { frames } => put_filled_at_usual_rate(*frames, sink),
         Remark::Wave {
             unsaid,
             first,

@@ -1,6 +1,6 @@
 use Rattle.std.proofs.Common.{ap, ◌∙◌, arith, rules}
 use Rattle.aes3_program.specs.JobRuns.{period}
-use Rattle.aes3_program.specs.Outcomes.{of_counts, of_exact, of_filled, of_wave}
+use Rattle.aes3_program.specs.Outcomes.{of_counts, of_exact, of_exact_wave, of_filled, of_filled_wave}
 use Rattle.aes3_program.proofs.Flushes.{read-of, sums-of, told-ran}
 use Rattle.aes3_program.proofs.job_run.run_read.Goals as goal
 
@@ -46,7 +46,17 @@ returns-in-ToFilledPcm-clause-ran g c =
 
 pub returns-in-ToWav-clause-ran : goal.returns-in-ToWav-clause-ran
 returns-in-ToWav-clause-ran g c =
-    read-of c.args.input c.in-ToWav.is (told-ran (of_wave c.in-ToWav.rate) c.waved.ensures c.to_wav.ensures.run)
+    read-of c.args.input c.in-ToWav.is (search (rules, c.run_wave.ensures.ran))
+
+pub returns-in-ToExactWav-clause-ran : goal.returns-in-ToExactWav-clause-ran
+returns-in-ToExactWav-clause-ran g c =
+    read-of c.args.input c.in-ToExactWav.is
+    (told-ran (of_exact_wave c.in-ToExactWav.rate) c.waved_exactly.ensures c.to_exact_wav.ensures.run)
+
+pub returns-in-ToFilledWav-clause-ran : goal.returns-in-ToFilledWav-clause-ran
+returns-in-ToFilledWav-clause-ran g c =
+    read-of c.args.input c.in-ToFilledWav.is
+    (told-ran (of_filled_wave c.in-ToFilledWav.rate) c.waved_in_time.ensures c.to_filled_wav.ensures.run)
 
 pub returns-in-ToBits-clause-ran : goal.returns-in-ToBits-clause-ran
 returns-in-ToBits-clause-ran g c =
