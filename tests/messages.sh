@@ -67,6 +67,12 @@ words "error: the argument '--input <FILE>' cannot be used multiple times" "aes3
 words "error: a value is required for '--input <FILE>' but none was supplied" "$cut" "$aes3" cut 0 1 -i
 words "error: the argument '--every-seconds <N>' needs '--rate <HZ>'" "$watch" "$aes3" watch --every-seconds 1
 words "error: invalid value for '--pcm <s32|s24|s24in32|s16>': it is 's32', 's24', 's24in32' or 's16'" "aes3 to-pcm [OPTIONS] [FILE] > PCM" "$aes3" to-pcm --pcm s8
+to_wav="aes3 to-wav [OPTIONS] [FILE] > WAV"
+words "error: invalid value for '--fill <zero|hold>': it is 'zero' or 'hold'" "$to_wav" "$aes3" to-wav --fill one
+words "error: the argument '--fill <zero|hold>' cannot be used with '--valid'" "$to_wav" "$aes3" to-wav --fill hold --valid
+words "error: the argument '--marked' needs '--fill <zero|hold>'" "$to_wav" "$aes3" to-wav --marked
+words "error: the argument '--exact' cannot be used with '--valid' or '--fill <zero|hold>'" "$to_wav" "$aes3" to-wav --exact --fill zero
+words "error: the argument '--exact' cannot be used with '--valid' or '--fill <zero|hold>'" "$to_wav" "$aes3" to-wav --exact --valid
 words "error: unrecognized subcommand 'chek'
 
   tip: a similar subcommand exists: 'check'" "aes3 COMMAND [OPTIONS] < INPUT > OUTPUT

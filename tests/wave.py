@@ -5,8 +5,9 @@
 
 PROGRAM is aes3; without it, the one that bin/build leaves. Files that sox, ffmpeg and libsndfile (sndfile-convert) write in each width,
 sampling frequency and container are read by `from-wav`; it has to write what `from-pcm` writes of their samples, with the channel status
-that the header asks for. What `to-wav` writes is read by the three programs; they have to find the samples that `to-pcm` writes. Then come
-headers that are put together by hand, 200 damaged ones, input in small pieces, a live stream, and a file of more than 4 GiB in a pipe.
+that the header asks for. What `to-wav` writes is read by the three programs; they have to find the samples that `to-pcm` writes. With
+`--fill`, `--marked`, `--valid` and `--exact` it has to be a header and what `to-pcm` writes with the same options. Then come headers that
+are put together by hand, 200 damaged ones, input in small pieces, a live stream, and a file of more than 4 GiB in a pipe.
 
 The last line is `N passed, M failed`; the exit status is 1 if one failed. Programs that are not installed are named and left out.
 """
@@ -232,6 +233,76 @@ def others_read(folder):
     judge("to-wav of nothing", got.returncode == 0 and b"48000 Hz" in got.stderr and struct.unpack_from("<I", got.stdout, 60)[0] == 48000)
 
 
+# ---- the options of to-pcm
+
+USUAL = b"aes3: no block names a sampling frequency: the WAV file says 48000 Hz\n"
+LIKE_PCM = ((), ("--fill", "zero"), ("--fill", "hold"), ("--fill", "zero", "--marked"), ("--fill", "hold", "--marked"), ("--valid",), ("--exact",))
+
+
+def header_of(bits, rate):
+    """The header that to-wav writes while the lengths are not known."""
+    fmt = struct.pack("<HHIIHH", PCM if bits == 16 else EXTENSIBLE, 2, rate, rate * bits // 4, bits // 4, bits)
+    if bits != 16:
+        fmt += struct.pack("<HHIH", 22, bits, 3, PCM) + SUBFORMAT
+    return b"RIFF\xff\xff\xff\xffWAVE" + chunk(b"JUNK", bytes(28)) + chunk(b"fmt ", fmt) + b"data\xff\xff\xff\xff"
+
+
+def with_odd_ones(cells, subframe):
+    """Cells as text, of which one bit of this subframe is inverted: the parity is wrong, and all cells after it are inverted."""
+    at = 65 * subframe + 33
+    return cells[:at] + cells[at:].translate(bytes.maketrans(b"01", b"10"))
+
+
+def like_pcm(folder):
+    """With --fill, --marked, --valid and --exact a file is a header and what to-pcm writes with the same options."""
+    chance = random.Random(5)
+    path = f"{folder}/like.wav"
+    samples = [chance.randrange(-(2**23), 2**23) << 8 for _ in range(2 * 192 * 4)]
+    short = [chance.randrange(-(2**15), 2**15) << 16 for _ in range(2 * 192 * 4)]
+    line, line_of_16 = (ran("encode", data=ran("from-pcm", "--preset", "consumer", "--rate", "96000", data=octets(it)).stdout).stdout for it in (samples, short))
+    rows = line.splitlines(keepends=True)
+    rows[500] = b"0\n"
+    lost, not_valid = b"".join(rows), ran("rewrite", "--valid1", "1", data=line).stdout
+    inputs = {
+        "a whole line": line,
+        "a line of 16 bits": line_of_16,
+        "a block that is lost": lost,
+        "a marked block first": with_odd_ones(line, 5),
+        "a marked block": with_odd_ones(line, 384 + 5),
+        "two marked blocks first": with_odd_ones(with_odd_ones(line, 5), 384 + 7),
+        "samples that are not valid": not_valid,
+        "no block": b"",
+    }
+    for name, data in inputs.items():
+        begins_marked = name in ("a marked block first", "two marked blocks first")
+        for bits, form in ((16, "s16"), (24, "s24"), (32, "s32")):
+            for options in LIKE_PCM:
+                case = f"to-wav {' '.join(options)}, {bits} bits, {name}"
+                pcm = ran("to-pcm", "--pcm", form, *options, data=data)
+                got = ran("to-wav", "--bits", str(bits), *options, data=data)
+                # A marked block names no sampling frequency. It is the first block only with --marked.
+                is_named = bool(data) and not (begins_marked and "--marked" in options)
+                remark = b"" if is_named or pcm.returncode else USUAL
+                judge(case, got.stdout == header_of(bits, 96000 if is_named else 48000) + pcm.stdout and got.returncode == pcm.returncode)
+                judge(f"{case}, standard error", got.stderr == pcm.stderr + remark)
+                got = ran("to-wav", "--bits", str(bits), "--rate", "32000", *options, data=data)
+                judge(f"{case}, --rate", got.stdout == header_of(bits, 32000) + pcm.stdout and (got.returncode, got.stderr) == (pcm.returncode, pcm.stderr))
+    for options in LIKE_PCM:
+        pcm = ran("to-pcm", "--pcm", "s24", *options, data=lost)
+        named = ran("to-wav", *options, "-o", path, data=lost)
+        kept = read(path)
+        judge(f"to-wav {' '.join(options)} -o", named.returncode == 0 and not named.stdout and named.stderr == pcm.stderr and kept[104:] == pcm.stdout)
+        judge(f"to-wav {' '.join(options)} -o, its lengths", struct.unpack_from("<I", kept, 4)[0] == len(kept) - 8 and kept[96:104] == b"data" + struct.pack("<I", len(pcm.stdout)))
+    got = ran("to-wav", "--bits", "16", "--exact", data=line)
+    judge("to-wav --exact in 16 bits", got.returncode == 3 and got.stderr == b"aes3: refused 13 at 0\n" and got.stdout == header_of(16, 96000))
+    got = ran("to-wav", "--bits", "16", "--exact", data=line_of_16)
+    judge("to-wav --exact of 16 bits", got.returncode == 0 and not got.stderr and got.stdout == header_of(16, 96000) + struct.pack(f"<{len(short)}h", *(it >> 16 for it in short)))
+    refused = ran("to-wav", "--bits", "16", "--exact", "-o", f"{folder}/inexact.wav", data=line)
+    judge("to-wav --exact -o, refused", refused.returncode == 3 and not os.path.exists(f"{folder}/inexact.wav"))
+    got = ran("to-wav", "--valid", data=not_valid)
+    judge("to-wav --valid", got.returncode == 0 and samples_of(got.stdout)[2] == [[0] * (192 * 4), samples[1::2]])
+
+
 # ---- headers by hand
 
 
@@ -414,7 +485,7 @@ def read(path):
 
 def main():
     with tempfile.TemporaryDirectory() as folder:
-        for part in (others_write, others_read, by_hand, damaged, streams):
+        for part in (others_write, others_read, like_pcm, by_hand, damaged, streams):
             part(folder)
     print(f"{passed} passed, {failed} failed")
     return 1 if failed else 0

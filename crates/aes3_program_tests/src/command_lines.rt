@@ -6,9 +6,10 @@ use aes3_cli_jobs::{Job, ReadWork, StreamWork};
 use aes3_engine::Change;
 use aes3_forms_samples::SampleFormat;
 use aes3_forms_words::Words;
-use aes3_frame::Channel;
+use aes3_frame::{Channel, Fill};
 use aes3_status::CarriedBits;
 use aes3_text_lines::{Detail, Lines, Notation, Style};
+use aes3_wave::Depth;
 use std::alloc::Global;
 
 const TEXT: Form = Form::Text;
@@ -206,6 +207,52 @@ fn jobs_of_words(rt: HostRuntime) {
     assert!(rt; is_each_asked_for(rt.alloc()));
 }
 
+const TO_VALID_WAV: Job = Job::Read {
+    input: Form::Packed,
+    work: ReadWork::ToWav {
+        depth: Depth::ThirtyTwo,
+        rate: None,
+        valid: true,
+    },
+};
+
+const TO_EXACT_WAV: Job = Job::Read {
+    input: TEXT,
+    work: ReadWork::ToExactWav {
+        depth: Depth::TwentyFour,
+        rate: Some(44_100),
+    },
+};
+
+const TO_FILLED_WAV: Job = Job::Read {
+    input: TEXT,
+    work: ReadWork::ToFilledWav {
+        depth: Depth::Sixteen,
+        rate: None,
+        fill: Fill::Hold,
+        marked: true,
+    },
+};
+
+/// Whether each line of `to-wav` asks for its job.
+fn is_each_wave_asked_for(alloc: Global) -> bool {
+    asks_for(
+        alloc,
+        &["to-wav", "--valid", "--packed-in", "--bits", "32"],
+        TO_VALID_WAV,
+    ) && asks_for(alloc, &["to-wav", "--rate=44100", "--exact"], TO_EXACT_WAV)
+        && asks_for(
+            alloc,
+            &["to-wav", "--marked", "--fill", "hold", "--bits=16"],
+            TO_FILLED_WAV,
+        )
+}
+
+#[test]
+fn jobs_of_words_for_a_wave_file(rt: HostRuntime) {
+    assert!(rt; is_each_wave_asked_for(rt.alloc()));
+}
+
 const NO_JOBS: &[(&[&str], Told)] = &[
     (&["help"], Told::Usage),
     (&["cut", "1"], Told::Usage),
@@ -219,6 +266,8 @@ const NO_JOBS: &[(&[&str], Told)] = &[
         &["rewrite", "--status1", "0"],
         Told::Refused(RunError::BadStatusText),
     ),
+    (&["to-wav", "--marked"], Told::Usage),
+    (&["to-wav", "--fill", "hold", "--valid"], Told::Usage),
     (&["from-pcm", "--preset", "studio"], Told::Usage),
     (&["from-pcm", "--rate", "47999"], Told::Usage),
     (&["rewrite", "--set", "rate=47999"], Told::Usage),
