@@ -235,7 +235,7 @@ def others_read(folder):
 
 # ---- the options of to-pcm
 
-USUAL = b"aes3: no block names a sampling frequency: the WAV file says 48000 Hz\n"
+USUAL = b"aes3: no sampling frequency is known before the first sample: the WAV file says 48000 Hz\n"
 LIKE_PCM = ((), ("--fill", "zero"), ("--fill", "hold"), ("--fill", "zero", "--marked"), ("--fill", "hold", "--marked"), ("--valid",), ("--exact",))
 
 

@@ -37,7 +37,7 @@ met_lines channel texts met =
 
 -- what is told where the sampling frequency of a WAV file that is written is neither given nor named
 abbrev pub usual_rate_line : List ℕ
-usual_rate_line = codes "aes3: no block names a sampling frequency: the WAV file says 48000 Hz" ++ 10 ∷ []
+usual_rate_line = codes "aes3: no sampling frequency is known before the first sample: the WAV file says 48000 Hz" ++ 10 ∷ []
 
 -- what is told of the format of a WAV file, where the status has no code for it
 abbrev pub no_rate_line : ℕ → List ℕ

@@ -59,7 +59,10 @@ fn put_usual_rate<T: Sink>(sink: &mut T) -> Result<(), Fault>
     ensures { Wrote T.taken T.failed sink.old sink.new usual_rate_line result }
 {
     let mut line: ArrayVec<u8, LINE_LEN> = ArrayVec::new();
-    append(&mut line, b"aes3: no block names a sampling frequency: ");
+    append(
+        &mut line,
+        b"aes3: no sampling frequency is known before the first sample: ",
+    );
     append(&mut line, b"the WAV file says 48000 Hz\n");
     write_all(sink, line.as_slice())
 }
