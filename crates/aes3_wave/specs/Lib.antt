@@ -1,5 +1,6 @@
 pub mod Octets
 pub mod Formats
+pub mod Frames
 pub mod Chunks
 pub mod Headers
 pub mod Following

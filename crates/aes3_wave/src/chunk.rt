@@ -1,8 +1,10 @@
 //! What the chunks before the samples say.
 
-ghost use Rattle.std.specs.Prelude.{◌≡◌, ◌≤◌, ◌<◌, ◌+◌, ◌^◌, false, length, IfErr};
+ghost use Rattle.std.specs.Prelude.{◌≡◌, ◌≤◌, ◌<◌, ◌+◌, ◌^◌, None, false, length, IfErr, IfOk};
 ghost use Rattle.aes3_wave.specs.Chunks.{chunk_len, content_len, head_len, is_data, is_format};
 ghost use Rattle.aes3_wave.specs.Chunks.{is_sizes, known_with, with_sizes};
+ghost use Rattle.aes3_wave.specs.Formats.{frame_len};
+ghost use Rattle.aes3_wave.specs.Frames.{known_len};
 ghost use Rattle.aes3_wave.specs.Headers.{first_known, header_in, is_long, is_riff};
 ghost use Rattle.aes3_wave.specs.Headers.{is_wave, named, samples_len};
 
@@ -122,6 +124,7 @@ impl Known {
     pub(crate) fn of_first(first: &[u8]) -> Result<Self, HeaderError>
         requires { length first.now ≡ FIRST_LEN }
         ensures known { result ≡ first_known first.now }
+        ensures frame { IfOk result (λ known. known.format ≡ None) }
         ensures near { IfErr result (λ e. e.at ≤ MOST_HEAD) }
     {
         let is_long = is_long(first);
@@ -171,6 +174,7 @@ impl Known {
     /// What is known with the 64-bit lengths in this chunk.
     fn with_sizes(&self, head: &[u8]) -> Result<Self, HeaderError>
         ensures known { result ≡ with_sizes self.now head.now }
+        ensures frame { IfOk result (λ known. known.format ≡ self.now.format) }
         ensures near { IfErr result (λ e. e.at ≤ MOST_HEAD) }
     {
         if head.len() < 24 {
@@ -192,6 +196,8 @@ impl Known {
     pub(crate) fn with(&self, head: &[u8]) -> Result<Self, HeaderError>
         requires { length head.now ≤ MOST_HEAD }
         ensures known { result ≡ known_with self.now head.now }
+        ensures frame { known_len self.now.format < 2 ^ 16
+            → IfOk result (λ known. known_len known.format < 2 ^ 16) }
         ensures near { IfErr result (λ e. e.at ≤ MOST_HEAD) }
     {
         if self.is_format(head) {
@@ -229,7 +235,9 @@ impl Known {
     pub(crate) fn header(&self, at: u64, chunk: &[u8]) -> Result<WaveHeader, HeaderError>
         requires long { HEAD_LEN ≤ length chunk.now }
         requires room { at + 8 < 2 ^ 64 }
-        ensures { result ≡ header_in at self.now chunk.now }
+        ensures header { result ≡ header_in at self.now chunk.now }
+        ensures frame { known_len self.now.format < 2 ^ 16
+            → IfOk result (λ header. frame_len header.format < 2 ^ 16) }
     {
         match self.format {
             Some(format) => Ok(WaveHeader {

@@ -1,6 +1,6 @@
 //! The format of the samples.
 
-ghost use Rattle.std.specs.Prelude.{◌≡◌, ◌≤◌, ◌<◌, ◌^◌, false, length, IfErr};
+ghost use Rattle.std.specs.Prelude.{◌≡◌, ◌≤◌, ◌<◌, ◌^◌, false, length, IfErr, IfOk};
 ghost use Rattle.aes3_wave.specs.Formats.{container_len, container_of, format_number, format_of};
 ghost use Rattle.aes3_wave.specs.Formats.{format_with, frame_len, has_number};
 ghost use Rattle.aes3_wave.specs.Formats.{is_extensible, is_short, valid_bits, width_in, width_of};
@@ -177,6 +177,7 @@ fn format_with(chunk: &[u8], width: Width) -> Result<WaveFormat, HeaderError>
     requires long { is_short chunk.now ≡ false }
     requires width { width_in chunk.now ≡ Some width }
     ensures format { result ≡ format_with chunk.now (Some width) }
+    ensures frame { IfOk result (λ format. frame_len format < 2 ^ 16) }
     ensures near { IfErr result (λ e. e.at ≤ 48) }
 {
     let channels = u16_at(chunk, 10);
@@ -202,6 +203,7 @@ fn format_with(chunk: &[u8], width: Width) -> Result<WaveFormat, HeaderError>
 pub(crate) fn format_of(chunk: &[u8]) -> Result<WaveFormat, HeaderError>
     requires { length chunk.now ≤ EXTENSIBLE_LEN }
     ensures format { result ≡ format_of chunk.now }
+    ensures frame { IfOk result (λ format. frame_len format < 2 ^ 16) }
     ensures near { IfErr result (λ e. e.at ≤ 48) }
 {
     if is_short(chunk) {

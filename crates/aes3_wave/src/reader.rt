@@ -1,8 +1,10 @@
 //! The reader of a header.
 
-ghost use Rattle.std.specs.Prelude.{◌≡◌, ◌<◌, ◌≤◌, ◌+◌, ◌++◌, ◌^◌, List, ℕ, [], None, Ok, length, IfOk, take};
+ghost use Rattle.std.specs.Prelude.{◌≡◌, ◌<◌, ◌≤◌, ◌+◌, ◌++◌, ◌^◌, List, ℕ, [], None, Ok, length, IfOk, IfSome, take};
 ghost use Rattle.aes3_wave.specs.Following.{Decided, Follows, TookFront, TookOctet, TookPiece};
 ghost use Rattle.aes3_wave.specs.Following.{header_of, missing};
+ghost use Rattle.aes3_wave.specs.Formats.{frame_len};
+ghost use Rattle.aes3_wave.specs.Frames.{known_len, step_len};
 ghost use Rattle.aes3_wave.specs.Headers.{judged, judged_at_end};
 
 use crate::chunk::{FIRST_LEN, HEAD_LEN, Known, MOST_HEAD, Step, WaveHeader, chunk_len, is_data};
@@ -17,7 +19,9 @@ impl Known {
     fn step(&self, at: u64, front: &[u8]) -> Result<Step, HeaderError>
         requires few { length front.now ≤ MOST_HEAD }
         requires room { at + MOST_HEAD < 2 ^ 64 }
-        ensures { Decided (Stage.Chunks self.now) at front.now result }
+        ensures decided { Decided (Stage.Chunks self.now) at front.now result }
+        ensures frame { known_len self.now.format < 2 ^ 16
+            → IfOk result (λ step. step_len step < 2 ^ 16) }
     {
         if front.len() < HEAD_LEN {
             return Ok(Step::More);
@@ -45,7 +49,8 @@ impl Known {
 /// `NotRiff` and `NotWave`.
 fn first_step(front: &[u8]) -> Result<Step, HeaderError>
     requires { length front.now ≤ MOST_HEAD }
-    ensures { (at : ℕ) → Decided Stage.First at front.now result }
+    ensures decided { (at : ℕ) → Decided Stage.First at front.now result }
+    ensures frame { IfOk result (λ step. step_len step < 2 ^ 16) }
 {
     if front.len() < FIRST_LEN {
         return Ok(Step::More);
@@ -75,6 +80,7 @@ impl HeaderReader {
     pub fn header(&self) -> Option<WaveHeader>
         ensures stage { result ≡ header_of self.now.stage }
         ensures judged { (b : List ℕ) → Follows self.now b → judged b ≡ Ok result }
+        ensures frame { IfSome result (λ header. frame_len header.format < 2 ^ 16) }
     {
         match self.stage {
             Stage::First => None,
@@ -115,7 +121,8 @@ impl HeaderReader {
     /// # Errors
     /// `Ended` where the header is not whole.
     pub fn end(&self) -> Result<WaveHeader, HeaderError>
-        ensures { (b : List ℕ) → Follows self.now b → result ≡ judged_at_end b }
+        ensures judged { (b : List ℕ) → Follows self.now b → result ≡ judged_at_end b }
+        ensures frame { IfOk result (λ header. frame_len header.format < 2 ^ 16) }
     {
         match self.header() {
             Some(header) => Ok(header),
@@ -130,8 +137,9 @@ impl HeaderReader {
     fn decide(&self, front: &[u8]) -> Result<Step, HeaderError>
         requires few { length front.now ≤ MOST_HEAD }
         requires room { self.now.at + MOST_HEAD < 2 ^ 64 }
-        ensures { header_of self.now.stage ≡ None
+        ensures decided { header_of self.now.stage ≡ None
             → Decided self.now.stage self.now.at front.now result }
+        ensures frame { IfOk result (λ step. step_len step < 2 ^ 16) }
     {
         match self.stage {
             Stage::First => first_step(front),

@@ -1,6 +1,7 @@
 //! What the reader of a header keeps.
 
 ghost use Rattle.std.specs.Prelude.{◌≡◌, ◌<◌, ◌+◌};
+ghost use Rattle.aes3_wave.specs.Frames.{stage_len};
 
 use crate::chunk::{Known, MOST_HEAD, WaveHeader};
 
@@ -30,4 +31,5 @@ pub struct HeaderReader {
     pub(crate) left: u64,
     ghost few: { len < 48 },
     ghost place: { at + len ≡ seen + left },
+    ghost frame: { stage_len stage < 65536 },
 }

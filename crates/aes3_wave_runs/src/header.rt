@@ -1,7 +1,8 @@
 //! The header of a WAV file, read from a source.
 
-ghost use Rattle.std.specs.Prelude.{◌<◌, ◌≤◌, ◌+◌, ◌^◌};
+ghost use Rattle.std.specs.Prelude.{◌<◌, ◌≤◌, ◌+◌, ◌^◌, IfOk};
 ghost use Rattle.aes3_input.specs.Running.{movement_of};
+ghost use Rattle.aes3_wave.specs.Formats.{frame_len};
 ghost use Rattle.aes3_wave_runs.specs.Headers.{HeaderRun};
 
 use crate::error::WaveError;
@@ -20,8 +21,9 @@ const PIECE_LEN: usize = 4096;
 pub fn read_header<S: Source>(source: &mut S, max_bytes: u64) -> Result<WaveHeader, WaveError>
     requires source_room { S.failed source.old + 1 < 2 ^ 64 }
     requires limit { max_bytes ≤ 2 ^ 40 }
-    ensures { HeaderRun max_bytes (S.has_ended source.new)
+    ensures run { HeaderRun max_bytes (S.has_ended source.new)
         (movement_of S.given S.failed source.old source.new) result }
+    ensures frame { IfOk result (λ header. frame_len header.format < 2 ^ 16) }
 {
     let mut reader = HeaderReader::new();
     let mut piece = [0; PIECE_LEN];

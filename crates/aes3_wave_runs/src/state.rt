@@ -8,8 +8,8 @@ ghost use Rattle.aes3_wave_runs.specs.Wave.{frames_most};
 use aes3_engine::SampleInput;
 use aes3_wave::{Channels, WaveFormat};
 
-/// More octets than a frame has: 65,535 channels of four octets each are fewer.
-pub(crate) const FRAME_MOST: usize = 262_144;
+/// More octets than a frame has: a header says how many in 16 bits.
+pub(crate) const FRAME_MOST: usize = 65_536;
 
 /// The octets after the header of a WAV file, as they come, and what their samples have begun.
 #[derive(Drop)]
@@ -27,6 +27,7 @@ pub(crate) struct WaveInput {
     ghost first: { channels.first < format.channels },
     ghost second: { ForSome channels.second (λ n. n < format.channels) },
     ghost few: { at < frame_len format },
-    ghost room: { at < 262144 },
+    ghost room: { at < 65536 },
+    ghost frame: { frame_len format < 65536 },
     ghost most: { len ≤ frames_most format },
 }

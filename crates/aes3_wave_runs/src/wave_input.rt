@@ -59,6 +59,7 @@ impl WaveInput {
     ) -> Self
         requires first { channels.first < format.channels }
         requires second { ForSome channels.second (λ n. n < format.channels) }
+        requires frame { frame_len format < 2 ^ 16 }
         ensures format { result.format ≡ format }
         ensures channels { result.channels ≡ channels }
         ensures len { result.len ≡ taken_len format len }

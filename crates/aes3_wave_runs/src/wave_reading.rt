@@ -59,6 +59,7 @@ fn convert_samples<S: Source, T: Sink>(
     requires start { header.now.start ≤ max_bytes }
     requires first { channels.first < header.now.format.channels }
     requires second { ForSome channels.second (λ n. n < header.now.format.channels) }
+    requires frame { frame_len header.now.format < 2 ^ 16 }
     ensures run { SamplesRun header.now (wave_file header.now channels exact words change.now) max_bytes
         (S.has_ended source.new) (movement_of S.given S.failed source.old source.new)
         (movement_of T.taken T.failed sink.old sink.new) result }
@@ -139,7 +140,7 @@ fn change_for(options: &WaveOptions, format: WaveFormat) -> Change
 /// begin with the head of a sound file, `TooLong` where the file has more than `max_bytes` octets, or
 /// more of them after its header than 2^37 frames have, `Read` and `Write` where an end failed. Then
 /// the blocks that were whole before are written, and after `Write` a front of the output.
-// Not inlined, so that the stack of other commands has no room for a frame, which can have 262,140
+// Not inlined, so that the stack of other commands has no room for a frame, which can have 65,535
 // octets.
 #[inline(never)]
 pub fn from_wav<S: Source, T: Sink>(

@@ -12,17 +12,17 @@ pieces-init g c = record {
   buffer = refl;
 }
 
-pub returns-in-Err-end : goal.returns-in-Err-end
-returns-in-Err-end g c =
+pub returns-in-Err-end-clause-run : goal.returns-in-Err-end-clause-run
+returns-in-Err-end-clause-run g c =
     let v = c.pieces.invariant in
     let r = c.in-Ok.ensures in
     read-ended c.args.max_bytes (g.S.Source.failed c.args.source.now) (g.S.Source.failed c.read_piece.new.source)
     (g.S.Source.has_ended c.read_piece.new.source) c.in-Err-end.error v.so v.short (r.count ∙ v.quiet)
     (grew-is (ap (λ k. take k c.read_piece.new.piece) c.if-n-eq0.true) r.bytes) (r.end.0 c.if-n-eq0.true)
-    (sym c.in-Err-end.is ∙ c.end.ensures v.so.bytes v.so.follows)
+    (sym c.in-Err-end.is ∙ c.end.ensures.judged v.so.bytes v.so.follows)
 
-pub returns-then-seen-max_bytes : goal.returns-then-seen-max_bytes
-returns-then-seen-max_bytes g c =
+pub returns-then-seen-max_bytes-clause-run : goal.returns-then-seen-max_bytes-clause-run
+returns-then-seen-max_bytes-clause-run g c =
     let v = c.pieces.invariant in
     let r = c.in-Ok.ensures in
     let n = c.in-Ok.n in
@@ -33,8 +33,8 @@ returns-then-seen-max_bytes g c =
     (r.count ∙ v.quiet) r.bytes (length-take-le n c.read_piece.new.piece r.bound.0) (omega arith) (omega arith)
     c.if-seen-max_bytes.true c.wanted.ensures.open
 
-pub returns-in-Err-take : goal.returns-in-Err-take
-returns-in-Err-take g c =
+pub returns-in-Err-take-clause-run : goal.returns-in-Err-take-clause-run
+returns-in-Err-take-clause-run g c =
     let v = c.pieces.invariant in
     let r = c.in-Ok.ensures in
     let n = c.in-Ok.n in
@@ -44,8 +44,8 @@ returns-in-Err-take g c =
     (r.count ∙ v.quiet) r.bytes (length-take-le n c.read_piece.new.piece r.bound.0) short
     (c.in-Err-take.ensures.took v.so.bytes v.so.follows)
 
-pub returns-in-Some : goal.returns-in-Some
-returns-in-Some g c =
+pub returns-in-Some-clause-run : goal.returns-in-Some-clause-run
+returns-in-Some-clause-run g c =
     let v = c.pieces.invariant in
     let r = c.in-Ok.ensures in
     let n = c.in-Ok.n in

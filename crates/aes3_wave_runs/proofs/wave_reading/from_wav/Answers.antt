@@ -5,7 +5,7 @@ use Rattle.aes3_wave_runs.proofs.wave_reading.from_wav.Goals as goal
 pub returns-in-Err-clause-run : goal.returns-in-Err-clause-run
 returns-in-Err-clause-run g c =
     no-header c.args.options.now c.args.max_bytes (g.S.Source.has_ended c.read_header.new.source) _
-    (g.T.Sink.taken c.args.sink.now) (g.T.Sink.failed c.args.sink.now) c.in-Err.error c.in-Err.ensures
+    (g.T.Sink.taken c.args.sink.now) (g.T.Sink.failed c.args.sink.now) c.in-Err.error c.in-Err.ensures.run
 
 pub returns-in-Err-clause-owed : goal.returns-in-Err-clause-owed
 returns-in-Err-clause-owed g c = λ b header t j have i l q k.
@@ -15,7 +15,7 @@ pub returns-then-not-has_channels-clause-run : goal.returns-then-not-has_channel
 returns-then-not-has_channels-clause-run g c =
     let none = rw c.channels_for-channels.ensures at (sym c.has_channels.ensures ∙ c.if-not-has_channels.true) in
     no-channel c.args.options.now c.args.max_bytes c.in-Ok.header (g.S.Source.has_ended c.read_header.new.source) _
-    (g.T.Sink.taken c.args.sink.now) (g.T.Sink.failed c.args.sink.now) c.in-Ok.ensures none
+    (g.T.Sink.taken c.args.sink.now) (g.T.Sink.failed c.args.sink.now) c.in-Ok.ensures.run none
 
 pub returns-then-not-has_channels-clause-owed : goal.returns-then-not-has_channels-clause-owed
 returns-then-not-has_channels-clause-owed g c = λ b header t j have i l q k.
@@ -28,7 +28,7 @@ returns-in-Ok-convert_samples-clause-run g c =
     (g.S.Source.has_ended c.convert_samples.new.source) (g.S.Source.given c.args.source.now)
     (g.S.Source.given c.read_header.new.source) (g.S.Source.given c.convert_samples.new.source)
     (g.S.Source.failed c.args.source.now) (g.S.Source.failed c.read_header.new.source)
-    (g.S.Source.failed c.convert_samples.new.source) _ c.in-Ok-convert_samples.counts c.in-Ok.ensures
+    (g.S.Source.failed c.convert_samples.new.source) _ c.in-Ok-convert_samples.counts c.in-Ok.ensures.run
     ran
 
 pub returns-in-Ok-convert_samples-clause-file : goal.returns-in-Ok-convert_samples-clause-file
@@ -42,7 +42,7 @@ returns-in-Err-convert_samples-clause-run g c =
     (g.S.Source.has_ended c.convert_samples.new.source) (g.S.Source.given c.args.source.now)
     (g.S.Source.given c.read_header.new.source) (g.S.Source.given c.convert_samples.new.source)
     (g.S.Source.failed c.args.source.now) (g.S.Source.failed c.read_header.new.source)
-    (g.S.Source.failed c.convert_samples.new.source) _ c.in-Err-convert_samples.error c.in-Ok.ensures
+    (g.S.Source.failed c.convert_samples.new.source) _ c.in-Err-convert_samples.error c.in-Ok.ensures.run
     ran
 
 pub returns-in-Err-convert_samples-clause-owed : goal.returns-in-Err-convert_samples-clause-owed
