@@ -105,7 +105,7 @@ _aes3() {
         rewrite) _aes3_words --packed-in --raw-in --packed-out --lsb-first --status1 --status2 --preset --set --set1 --set2 --mend-check --valid1 --valid2 --clear-user1 --clear-user2 --exact --input --output --help ;;
         to-pcm) _aes3_words --packed-in --raw-in --lsb-first --pcm --valid --fill --marked --exact --input --output --help ;;
         from-pcm) _aes3_words --status1 --status2 --preset --rate --set --set1 --set2 --mend-check --exact --pcm --words --input --output --help ;;
-        to-wav) _aes3_words --packed-in --raw-in --lsb-first --bits --rate --input --output --help ;;
+        to-wav) _aes3_words --packed-in --raw-in --lsb-first --bits --rate --valid --fill --marked --exact --input --output --help ;;
         from-wav) _aes3_words --channels --mono --use --status1 --status2 --preset --rate --set --set1 --set2 --mend-check --exact --words --input --output --help ;;
         to-bits) _aes3_words --packed-in --raw-in --lsb-first --input --output --help ;;
     esac

@@ -303,7 +303,8 @@ fi
 
 # What docs/COMMANDS.md says that a run needs is enough, for each command.
 "$program" encode < "$zero" > "$folder/cells"
-for command in check 'check --gaps' watch normal decode show scan to-pcm to-wav 'cut 0 1' 'rewrite --mend-check'; do
+for command in check 'check --gaps' watch normal decode show scan to-pcm 'to-pcm --fill hold --marked' to-wav 'to-wav --exact --bits 16' \
+    'to-wav --fill hold --marked' 'cut 0 1' 'rewrite --mend-check'; do
     # shellcheck disable=SC2086 # a command is several words
     "$program" $command < "$folder/cells" > "$folder/expected" 2>&1
     # shellcheck disable=SC2086
@@ -315,10 +316,10 @@ for command in check 'check --gaps' watch normal decode show scan to-pcm to-wav 
 done
 "$program" to-wav < "$folder/cells" > "$folder/wave"
 "$program" from-wav < "$folder/wave" > "$folder/expected"
-if (ulimit -s 1024 && ulimit -v 5120 && exec "$program" from-wav) < "$folder/wave" 2>&1 | cmp -s - "$folder/expected"; then
+if (ulimit -s 640 && ulimit -v 5120 && exec "$program" from-wav) < "$folder/wave" 2>&1 | cmp -s - "$folder/expected"; then
     well "from-wav in little memory"
 else
-    wrong "from-wav in 5 MB of address space, with 1 MB of stack"
+    wrong "from-wav in 5 MB of address space, with 640 KB of stack"
 fi
 
 # A stream that is set not to wait is not waited for.
