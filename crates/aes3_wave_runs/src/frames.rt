@@ -2,6 +2,7 @@
 
 ghost use Rattle.std.specs.Prelude.{◌≡◌, ◌≤◌, ◌<◌, ◌*◌, IfSome, length, take, true};
 ghost use Rattle.std.specs.Option.{ForSome};
+ghost use Rattle.aes3_forms_samples.specs.Formats.{block_len, widened};
 ghost use Rattle.aes3_wave.specs.Formats.{frame_len};
 ghost use Rattle.aes3_wave.specs.Samples.{two_samples};
 ghost use Rattle.aes3_wave_runs.specs.Frames.{IsForm, parts_of};
@@ -42,6 +43,15 @@ fn block_of(octets: &[u8]) -> [u8; BLOCK_BYTES]
     block
 }
 
+/// Puts the samples of a block in this form into a piece, each as one of 32 bits.
+// Not inlined: where it is in two places, its loop chooses the form anew for each sample.
+#[inline(never)]
+fn widen_into(form: SampleFormat, block: &[u8; BLOCK_BYTES], wide: &mut [u8; BLOCK_BYTES])
+    ensures { wide.new ≡ widened form (take (block_len form) block.now) }
+{
+    *wide = form.widen(block);
+}
+
 /// Puts the samples of two channels of the first frames, of a block at most, into the front of a piece,
 /// each as one of 32 bits. Answers whether it did: where the frames have a form of `from_pcm_words`.
 /// It equals [`put_each`], which takes four times as long.
@@ -60,10 +70,10 @@ fn put_block(
     let Some(form) = form_of(format, channels) else {
         return false;
     };
-    *wide = match octets.first_chunk() {
-        Some(block) => form.widen(block),
-        None => form.widen(&block_of(octets)),
-    };
+    match octets.first_chunk() {
+        Some(block) => widen_into(form, block, wide),
+        None => widen_into(form, &block_of(octets), wide),
+    }
     true
 }
 

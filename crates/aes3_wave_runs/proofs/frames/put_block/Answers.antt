@@ -12,7 +12,7 @@ returns-in-Some-first_chunk c = λ _.
     let is = first.same in
     let room = c.requires.room in
     let long = ap length is ∙ length-take-le 1536 xs (omega arith) in
-    ap (take (8 * c.args.count)) c.widen.ensures
+    ap (take (8 * c.args.count)) c.widen_into.ensures
     ∙ first-frames c.args.format c.args.channels c.in-Some.form c.args.count 1536 xs block c.in-Some.ensures long
     (omega arith) c.requires.frames
     (frame-most c.args.format c.args.channels c.in-Some.form c.args.count c.in-Some.ensures (omega arith))
@@ -23,7 +23,7 @@ returns-in-None c = λ _.
     let xs = c.args.octets.now in
     let block = c.block_of.ensures in
     let room = c.requires.room in
-    ap (take (8 * c.args.count)) c.widen-in-None.ensures
+    ap (take (8 * c.args.count)) c.widen_into-in-None.ensures
     ∙ first-frames c.args.format c.args.channels c.in-Some.form c.args.count (length xs) xs c.block_of.result
     c.in-Some.ensures block.len (omega arith) c.requires.frames c.requires.frames
     (block.front ∙ sym (take_all (length xs) xs (omega arith)))
