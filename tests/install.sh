@@ -1,9 +1,9 @@
 #!/bin/sh
 # tests/install.sh: installs what is built in a scratch folder (bin/install --as-built), and there: the program and the header
 # tell one version; the shared library has its soname and shows the calls of the header and no other name; a program in C
-# is built over it by pkg-config and by CMake, and tells of a damaged line what the installed program tells; a struct of another
-# size than the library's is refused by C11 and C++11; a prefix below DESTDIR is told without it, and libraries in another folder are found;
-# the loader takes the library for x86-64-v3 on such a processor.
+# is built over it by pkg-config and by CMake, and tells of a damaged line what the installed program tells; the first program of
+# docs/C.md tells its whole blocks; a struct of another size than the library's is refused by C11 and C++11; a prefix below DESTDIR
+# is told without it, and libraries in another folder are found; the loader takes the library for x86-64-v3 on such a processor.
 #
 # The last line is `N passed, M failed`, and the status 0 where none failed.
 
@@ -120,10 +120,17 @@ if [ -e "$to/lib/libaes3.so.1" ]; then
         inside && /^#include "aes3.h"$/ { name = to (++count) ".c" }
         name { print > name }
     ' "$root/docs/C.md"
-    judge "docs/C.md has two examples that are whole files" test -e "$work/example2.c"
+    judge "docs/C.md has a program that is a whole file" test -e "$work/example1.c"
     for example in "$work"/example*.c; do
         judge "$(basename "$example") of docs/C.md" cc -std=c99 -Wall -Wextra -pedantic -Werror -I"$to/include" -fsyntax-only "$example"
     done
+    # The first one prints the whole blocks of a damaged line, the last of which ends with its cells.
+    "$to/bin/aes3" encode --packed-out <"$root/examples/speech.block" | head -c -1 | tail -c +1568 >"$work/line.raw"
+    printf ab | dd of="$work/line.raw" bs=1 seek=300000 conv=notrunc 2>/dev/null
+    "$to/bin/aes3" check --raw-in <"$work/line.raw" | grep '^whole ' >"$work/whole"
+    judge "the whole blocks of a damaged line" test "$(wc -l <"$work/whole")" = 248
+    cc -I"$to/include" -o "$work/first" "$work/example1.c" "$to/lib/libaes3.a"
+    judge "the program of docs/C.md prints them" sh -c '"$1/first" <"$1/line.raw" | cmp - "$1/whole"' - "$work"
     judge "the version of the header" test "$("$work/version")" = "$version $version"
     sed 's/state\[388\]/state[389]/' "$to/include/aes3.h" >"$work/aes3.h"
     echo '#include "aes3.h"' >"$work/size.c"
