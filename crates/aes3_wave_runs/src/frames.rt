@@ -44,12 +44,17 @@ fn block_of(octets: &[u8]) -> [u8; BLOCK_BYTES]
 }
 
 /// Puts the samples of a block in this form into a piece, each as one of 32 bits.
-// Not inlined: where it is in two places, its loop chooses the form anew for each sample.
+// The form is named in each case, so that the loop of `widen` does not choose it anew for each sample.
 #[inline(never)]
 fn widen_into(form: SampleFormat, block: &[u8; BLOCK_BYTES], wide: &mut [u8; BLOCK_BYTES])
     ensures { wide.new ≡ widened form (take (block_len form) block.now) }
 {
-    *wide = form.widen(block);
+    *wide = match form {
+        SampleFormat::S16 => SampleFormat::S16.widen(block),
+        SampleFormat::S24 => SampleFormat::S24.widen(block),
+        SampleFormat::S24In32 => SampleFormat::S24In32.widen(block),
+        SampleFormat::S32 => SampleFormat::S32.widen(block),
+    };
 }
 
 /// Puts the samples of two channels of the first frames, of a block at most, into the front of a piece,
