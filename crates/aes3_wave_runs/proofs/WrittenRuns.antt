@@ -254,13 +254,14 @@ module _ {A : Type 0} {max : ℕ} (form : Form) (depth : Depth) (rate : Option �
       (blocks-all p block_samples block-whole) (blocks-begun p block_samples block-whole)
       (subst (BlocksRun max form depth rate z block_samples ended source sink (Err x)) e run))
 
-  pub valid-ok : {n : WaveWritten} {k : A} → BlocksRun max form depth rate z valid_block_samples ended source sink (Ok (n, k)) f
-      → InputRun (valid_wave_cells form depth rate) max ended source sink (Ok n)
-  valid-ok {n} {k} run =
+  pub valid-ok : {n x : WaveWritten} {k : A} → x ≡ n
+      → BlocksRun max form depth rate z valid_block_samples ended source sink (Ok (n, k)) f
+      → InputRun (valid_wave_cells form depth rate) max ended source sink (Ok x)
+  valid-ok {n} {x} {k} is run =
       let p = format_of depth in
       written-ok false form depth rate (blocks_writing p valid_block_samples) z (valid_pcm depth)
-      (blocks-all p valid_block_samples valid-whole) (blocks-begun p valid_block_samples valid-whole) n
-      (λ b q h t. (q, h))
+      (blocks-all p valid_block_samples valid-whole) (blocks-begun p valid_block_samples valid-whole) x
+      (λ b q h t. (ap (λ (v : WaveWritten). v.counts) is ∙ q, ap (λ (v : WaveWritten). v.named) is ∙ h))
       (subst (BlocksRun max form depth rate z valid_block_samples ended source sink (Ok (n, k))) e run)
 
   pub valid-err : {x : RunError} → BlocksRun max form depth rate z valid_block_samples ended source sink (Err x) f
@@ -286,12 +287,13 @@ exact-begun : (c : List Level) → before_end (reporting (exact_writing S16)) c 
 exact-begun c = before-reports (exact_writing S16) c ∙ before-exact S16 (decided c)
 
 module _ {max : ℕ} (form : Form) (rate : Option ℕ) {ended : Bool} {source sink : Movement} where
-  pub exact-ok : {n : WaveWritten} {k : ReportListener ExactBlocks} → ExactRun max form rate ended source sink (Ok (n, k))
+  pub exact-ok : {n : WaveWritten} {k : ReportListener ExactBlocks} {refused : Option ℕ} → refused ≡ k.reporter.refused
+      → ExactRun max form rate ended source sink (Ok (n, k))
       → InputRun (exact_wave_cells form Sixteen rate) max ended source sink
-      (Ok (record { exact = record { counts = n.counts; refused = k.reporter.refused }; named = n.named }))
-  exact-ok {n} {k} run =
+      (Ok (record { exact = record { counts = n.counts; refused = refused }; named = n.named }))
+  exact-ok {n} {k} is run =
       written-ok false form Sixteen rate (reporting (exact_writing S16)) exact_done (exact_pcm Sixteen) exact-all exact-begun _
-      (λ b p q t. (p, t, q)) run
+      (λ b p q t. (p, is ∙ t, q)) run
 
   pub exact-err : {x : RunError} → ExactRun max form rate ended source sink (Err x)
       → InputRun (exact_wave_cells form Sixteen rate) max ended source sink (Err x)

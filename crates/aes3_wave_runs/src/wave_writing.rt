@@ -139,8 +139,8 @@ pub fn to_valid_wav<S: Source, T: Sink>(
     let samples = ReportListener {
         reporter: BlockReporter { writer },
     };
-    let (written, _) = run_headed(source, sink, max_bytes, input, depth, rate, samples)?;
-    Ok(written)
+    let (valid, _) = run_headed(source, sink, max_bytes, input, depth, rate, samples)?;
+    Ok(valid)
 }
 
 /// Does what [`to_exact_wav`] does, in 16 bits.

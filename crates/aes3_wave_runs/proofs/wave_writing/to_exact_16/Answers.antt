@@ -1,4 +1,4 @@
-use Rattle.std.proofs.Common.{◌≡◌}
+use Rattle.std.proofs.Common.{◌≡◌, rules}
 use Rattle.std.proofs.lemmas.Result.{err_from_is_err_and}
 use Rattle.aes3_forms_samples.specs.declared.format.SampleFormat.TheVariants.{S16}
 use Rattle.aes3_lock_runs.proofs.ReportRuns.{none-told}
@@ -14,7 +14,7 @@ pub run_headed-requires-clause-quiet : goal.run_headed-requires-clause-quiet
 run_headed-requires-clause-quiet g c = quiet-exact S16
 
 pub returns-clause-run : goal.returns-clause-run
-returns-clause-run g c = exact-ok c.args.input c.args.rate c.in_ok-written.ensures.ran
+returns-clause-run g c = exact-ok c.args.input c.args.rate (search rules) c.in_ok-written.ensures.ran
 
 pub returns-in_err-written-clause-run : goal.returns-in_err-written-clause-run
 returns-in_err-written-clause-run g c =

@@ -16,7 +16,7 @@ run_headed-requires-clause-quiet g c = quiet-filled c.new.result.format c.new.re
 pub returns-clause-run : goal.returns-clause-run
 returns-clause-run g c =
     filled-ok c.args.input c.args.depth c.args.rate c.args.fill (c.new.ensures.format ∙ c.format_of.ensures)
-    c.new.ensures.fill (λ xs a p n. omega (arith, c.frames.ensures xs a p n)) c.in_ok-written.ensures.ran
+    c.new.ensures.fill (λ xs a p n. omega (arith, c.frames.ensures xs a p (omega (arith, n)))) c.in_ok-written.ensures.ran
 
 pub returns-in_err-written-clause-run : goal.returns-in_err-written-clause-run
 returns-in_err-written-clause-run g c =

@@ -1,4 +1,4 @@
-use Rattle.std.proofs.Common.{false}
+use Rattle.std.proofs.Common.{false, rules}
 use Rattle.std.proofs.lemmas.Result.{err_from_is_err_and}
 use Rattle.aes3_engine.specs.ValidSamples.{valid_block_samples}
 use Rattle.aes3_forms_samples.specs.Formats.{narrowed}
@@ -10,14 +10,15 @@ pub run_headed-requires-clause-quiet : goal.run_headed-requires-clause-quiet
 run_headed-requires-clause-quiet g c = quiet-blocks (λ b. narrowed c.format_of.result (valid_block_samples b))
 
 pub returns-clause-run : goal.returns-clause-run
-returns-clause-run g c = valid-ok c.args.input c.args.depth c.args.rate (λ k d. Unit {0}) c.format_of.ensures c.in_ok-written.ensures.ran
+returns-clause-run g c = valid-ok c.args.input c.args.depth c.args.rate (λ k d. Unit {0}) c.format_of.ensures
+    (search rules) c.in_ok-valid.ensures.ran
 
 pub returns-clause-file : goal.returns-clause-file
 returns-clause-file g c = file-clause c.args.input (file_by c.args.depth c.args.rate false (valid_pcm c.args.depth))
     (begun_by c.args.depth c.args.rate false (valid_pcm c.args.depth)) _ (returns-clause-run g c)
 
-pub returns-in_err-written-clause-run : goal.returns-in_err-written-clause-run
-returns-in_err-written-clause-run g c =
+pub returns-in_err-valid-clause-run : goal.returns-in_err-valid-clause-run
+returns-in_err-valid-clause-run g c =
     let error = err_from_is_err_and c.from_residual.result c.from_residual.ensures.1 in
     rw (error.1, error.2)
-    (valid-err c.args.input c.args.depth c.args.rate (λ k d. Unit {0}) c.format_of.ensures c.in_err-written.ensures.ran)
+    (valid-err c.args.input c.args.depth c.args.rate (λ k d. Unit {0}) c.format_of.ensures c.in_err-valid.ensures.ran)
