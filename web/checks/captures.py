@@ -6,6 +6,7 @@ import subprocess
 
 from checks.expected import ROOT
 from checks.lines import SHOWN
+from checks.saves import saved
 
 CELLS = f"{ROOT}/crates/aes3_cells_program/out/aes3_cells_program"
 
@@ -64,6 +65,8 @@ def compare_captures(compare, browser, program, folder):
         compare.same(f"{name}: what was found", shown["state"],
                      f"{name}: {int(number):,} cells, as samples of a logic analyser, channel {channel}: {figures}")
         compare.same(f"{name}: the packed cells", browser.ask("page.found.cells.file.size"), len(cells))
+        blocks = saved(browser, folder, "save-blocks", f"{name}.block")
+        compare.same(f"{name}: the block file", blocks == program("decode", cells, "--packed-in"), True)
         compare.same(f"{name}: the menus are shown", browser.ask("at('samples').hidden"), False)
         count += 1
     browser.ask("document.body.dataset.state = 'given'; at('channel').value = 1; at('channel').dispatchEvent(new Event('change'))")

@@ -10,6 +10,8 @@ from checks.expected import ROOT, packed, text_cells
 def saved(browser, folder, button, name):
     """The bytes of what a button saves."""
     path = f"{folder}/saved/{name}"
+    os.makedirs(f"{folder}/saved", exist_ok=True)
+    browser.send("Browser.setDownloadBehavior", behavior="allow", downloadPath=f"{folder}/saved")
     browser.ask(f"at('{button}').click()")
     for _ in range(500):
         if os.path.isfile(path):
@@ -25,8 +27,6 @@ def compare_saves(compare, browser, program, folder):
     rows = line.split(b"\n")
     rows[48199] = bytes([rows[48199][0] ^ 1]) + rows[48199][1:]
     damaged = b"\n".join(rows)[12537:]
-    os.makedirs(f"{folder}/saved", exist_ok=True)
-    browser.send("Browser.setDownloadBehavior", behavior="allow", downloadPath=f"{folder}/saved")
     for name, data, option in (("text", damaged, []), ("packed", packed(text_cells(damaged)), ["--packed-in"])):
         with open(f"{folder}/{name}", "wb") as file:
             file.write(data)

@@ -5,15 +5,16 @@ import { at } from "./elements.js";
 import { readBlocks } from "./reading.js";
 import { accountOf, blockBytes, offer, sampleBytes, wavHeader } from "./save.js";
 
-/* Reads the file again and saves what `bytesOf` makes of each of its whole blocks, behind what stands before them. */
+/* Reads the cells again and saves what `bytesOf` makes of each of their whole blocks, behind what stands before them. */
 async function save(page, ending, type, before, bytesOf) {
     const { file, found } = page;
+    const from = found.cells.file; // of samples it is not the file that is open
     const parts = [...before];
     at("save-wav").disabled = at("save-blocks").disabled = true;
     try {
         await page.turns.alone(`${file.name} is read once more`, async progress => {
-            const cells = await CellFile.open(file, found.cells.form);
-            await readBlocks(page.codec, cells, words => parts.push(bytesOf(words)), bytes => progress(bytes, file.size));
+            const cells = await CellFile.open(from, found.cells.form);
+            await readBlocks(page.codec, cells, words => parts.push(bytesOf(words)), bytes => progress(bytes, from.size));
         });
         offer(file.name + ending, parts, type);
     } catch (error) {
