@@ -8,3 +8,4 @@ pub mod Room
 pub mod Putting
 pub mod Capturing
 pub mod Accounts
+pub mod Wav

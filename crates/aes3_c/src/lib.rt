@@ -41,5 +41,9 @@ mod taking;
 mod text;
 /// The version of the library.
 mod version;
+/// WAV files: their header, read and written.
+mod wav;
+/// The samples of WAV files.
+mod wav_samples;
 /// Cells in words, many at once.
 mod words;
