@@ -20,10 +20,10 @@
  *
  * Stack in bytes that a call used (examples/c/stack.c, x86-64): aes3_lock_push 5,064,
  * aes3_lock_finish 4,792, aes3_lock_take_octets 3,976, aes3_lock_take_cells 3,432,
- * aes3_lock_take_words 3,304, aes3_capture_cells 5,408, aes3_block_of_samples 3,096,
+ * aes3_lock_take_words 3,304, aes3_capture_cells 5,408, aes3_block_of_samples 3,096, aes3_wav_write 2,104,
  * aes3_block_status, aes3_block_validity and aes3_block_user 1,592, aes3_encode_block,
  * aes3_block_set_status and its kin 1,576, aes3_lock_block and aes3_block_samples 1,560,
- * aes3_status_text 1,304, each other 70 at most.
+ * aes3_status_text 1,304, aes3_wav_read 272, aes3_wav_samples 136, each other 70 at most.
  */
 #ifndef AES3_H
 #define AES3_H
@@ -60,7 +60,8 @@ enum {
     AES3_BLOCK_CELLS = 24576, /* cells of a block */
     AES3_NO_CHANNEL = 385,    /* answered where a number is no channel's */
     AES3_STATUS_BYTES = 24,   /* bytes of a channel status */
-    AES3_STATUS_TEXT = 800    /* characters of one, written, at most */
+    AES3_STATUS_TEXT = 800,   /* characters of one, written, at most */
+    AES3_WAV_OCTETS = 104     /* octets of the header of a WAV file, written, at most */
 };
 
 /* ---- The lock: finds blocks in cells that come one behind the other ---- */
@@ -405,6 +406,84 @@ AES3_SIZE(aes3_capture, 80);
  */
 bool aes3_capture_cells(const uint8_t *samples, size_t count, uint8_t unit, uint8_t bit, uint64_t period,
                         uint8_t *cells, size_t room, aes3_capture *found);
+
+/* ---- WAV files: RIFF, RF64 and BW64, with PCM samples of 8, 16, 20, 24 or 32 bits ---- */
+
+/* What aes3_wav_read answers. From 2 on the header is rejected, whatever octets follow. */
+enum aes3_wav_answer {
+    AES3_WAV_MORE = 0,         /* the header is not whole: more octets are needed */
+    AES3_WAV_HEADER = 1,       /* the header is whole */
+    AES3_WAV_NOT_RIFF = 2,     /* the file begins with none of RIFF, RF64 and BW64 */
+    AES3_WAV_NOT_WAVE = 3,     /* it is a RIFF file of another kind than WAVE */
+    AES3_WAV_SHORT_SIZES = 4,  /* the chunk `ds64` is too short */
+    AES3_WAV_SHORT_FORMAT = 5, /* the chunk `fmt ` is too short */
+    AES3_WAV_NOT_PCM = 6,      /* the samples are not PCM, but for example floating point */
+    AES3_WAV_NO_CHANNELS = 7,  /* the samples have no channels */
+    AES3_WAV_WRONG_BITS = 8,   /* a sample has other bits than 8, 16, 20, 24 or 32, or more than its octets hold */
+    AES3_WAV_WRONG_FRAME = 9,  /* a frame has another number of octets than the samples of its channels */
+    AES3_WAV_NO_FORMAT = 10,   /* the samples come before their format */
+    AES3_WAV_ENDED = 11        /* for callers: the file ended where more octets are needed; no octets show it */
+};
+
+/* A number of octets or of frames that is not known: samples go on to the end of their file. */
+#define AES3_WAV_UNKNOWN ((uint64_t)-1)
+
+/* What the header of a WAV file says. */
+typedef struct aes3_wav {
+    uint64_t start;    /* the octet of the file at which the samples begin, counted from 0 */
+    uint64_t len;      /* octets of all samples, or AES3_WAV_UNKNOWN */
+    uint32_t rate;     /* frames a second */
+    uint16_t channels; /* samples a frame, 1 at least */
+    uint8_t octets;    /* octets a sample, 1 to 4, the lowest first; a frame has channels * octets */
+    uint8_t bits;      /* how many of its bits count, the highest ones: 8, 16, 20, 24 or 32 */
+} aes3_wav;
+AES3_SIZE(aes3_wav, 24);
+
+/*
+ * Judges the header of a WAV file by the file's first `count` octets, and answers an aes3_wav_answer.
+ *
+ * AES3_WAV_HEADER: puts what the header says into *wav, and leaves *at as it was.
+ * AES3_WAV_MORE: puts into *at how many of the file's first octets are needed at least, more than `count`.
+ * Else the header is rejected: puts the octet that is wrong, counted from 0, into *at.
+ * Without AES3_WAV_HEADER, *wav stays as it was.
+ *
+ *     uint64_t at = 0;
+ *     size_t count = 0;
+ *     uint8_t answer;
+ *     while ((answer = aes3_wav_read(octets, count, &wav, &at)) == AES3_WAV_MORE) {
+ *         ...  read on, up to the octets[] before number `at`: more room may be needed, as a header may be long
+ *     }
+ *
+ * The file ended inside its header if there are no more octets to read. A header that says 0 octets of
+ * samples, or the greatest number, says none: wav.len is AES3_WAV_UNKNOWN then. Otherwise other chunks
+ * may follow the samples.
+ */
+uint8_t aes3_wav_read(const uint8_t *octets, size_t count, aes3_wav *wav, uint64_t *at);
+
+/*
+ * Puts the samples of two channels, channel `first` and then channel `second` of each frame, as
+ * aes3_block_of_samples takes them: the highest bit of a sample is the highest of 32, and bits that
+ * don't count are 0. Takes the whole frames of octets[0] to octets[count - 1], as far as samples[] has
+ * room: `room` samples, two of them a frame. Answers how many frames it took. samples[] is unchanged
+ * after theirs.
+ *
+ * Channels are counted from 1. If `second` is 0, its samples are zero. If the file has no such channels,
+ * that is if `first` is 0 or one is greater than wav->channels, the answer is 0.
+ */
+size_t aes3_wav_samples(const aes3_wav *wav, uint16_t first, uint16_t second, const uint8_t *octets, size_t count,
+                        int32_t *samples, size_t room);
+
+/*
+ * Puts the header of a WAV file whose `frames` frames have two channels, with samples of 16, 24 or 32
+ * bits, as `aes3 to-wav -o` writes it: from 4 GiB on the file is RF64. Answers how many octets it put,
+ * 80 or 104, always the same for the same `bits`; or 0 for other bits. octets[] is unchanged after them.
+ *
+ * If `frames` is AES3_WAV_UNKNOWN, or 2^60 or more, the header says that the length is not known, as
+ * that of `aes3 to-wav` without `-o`. The header with the right number can be written over it later.
+ * Samples follow it, channel 1 and 2 of each frame, each with its highest `bits` bits in octets, the
+ * lowest octet first.
+ */
+uint32_t aes3_wav_write(uint8_t bits, uint32_t rate, uint64_t frames, uint8_t octets[104]);
 
 #undef AES3_SIZE
 

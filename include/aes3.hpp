@@ -89,6 +89,18 @@ inline aes3_check check(const status &of) { return static_cast<aes3_check>(aes3_
 inline bool recover(span<const uint8_t> samples, uint8_t unit, uint8_t bit, span<uint8_t> to, aes3_capture &found) {
     return aes3_capture_cells(samples.data, samples.size, unit, bit, 0, to.data, to.size, &found);
 }
+
+// The header of a WAV file, read of the file's first octets, and the samples of two channels in octets behind it: answers how many frames.
+// And one that is written: answers how many octets.
+inline aes3_wav_answer read_wav(span<const uint8_t> octets, aes3_wav &to, uint64_t &at) {
+    return static_cast<aes3_wav_answer>(aes3_wav_read(octets.data, octets.size, &to, &at));
+}
+inline std::size_t samples_of(const aes3_wav &wav, uint16_t first, uint16_t second, span<const uint8_t> octets, span<int32_t> to) {
+    return aes3_wav_samples(&wav, first, second, octets.data, octets.size, to.data, to.size);
+}
+inline uint32_t write_wav(uint8_t bits, uint32_t rate, uint64_t frames, uint8_t (&to)[AES3_WAV_OCTETS]) {
+    return aes3_wav_write(bits, rate, frames, to);
+}
 inline uint32_t version() { return aes3_version(); }
 
 // ---- How the lock does it.

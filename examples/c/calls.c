@@ -392,6 +392,88 @@ static void accounts(void) {
     WANT(!aes3_account_end(&copy, 2 * block + 5, &gap));
 }
 
+/* A header of two channels of 16 bits at 48 kHz, of so many octets in its chunk fmt, and what comes behind that. */
+#define HEADER "RIFF\xFF\xFF\xFF\xFFWAVE"
+#define FORMAT "fmt \x10\0\0\0\x01\0\x02\0\x80\xBB\0\0\0\xEE\x02\0\x04\0\x10\0"
+#define DATA "data\xFF\xFF\xFF\xFF"
+
+/* What is answered of octets, the text without its last NUL, and at which octet. */
+#define ANSWERS(text, code, place) \
+    WANT(aes3_wav_read((const uint8_t *)(text), sizeof(text) - 1, &wav, &at) == (code) && at == (place))
+
+static void wav_headers(void) {
+    static const char whole[] = HEADER FORMAT DATA "more";
+    aes3_wav wav = {1, 2, 3, 4, 5, 6};
+    uint8_t octets[AES3_WAV_OCTETS];
+    uint64_t at;
+    /* As long as it is not whole, no header is put. */
+    for (size_t count = 0; count < 44; count++) {
+        at = 0;
+        WANT(aes3_wav_read((const uint8_t *)whole, count, &wav, &at) == AES3_WAV_MORE && at > count && at <= 44);
+        WANT(wav.start == 1 && wav.len == 2 && wav.rate == 3 && wav.channels == 4 && wav.octets == 5 && wav.bits == 6);
+    }
+    /* A chunk before the samples is needed whole, and so is the head behind it. */
+    ANSWERS(HEADER "LIST\x05\x01\0\0", AES3_WAV_MORE, 12 + 8 + 262 + 8);
+    ANSWERS("RIFX", AES3_WAV_MORE, 12);
+    ANSWERS("RIFX\0\0\0\0WAVE", AES3_WAV_NOT_RIFF, 0);
+    ANSWERS("RIFF\0\0\0\0AVI " FORMAT, AES3_WAV_NOT_WAVE, 8);
+    ANSWERS("RF64\0\0\0\0WAVEds64\x0F\0\0\0\0\0\0\0\0\0\0\0\0\0\0\0\0\0\0\0", AES3_WAV_SHORT_SIZES, 12);
+    ANSWERS(HEADER "fmt \x0E\0\0\0\x01\0\x02\0\x80\xBB\0\0\0\xEE\x02\0\x04\0", AES3_WAV_SHORT_FORMAT, 12);
+    ANSWERS(HEADER "fmt \x10\0\0\0\x03\0\x02\0\x80\xBB\0\0\0\xDC\x05\0\x08\0\x20\0", AES3_WAV_NOT_PCM, 20);
+    ANSWERS(HEADER "fmt \x10\0\0\0\x01\0\0\0\x80\xBB\0\0\0\xEE\x02\0\x04\0\x10\0", AES3_WAV_NO_CHANNELS, 22);
+    ANSWERS(HEADER "fmt \x10\0\0\0\x01\0\x02\0\x80\xBB\0\0\0\xEE\x02\0\x04\0\x0C\0", AES3_WAV_WRONG_BITS, 34);
+    ANSWERS(HEADER "fmt \x10\0\0\0\x01\0\x02\0\x80\xBB\0\0\0\xEE\x02\0\x05\0\x10\0", AES3_WAV_WRONG_FRAME, 32);
+    ANSWERS(HEADER DATA, AES3_WAV_NO_FORMAT, 12);
+    WANT(wav.start == 1 && wav.bits == 6);
+    at = 7;
+    ANSWERS(HEADER FORMAT DATA "more", AES3_WAV_HEADER, 7);
+    WANT(wav.start == 44 && wav.len == AES3_WAV_UNKNOWN && wav.rate == 48000 && wav.channels == 2 && wav.octets == 2 && wav.bits == 16);
+    ANSWERS(HEADER FORMAT "data\x08\0\0\0", AES3_WAV_HEADER, 7);
+    WANT(wav.start == 44 && wav.len == 8);
+
+    /* What is written is read: of each width, of none, few and very many frames. */
+    for (int bits = 16; bits <= 32; bits += 8) {
+        const uint64_t counts[] = {0, 1, 1000, (uint64_t)1 << 32, AES3_WAV_UNKNOWN};
+        const uint32_t length = bits == 16 ? 80 : 104;
+        for (int i = 0; i < 5; i++) {
+            memset(octets, 0x55, sizeof octets);
+            WANT(aes3_wav_write((uint8_t)bits, 96000, counts[i], octets) == length && (length == 104 || octets[length] == 0x55));
+            WANT(memcmp(octets, i == 3 ? "RF64" : "RIFF", 4) == 0);
+            WANT(aes3_wav_read(octets, length, &wav, &at) == AES3_WAV_HEADER && wav.start == length && wav.rate == 96000);
+            WANT(wav.channels == 2 && wav.octets == bits / 8 && wav.bits == bits);
+            WANT(wav.len == (i == 0 || i == 4 ? AES3_WAV_UNKNOWN : counts[i] * (uint64_t)(bits / 4)));
+        }
+    }
+    memset(octets, 0x55, sizeof octets);
+    WANT(aes3_wav_write(20, 48000, 1, octets) == 0 && octets[0] == 0x55);
+}
+
+static void wav_samples(void) {
+    static const uint8_t octets[] = {1, 2, 3, 4, 5, 6, 7, 8, 9, 10, 0x8B, 0x8C, 0x8D, 0x8E};
+    aes3_wav wav = {0, 0, 48000, 2, 2, 16};
+    int32_t got[6];
+    memset(got, 0x55, sizeof got);
+    /* As many frames as there are, and as have room. */
+    WANT(aes3_wav_samples(&wav, 1, 2, octets, 7, got, 6) == 1 && got[0] == 0x02010000 && got[1] == 0x04030000 && got[2] == 0x55555555);
+    WANT(aes3_wav_samples(&wav, 2, 1, octets, 14, got, 5) == 2 && got[2] == 0x08070000 && got[3] == 0x06050000 && got[4] == 0x55555555);
+    WANT(aes3_wav_samples(&wav, 1, 2, octets, 3, got, 6) == 0 && aes3_wav_samples(&wav, 1, 2, octets, 14, got, 1) == 0);
+    /* Channels that the file has not, and none. */
+    WANT(aes3_wav_samples(&wav, 0, 1, octets, 14, got, 6) == 0 && aes3_wav_samples(&wav, 3, 1, octets, 14, got, 6) == 0);
+    WANT(aes3_wav_samples(&wav, 1, 3, octets, 14, got, 6) == 0 && got[0] == 0x04030000);
+    WANT(aes3_wav_samples(&wav, 2, 0, octets, 4, got, 6) == 1 && got[0] == 0x04030000 && got[1] == 0);
+    /* Each width: 8 bits have 128 for their zero, and of 20 bits in 24 the lowest 4 don't count. */
+    wav.octets = 1, wav.bits = 8;
+    WANT(aes3_wav_samples(&wav, 1, 2, octets + 9, 2, got, 6) == 1 && got[0] == (10 - 128) * (1 << 24) && got[1] == 0x0B000000);
+    wav.octets = 3, wav.bits = 24;
+    WANT(aes3_wav_samples(&wav, 1, 2, octets, 6, got, 6) == 1 && got[0] == 0x03020100 && got[1] == 0x06050400);
+    wav.bits = 20;
+    WANT(aes3_wav_samples(&wav, 1, 2, octets + 8, 6, got, 6) == 1 && got[0] == (int32_t)0x8B0A0000 && got[1] == (int32_t)0x8E8D8000);
+    wav.octets = 4, wav.bits = 32;
+    WANT(aes3_wav_samples(&wav, 1, 2, octets, 14, got, 6) == 1 && got[0] == 0x04030201 && got[1] == 0x08070605);
+    wav.channels = 1;
+    WANT(aes3_wav_samples(&wav, 1, 1, octets, 4, got, 6) == 1 && got[0] == 0x04030201 && got[1] == 0x04030201);
+}
+
 int main(void) {
     WANT(aes3_version() == AES3_VERSION_NUMBER);
     statuses();
@@ -410,6 +492,8 @@ int main(void) {
     many_words();
     accounts();
     captures();
+    wav_headers();
+    wav_samples();
     if (!failed)
         puts("each call answers as it should");
     return failed;

@@ -182,13 +182,43 @@ static void gaps(void) {
     WANT(put.gap.at == at + cells + AES3_BLOCK_CELLS && put.gap.cells == 1 && put.gap.counts == counts[0]);
 }
 
+/* The header of a file of three channels, 20 bits of 24, whose lengths are in its chunk ds64. */
+static void wavs(void) {
+    static const uint8_t octets[] =
+        "BW64\xFF\xFF\xFF\xFFWAVE"
+        "ds64\x1C\0\0\0\0\0\0\0\0\0\0\0\x01\x02\x03\x04\x05\x06\0\0\0\0\0\0\0\0\0\0\0\0\0\0"
+        "fmt \x28\0\0\0\xFE\xFF\x03\0\x80\xBB\0\0\x80\x97\x06\0\x09\0\x18\0\x16\0\x14\0\0\0\0\0"
+        "\x01\0\0\0\0\0\x10\0\x80\0\0\xAA\0\x38\x9B\x71"
+        "data\xFF\xFF\xFF\xFF";
+    static union {
+        aes3_wav wav;
+        unsigned char bytes[sizeof(aes3_wav) + 8];
+    } put, due;
+    const size_t count = sizeof octets - 1;
+    const uint64_t start = count, len = 0x060504030201;
+    const uint32_t rate = 48000;
+    const uint16_t channels = 3;
+    const uint8_t octets_of_one = 3, bits = 20;
+    uint64_t at = 5;
+    memset(&put, 0xAA, sizeof put);
+    memset(&due, 0xAA, sizeof due);
+    WANT(aes3_wav_read(octets, count - 1, &put.wav, &at) == AES3_WAV_MORE && at == count && memcmp(&put, &due, sizeof put) == 0);
+    WANT(aes3_wav_read(octets, count, &put.wav, &at) == AES3_WAV_HEADER && at == count);
+    memcpy(&due.wav.start, &start, sizeof start), memcpy(&due.wav.len, &len, sizeof len);
+    memcpy(&due.wav.rate, &rate, sizeof rate), memcpy(&due.wav.channels, &channels, sizeof channels);
+    memcpy(&due.wav.octets, &octets_of_one, sizeof octets_of_one), memcpy(&due.wav.bits, &bits, sizeof bits);
+    WANT(memcmp(&put, &due, sizeof put) == 0);
+}
+
 int main(void) {
     WANT(sizeof(aes3_lock) == 3104 && sizeof(aes3_report) == 1560);
     WANT(sizeof(aes3_account) == 16 && sizeof(aes3_gap) == 24);
     WANT(sizeof(aes3_professional) == 32 && sizeof(aes3_consumer) == 33 && sizeof(aes3_capture) == 80);
+    WANT(sizeof(aes3_wav) == 24);
     statuses();
     reports();
     gaps();
+    wavs();
     if (!failed)
         puts("each field stands where the header has it");
     return failed;

@@ -22,6 +22,8 @@ static int32_t samples[AES3_BLOCK_WORDS];
 static char text[AES3_STATUS_TEXT];
 static uint64_t cells[AES3_BLOCK_WORDS], line_cells[AES3_BLOCK_WORDS + 1], word;
 static aes3_capture found;
+static aes3_wav wav;
+static uint8_t header[AES3_WAV_OCTETS];
 static uint8_t status[AES3_STATUS_BYTES], line[65], line_octets[8 * AES3_BLOCK_WORDS + 1], packed[8 * AES3_BLOCK_WORDS];
 
 static void nothing(void) {}
@@ -60,6 +62,9 @@ static void status_text(void) { aes3_status_text(status, text); }
 static void check_byte(void) { status[23] = aes3_status_check_byte(status); }
 static void recover(void) { aes3_capture_cells(line_octets, sizeof line_octets, 1, 0, 0, packed, sizeof packed, &found); }
 static void version(void) { status[22] = (uint8_t)aes3_version(); }
+static void write_wav(void) { aes3_wav_write(24, 48000, (uint64_t)1 << 32, header); }
+static void read_wav(void) { aes3_wav_read(header, sizeof header, &wav, &word); }
+static void wav_samples(void) { aes3_wav_samples(&wav, 2, 1, line_octets, sizeof line_octets, samples, AES3_BLOCK_WORDS); }
 static void check_state(void) { status[22] = aes3_status_check_state(status); }
 
 static size_t used(void (*call)(void)) {
@@ -133,6 +138,10 @@ int main(void) {
     failed |= tell("aes3_status_check_byte", check_byte, 256);
     failed |= tell("aes3_status_check_state", check_state, 256);
     failed |= tell("aes3_version", version, 256);
+    failed |= tell("aes3_wav_write", write_wav, 4096);
+    failed |= tell("aes3_wav_read", read_wav, 1024);
+    failed |= wav.len != (uint64_t)6 << 32;
+    failed |= tell("aes3_wav_samples", wav_samples, 1024);
     for (size_t i = 0; i < sizeof line_octets; i++) /* a line of four samples a cell */
         line_octets[i] = cells[i / 256] >> (i / 4 % 64) & 1;
     failed |= tell("aes3_capture_cells", recover, 8192);

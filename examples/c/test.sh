@@ -56,6 +56,27 @@ done
 status=85022c0000004a4154480000000000000000000000000000
 "$program" from-pcm --status1 $status --status2 $status --mend-check <speech.s32 >speech.want
 
+# WAV files: of the line in each width, with and without their length; of 8 bits in one channel; of 20 bits in the first two of three
+# channels, with another chunk before the format and one behind the samples. And one that is cut in its header, and one in a frame.
+for bits in 16 24 32; do
+    "$program" to-wav --bits $bits --rate 48000 -o known$bits.wav <damaged.txt
+    "$program" to-wav --bits $bits --rate 96000 <damaged.txt >unknown$bits.wav
+done
+{
+    printf 'RIFF\377\377\377\377WAVEfmt \020\0\0\0\001\0\001\0\104\254\0\0\104\254\0\0\001\0\010\0data\377\377\377\377'
+    head -c 5000 speech.s32
+} >mono.wav
+{
+    printf 'RIFF\0\0\0\0WAVELIST\003\0\0\0abc\0fmt \050\0\0\0\376\377\003\0\200\273\0\0\200\227\006\0\011\0\030\0'
+    printf '\026\0\024\0\0\0\0\0\001\0\0\0\0\0\020\0\200\0\0\252\0\070\233\161data\032\020\0\0'
+    head -c 4122 speech.s32
+    printf 'LIST\0\0\0\0'
+} >three.wav
+head -c 100 known24.wav >header.wav
+head -c 1000 known24.wav >frame.wav
+wavs="known16 known24 known32 unknown16 unknown24 unknown32 mono three"
+for name in $wavs; do "$program" from-wav <$name.wav 2>/dev/null | "$program" encode >$name.line; done
+
 # Samples of the line with jitter, in an octet each and in two, and what aes3-cells makes of them.
 recover=$here/../../crates/aes3_cells_program/out/aes3_cells_program
 if [ -x "$recover" ] && command -v python3 >/dev/null; then
@@ -97,7 +118,7 @@ build() { # COMPILER FLAGS..
         echo "left out: the checks of addresses and undefined behaviour by $compiler (they do not work here)"
         checks=
     }
-    for example in check gaps encode calls layout user samples capture; do
+    for example in check gaps encode calls layout user samples capture wav; do
         "$compiler" "$@" -O2 -Wall -Wextra -pedantic -Werror $checks -I"$here/../../include" \
             -o $example "$here/$example.c" -x none "$library" || {
             differs "$example.c, which $compiler does not compile,"
@@ -116,6 +137,18 @@ build() { # COMPILER FLAGS..
     judge "samples by $compiler" cmp -s got speech.want
     ./samples <speech.want | head -c 400000 >got
     judge "samples back by $compiler" cmp -s got speech.s32
+    for name in $wavs; do
+        ./wav <$name.wav >got
+        judge "wav by $compiler on $name" cmp -s got $name.line
+    done
+    for bits in 16 24 32; do
+        ./wav got.wav $bits 48000 <damaged.txt
+        judge "wav by $compiler, back to $bits bits," cmp -s got.wav known$bits.wav
+    done
+    for name in header frame; do
+        ./wav <$name.wav >got 2>/dev/null
+        judge "wav by $compiler on a file that is cut in its $name" [ $? = 3 ]
+    done
     compare ./check
     gaps "$compiler"
     for each in capture:0:1 wide:11:2; do

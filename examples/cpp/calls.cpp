@@ -110,6 +110,17 @@ int main() {
         came &= packed[i] == octets[i];
     judge("recover", came && capture.octets == 8 * AES3_BLOCK_WORDS + 1);
 
+    // A header as it is written, and read; and a frame of 16 bits behind it.
+    std::uint8_t header[AES3_WAV_OCTETS];
+    const std::uint8_t frame[4] = {1, 2, 3, 4};
+    std::int32_t pair[2];
+    aes3_wav wav;
+    std::uint64_t place = 0;
+    const std::uint32_t length = aes3::write_wav(16, 44100, 1, header);
+    judge("write_wav", length == 80);
+    judge("read_wav", aes3::read_wav({header, length}, wav, place) == AES3_WAV_HEADER && wav.rate == 44100 && wav.len == 4);
+    judge("samples_of", aes3::samples_of(wav, 2, 1, frame, pair) == 1 && pair[0] == 0x04030000 && pair[1] == 0x02010000);
+
     block[7] = 1u << 28;
     judge("an unlawful word", aes3::encode(block, false, cells) == 7 && aes3::status_of(block, 2, found) == 7);
     return !is_right;

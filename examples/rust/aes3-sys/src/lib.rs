@@ -121,6 +121,38 @@ pub struct aes3_capture {
     pub measured: u64,
 }
 
+/// What is answered of the header of a WAV file.
+pub const AES3_WAV_MORE: u8 = 0;
+pub const AES3_WAV_HEADER: u8 = 1;
+pub const AES3_WAV_NOT_RIFF: u8 = 2;
+pub const AES3_WAV_NOT_WAVE: u8 = 3;
+pub const AES3_WAV_SHORT_SIZES: u8 = 4;
+pub const AES3_WAV_SHORT_FORMAT: u8 = 5;
+pub const AES3_WAV_NOT_PCM: u8 = 6;
+pub const AES3_WAV_NO_CHANNELS: u8 = 7;
+pub const AES3_WAV_WRONG_BITS: u8 = 8;
+pub const AES3_WAV_WRONG_FRAME: u8 = 9;
+pub const AES3_WAV_NO_FORMAT: u8 = 10;
+pub const AES3_WAV_ENDED: u8 = 11;
+
+/// A number of octets or of frames that is not known.
+pub const AES3_WAV_UNKNOWN: u64 = u64::MAX;
+
+/// How many octets the header of a WAV file has at most that is written.
+pub const AES3_WAV_OCTETS: usize = 104;
+
+/// What the header of a WAV file says.
+#[repr(C)]
+#[derive(Clone, Copy, Debug, Default, PartialEq, Eq)]
+pub struct aes3_wav {
+    pub start: u64,
+    pub len: u64,
+    pub rate: u32,
+    pub channels: u16,
+    pub octets: u8,
+    pub bits: u8,
+}
+
 // The sizes that the library was built for, as aes3.h has them.
 const _: () = {
     assert!(core::mem::size_of::<aes3_lock>() == 3104);
@@ -130,6 +162,7 @@ const _: () = {
     assert!(core::mem::size_of::<aes3_professional>() == 32);
     assert!(core::mem::size_of::<aes3_consumer>() == 33);
     assert!(core::mem::size_of::<aes3_capture>() == 80);
+    assert!(core::mem::size_of::<aes3_wav>() == 24);
 };
 
 extern "C" {
@@ -188,4 +221,15 @@ extern "C" {
         room: usize,
         found: *mut aes3_capture,
     ) -> bool;
+    pub fn aes3_wav_read(octets: *const u8, count: usize, wav: *mut aes3_wav, at: *mut u64) -> u8;
+    pub fn aes3_wav_samples(
+        wav: *const aes3_wav,
+        first: u16,
+        second: u16,
+        octets: *const u8,
+        count: usize,
+        samples: *mut i32,
+        room: usize,
+    ) -> usize;
+    pub fn aes3_wav_write(bits: u8, rate: u32, frames: u64, octets: *mut u8) -> u32;
 }
