@@ -6,6 +6,7 @@ import argparse
 import array
 import struct
 import subprocess
+import tempfile
 
 import aes3
 
@@ -83,6 +84,20 @@ assert (pair[0].tolist() if numpy else list(pair[:2])) == [-(2**31), (2**23 - 1)
 for floats in array.array("f", [-1.0, 1.0]), array.array("d", [-1.0, 1.0]):
     pair = aes3.decode(aes3.encode(floats, channels=2)).samples
     assert (pair[0].tolist() if numpy else list(pair[:2])) == [-(2**31), (2**23 - 1) << 8]
+
+# A WAV file of the line as the program writes it, and the program's line of a WAV file.
+line = aes3.encode(plain, 44100, channels=2)
+with tempfile.TemporaryDirectory() as folder:
+    ours, theirs = f"{folder}/ours.wav", f"{folder}/theirs.wav"
+    for bits in 16, 24, 32:
+        run(line, "to-wav", "--packed-in", "--bits", str(bits), "-o", theirs)
+        aes3.write_wav(ours, aes3.decode(line).reports, 44100, bits=bits)
+        with open(ours, "rb") as first, open(theirs, "rb") as second:
+            assert first.read() == second.read()
+        wav = aes3.read_wav(theirs)
+        told = run(run(b"", "from-wav", "-i", theirs), "encode", "--packed-out")
+        status = aes3.decode(told).status
+        assert aes3.encode(wav.samples, wav.rate, channels=2, status=status) == told and wav.rate == status[0].rate == 44100
 
 # What is no array of samples, or not clear, is an error.
 for wrong in [1, 2], array.array("b", [1]), array.array("H", [1]), array.array("q", [1]), "text", 7, None, b"octets":

@@ -4,6 +4,8 @@
 
     line = aes3.encode(samples, rate=48000)          # an array of samples, (frames, 2), to the octets of a line
     samples, reports, status = aes3.decode(line)     # and back, with what was found in it
+    wav = aes3.read_wav("sound.wav")                 # such samples, of a WAV file, with their rate
+    aes3.write_wav("line.wav", samples, 48000)       # and a WAV file of them
 
 The module is over the shared library libaes3.so.1. It takes the file that AES3_LIB names, or else the one that a wheel brought,
 that the system has, or that this Python's prefix has (`bin/install` of the sources puts it there).
@@ -27,13 +29,14 @@ from aes3.calls import (
 )
 from aes3.line import Decoded, decode, encode
 from aes3.status import Status
+from aes3.wav import Wav, read_wav, write_wav
 
 VERSION = "0.1.0"  # of the program aes3 and of aes3.h
 __version__ = VERSION
 
 __all__ = [
-    "FAULT", "FOUND", "MARKED", "NONE", "UNFINISHED", "VERSION", "WHOLE", "WHYS", "Account", "Decoded", "Gap", "Lock", "Report", "Status",
+    "FAULT", "FOUND", "MARKED", "NONE", "UNFINISHED", "VERSION", "WHOLE", "WHYS", "Account", "Decoded", "Gap", "Lock", "Report", "Status", "Wav",
     "block_of_samples", "block_samples", "block_status", "block_user", "block_validity", "cells_of_samples", "check_byte", "decode",
-    "encode", "encode_block", "library_version", "status_text", "with_status", "with_user", "with_validity", "words_of_packed",
-    "words_of_text",
+    "encode", "encode_block", "library_version", "read_wav", "status_text", "with_status", "with_user", "with_validity",
+    "words_of_packed", "words_of_text", "write_wav",
 ]

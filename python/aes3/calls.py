@@ -77,6 +77,11 @@ class _Capture(c.Structure):
     _fields_ = [(name, c.c_uint64) for name in ("octets", *FOUND)]
 
 
+class _Wav(c.Structure):
+    _fields_ = [("start", c.c_uint64), ("len", c.c_uint64), ("rate", c.c_uint32), ("channels", c.c_uint16), ("octets", c.c_uint8),
+                ("bits", c.c_uint8)]
+
+
 def _declare(name: str, result: Any, *arguments: Any) -> Callable[..., int]:
     function: Any = getattr(_lib, name)
     function.restype, function.argtypes = result, arguments
@@ -111,6 +116,9 @@ _status_text = _declare("aes3_status_text", c.c_uint32, _at, _at)
 _capture_cells = _declare(
     "aes3_capture_cells", c.c_bool, _at, c.c_size_t, c.c_uint8, c.c_uint8, c.c_uint64, _at, c.c_size_t, _at
 )
+_wav_read = _declare("aes3_wav_read", c.c_uint8, _at, c.c_size_t, _at, _at)
+_wav_samples = _declare("aes3_wav_samples", c.c_size_t, _at, c.c_uint16, c.c_uint16, _at, c.c_size_t, _at, c.c_size_t)
+_wav_write = _declare("aes3_wav_write", c.c_uint32, c.c_uint8, c.c_uint32, c.c_uint64, _at)
 
 
 # ---- what calls are given

@@ -91,8 +91,8 @@ def _check_shape(shape: Tuple[int, ...], channels: Optional[int]) -> int:
     raise ValueError(f"samples have the shape (frames, 2), or are one row with channels=1 or 2: not {tuple(shape)} with channels={channels!r}")
 
 
-def _wide_numpy(samples: Any, bits: Optional[int], channels: Optional[int]) -> npt.NDArray[numpy.int32]:
-    """The samples as int32 in whole blocks, zeros after them."""
+def _wide_numpy(samples: Any, bits: Optional[int], channels: Optional[int], whole: int = _FRAMES) -> npt.NDArray[numpy.int32]:
+    """The samples as int32 in whole blocks of so many frames, zeros after them."""
     if isinstance(samples, numpy.ma.MaskedArray) or calls._memory(samples) is None and not isinstance(samples, numpy.ndarray):
         raise _wanted(samples)
     given = numpy.asarray(samples)
@@ -100,7 +100,7 @@ def _wide_numpy(samples: Any, bits: Optional[int], channels: Optional[int]) -> n
     if (kind, itemsize) not in (("i", 2), ("i", 4), ("f", 4), ("f", 8)):
         raise _wanted(samples)
     pairs = given.reshape(-1, _check_shape(given.shape, channels))
-    blocks = -(-len(pairs) // _FRAMES)
+    count = -(-len(pairs) // whole) * whole
     if kind == "f":
         _check_floats(bits)
         # The least and the greatest are NaN where one is.
@@ -113,15 +113,15 @@ def _wide_numpy(samples: Any, bits: Optional[int], channels: Optional[int]) -> n
         bits = _check_bits(bits, 8 * itemsize, samples)
         if bits == 24 and pairs.size:
             _check_24_bits(int(pairs.min()), int(pairs.max()))
-    if bits == 32 and pairs.shape == (blocks * _FRAMES, 2) and pairs.dtype.isnative and pairs.flags.c_contiguous and pairs.flags.aligned:
+    if bits == 32 and pairs.shape == (count, 2) and pairs.dtype.isnative and pairs.flags.c_contiguous and pairs.flags.aligned:
         return pairs
-    wide = numpy.zeros((blocks * _FRAMES, 2), numpy.int32)
+    wide = numpy.zeros((count, 2), numpy.int32)
     wide[: len(pairs)] = pairs
     wide <<= 32 - bits
     return wide
 
 
-def _wide_plain(samples: Any, bits: Optional[int], channels: Optional[int]) -> array.array[int]:
+def _wide_plain(samples: Any, bits: Optional[int], channels: Optional[int], whole: int = _FRAMES) -> array.array[int]:
     """The same without numpy, as an `array.array` of channel 1 and channel 2 in turn."""
     view = calls._memory(samples)
     # Memory of ctypes has `<` before the kind of its items, which is the order of the processors that the library is for.
@@ -151,7 +151,7 @@ def _wide_plain(samples: Any, bits: Optional[int], channels: Optional[int]) -> a
     if count == 1:
         wide = array.array("i", bytes(8 * len(row)))
         wide[0::2] = wide[1::2] = row
-    wide.frombytes(bytes(4 * (-len(wide) % _SAMPLES)))
+    wide.frombytes(bytes(4 * (-len(wide) % (2 * whole))))
     return wide
 
 
@@ -280,7 +280,7 @@ def _samples_in(blocks: List[c.Array[c.c_uint32]]) -> DecodedSamples:
         to = samples.buffer_info()[0]
     samples_of = calls._block_samples
     for block in blocks:
-        samples_of(block, to)
+        calls._lawful(samples_of(block, to))
         to += 4 * _SAMPLES
     found: DecodedSamples = samples
     return found
@@ -310,6 +310,6 @@ def _check_line(octets: bytes) -> None:
     """What begins as a file of another kind is no line: none has so many cells of one level in a row as these have."""
     front = octets[:64]
     if front[:4] in (b"RIFF", b"RF64") and front[8:12] == b"WAVE":
-        raise ValueError("this is a WAV file, and not the cells of a line: encode takes its samples")
+        raise ValueError("this is a WAV file, and not the cells of a line: read_wav has its samples")
     if len(front) >= 8 and not front.strip(b"01\r\n "):
         raise ValueError("this is text of 0 and 1, and not octets of cells: form='text' takes it")

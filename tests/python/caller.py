@@ -3,6 +3,9 @@
 from __future__ import annotations
 
 import array
+import io
+import pathlib
+import tempfile
 from typing import TYPE_CHECKING, Dict, List, Optional, Tuple
 
 import aes3
@@ -70,6 +73,19 @@ def main() -> None:
     assert text.startswith("consumer ") and 0 <= check < 256 and figures[1]["cells"] == 0 and version == aes3.library_version()
     again_block: numpy.typing.NDArray[numpy.uint32] = aes3.block_of_samples(aes3.block_samples(block))
     assert len(again_block) == 384
+
+    file = io.BytesIO()
+    aes3.write_wav(file, samples, 44100, bits=16, channels=2)
+    file.seek(0)
+    wav: aes3.Wav = aes3.read_wav(file, (2, 1))
+    read: numpy.typing.NDArray[numpy.int32] = wav.samples
+    rate, bits, channels = wav.rate, wav.bits, wav.channels
+    assert bytes(read) == bytes(4 * 384) and (rate + 1, bits, channels) == (44101, 16, 2)
+    with tempfile.TemporaryDirectory() as folder:
+        path = pathlib.Path(folder, "line.wav")
+        aes3.write_wav(path, reports)
+        aes3.write_wav(str(path), [block, again_block])
+        assert len(bytes(aes3.read_wav(path).samples)) == 2 * 4 * 384
 
 
 if __name__ == "__main__":

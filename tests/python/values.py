@@ -14,6 +14,7 @@ import pickle
 import random
 import struct
 import sys
+import tempfile
 import traceback
 import wave
 
@@ -339,6 +340,150 @@ def check_gaps():
     assert (first.at, first.cells, first.counts, last.cells, last.counts) == (0, 24576, True, 5, False)
     assert gaps() == [first, second, last] and first != second and len({*gaps(), first}) == 3
     assert repr(first) == "Gap(gap at 0 cells 24576)" and first != "gap at 0 cells 24576"
+
+
+def wav_of(form, container, bits, channels, octets, before=b"", after=b"", length=None):
+    """A WAV file, extensible where not all bits of a sample count."""
+    frame = channels * container
+    fmt = struct.pack("<HHIIHH", 1 if bits == 8 * container else 0xFFFE, channels, 44100, 44100 * frame, frame, 8 * container)
+    if bits != 8 * container:
+        fmt += struct.pack("<HHI", 22, bits, 0) + bytes.fromhex("0100000000001000800000aa00389b71")
+    chunks = before + b"fmt " + struct.pack("<I", len(fmt)) + fmt
+    data = b"data" + struct.pack("<I", len(octets) if length is None else length) + octets + after
+    return form + struct.pack("<I", 4 + len(chunks) + len(data)) + b"WAVE" + chunks + data
+
+
+def wide_of(octets, container, bits):
+    """The samples of octets as numbers of 32 bits."""
+    row = []
+    for at in range(0, len(octets), container):
+        number = int.from_bytes(octets[at : at + container], "little")
+        number = number - 128 if container == 1 else number - (number >> 8 * container - 1 << 8 * container)
+        row.append((number >> 8 * container - bits) << 32 - bits)
+    return row
+
+
+def flat(samples):
+    return samples.reshape(-1).tolist() if numpy else samples.tolist()
+
+
+def check_read_wav():
+    octets = random.Random(8).randbytes(720) if hasattr(random.Random, "randbytes") else bytes(i * i % 251 for i in range(720))
+    widths = [(1, 8), (2, 16), (3, 24), (3, 20), (4, 32), (4, 24), (2, 8)]
+    sizes = b"ds64" + struct.pack("<IQQQI", 28, 0, 720, 0, 0)
+    odd = b"LIST\x03\0\0\0abc\0"
+    for container, bits in widths:
+        for channels in 1, 2, 3, 6:
+            row = wide_of(octets, container, bits)
+            for first, second in (None, None), (1, channels), (channels, 1), (1, 0):
+                want = []
+                for at in range(0, len(row), channels):
+                    frame = [*row[at : at + channels], 0]
+                    want += [frame[first - 1], frame[second - 1]] if first else [frame[0], frame[min(1, channels - 1)]]
+                pair = None if first is None else (first, second)
+                for file in (
+                    wav_of(b"RIFF", container, bits, channels, octets),
+                    wav_of(b"RIFF", container, bits, channels, octets, odd, odd),
+                    wav_of(b"RIFF", container, bits, channels, octets, length=0),
+                    wav_of(b"RF64", container, bits, channels, octets, sizes + odd, odd, 2**32 - 1),
+                    wav_of(b"BW64", container, bits, channels, octets, sizes, b"", 2**32 - 1),
+                ):
+                    found = aes3.read_wav(io.BytesIO(file), pair)
+                    assert flat(found.samples) == want and found[1:] == (44100, bits, channels), (container, bits, channels, pair)
+    empty = aes3.read_wav(io.BytesIO(wav_of(b"RIFF", 2, 16, 2, b"")))
+    assert flat(empty.samples) == [] and empty.rate == 44100
+    if numpy:
+        assert empty.samples.shape == (0, 2) and found.samples.dtype == numpy.int32 and found.samples.flags.writeable
+
+
+def check_written_wav():
+    """What is written is what the standard library reads, and is read again."""
+    frames = frames_of(385)
+    wide = array.array("i", [it << 8 for it in row_of(frames)])
+    for bits in 16, 24, 32:
+        file = io.BytesIO()
+        assert aes3.write_wav(file, wide, 96000, bits=bits, channels=2) is None
+        narrow = b"".join(it.to_bytes(4, "little", signed=True)[4 - bits // 8 :] for it in wide)
+        assert file.getvalue()[-len(narrow) :] == narrow
+        header = file.getvalue()[: -len(narrow)]
+        assert header[:4] == b"RIFF" and len(header) + len(narrow) == int.from_bytes(header[4:8], "little") + 8
+        if bits == 16 or sys.version_info >= (3, 12):
+            with wave.open(io.BytesIO(file.getvalue())) as it:
+                assert it.getparams()[:4] == (2, bits // 8, 96000, 385) and it.readframes(385) == narrow
+        found = aes3.read_wav(io.BytesIO(file.getvalue()))
+        assert flat(found.samples) == [it >> 32 - bits << 32 - bits for it in wide] and found[1:] == (96000, bits, 2)
+    # By a name, of other samples, and of blocks.
+    name = os.path.join(tempfile.mkdtemp(), "a.wav")
+    for samples, channels, want in (
+        (array.array("h", [-32768, 5]), 1, [-(2**31), -(2**31), 5 << 16, 5 << 16]),
+        (array.array("d", [-1.0, 1.0]), 2, [-(2**31), (2**23 - 1) << 8]),
+        (memoryview(array.array("i", [512, 1])), 2, [512, 0]),
+        (array.array("i"), 2, []),
+    ):
+        aes3.write_wav(name, samples, channels=channels)
+        found = aes3.read_wav(name)
+        assert flat(found.samples) == want and found[1:] == (48000, 24, 2)
+    reports = aes3.decode(line_of(frames) + b"\0").reports
+    for blocks in reports, iter(reports), [it.words for it in reports], [list(it.words) for it in reports]:
+        aes3.write_wav(name, blocks)
+        assert flat(aes3.read_wav(name).samples) == [it << 8 for it in row_of(padded(frames))]
+    aes3.write_wav(name, aes3.decode(line_of(frames)[100:4000], form="raw").reports, bits=16)
+    assert flat(aes3.read_wav(name).samples) == []
+    os.remove(name)
+    os.rmdir(os.path.dirname(name))
+
+
+def check_wrong_wavs():
+    file = sound()
+    fmt = file.index(b"fmt ")
+    for cut in range(44):
+        is_refused(ValueError, aes3.read_wav, io.BytesIO(file[:cut]))
+    for cut in 1, 2, 3:
+        is_refused(ValueError, aes3.read_wav, io.BytesIO(file[:-cut]))
+    for at, octets in (
+        (0, b"RIFX"), (0, b"FORM"), (8, b"AVI "), (fmt, b"gmt "), (fmt + 4, b"\x0e"), (fmt + 8, b"\3"), (fmt + 8, b"\6"), (fmt + 10, b"\0"), (fmt + 20, b"\5"),
+        (fmt + 22, b"\x0c"),
+    ):
+        is_refused(ValueError, aes3.read_wav, io.BytesIO(file[:at] + octets + file[at + len(octets) :]))
+    floats = io.BytesIO(wav_of(b"RIFF", 4, 32, 2, bytes(8)).replace(b"fmt \x10\0\0\0\1\0", b"fmt \x10\0\0\0\3\0"))
+    try:
+        aes3.read_wav(floats)
+        raise AssertionError("floats are no PCM")
+    except ValueError as error:
+        assert str(error) == "octet 20: the samples are floating point, format 3, and not PCM"
+    for wrong in file, bytearray(file), 7, None, [file], object(), io.StringIO("RIFF"):
+        is_refused(TypeError, aes3.read_wav, wrong)
+    for wrong in 1, (1,), (1, 2, 3), "one", (1.5, 2), ("1", "2"), (None, 1):
+        is_refused(TypeError, aes3.read_wav, io.BytesIO(file), wrong)
+    for wrong in (0, 1), (3, 1), (1, 3), (-1, 1), (1, 2**16):
+        is_refused(ValueError, aes3.read_wav, io.BytesIO(file), wrong)
+    row = array.array("i", [0, 256])
+    for named in {"rate": -1}, {"rate": 2**32}, {"bits": 8}, {"bits": 20}, {"bits": 0}, {"bits": 2**70}, {"channels": 3}, {"channels": None}:
+        is_refused(ValueError, aes3.write_wav, io.BytesIO(), row, **{"channels": 2, **named})
+    for named in {"rate": None}, {"rate": 48000.0}, {"bits": "16"}, {"bits": None}:
+        is_refused(TypeError, aes3.write_wav, io.BytesIO(), row, **{"channels": 2, **named})
+    for wrong in "text", 7, None, b"octets", array.array("b", [1]), array.array("Q", [1]), [1, 2], [None], object():
+        is_refused(TypeError, aes3.write_wav, io.BytesIO(), wrong)
+    for wrong in [[1, 2]], [384 * [16]], [384 * [-1]]:
+        is_refused(ValueError, aes3.write_wav, io.BytesIO(), wrong)
+    is_refused(ValueError, aes3.write_wav, io.BytesIO(), [384 * [0]], channels=2)
+    for wrong in b"name", 7, None, io.StringIO():
+        is_refused(TypeError, aes3.write_wav, wrong, row, channels=2)
+
+
+def check_wavs_of_numpy():
+    frames = numpy.array(row_of(frames_of(193)), numpy.int32).reshape(-1, 2) << 8
+    for samples, bits in (frames, 24), (frames[::-1].copy()[::-1], 24), (frames.astype(">i4"), 24), ((frames >> 16).astype("i2"), 16), (frames / 2.0**31, 24):
+        file = io.BytesIO()
+        aes3.write_wav(file, samples, 32000, bits=bits)
+        found = aes3.read_wav(io.BytesIO(file.getvalue()))
+        assert found.rate == 32000 and (found.samples == (frames if bits == 24 else frames >> 16 << 16)).all()
+        line = aes3.encode(found.samples, found.rate)
+        assert (aes3.decode(line).samples[:193] == found.samples).all()
+    for wrong in numpy.zeros((4, 2), "u4"), numpy.zeros((4, 2), "i8"), numpy.zeros((4, 2), "O"), numpy.ma.masked_equal(frames, 0):
+        is_refused(TypeError, aes3.write_wav, io.BytesIO(), wrong)
+    for wrong in numpy.zeros((4, 3), "i4"), numpy.zeros(4, "i4"), numpy.full((4, 2), 2.0):
+        is_refused(ValueError, aes3.write_wav, io.BytesIO(), wrong)
 
 
 MATCH = """
