@@ -1,10 +1,12 @@
 /* The codec: the calls of include/aes3.h, in the module's own memory. */
 
 export const BLOCK_CELLS = 24576;
+export const BLOCK_FRAMES = 192;
 export const SUBFRAME_CELLS = 64;
 
-/* How many characters the text of a channel status has at most. */
+/* How many characters the text of a channel status has at most, and how many octets the header of a WAV file. */
 const STATUS_TEXT = 800;
+const WAV_HEADER = 104;
 
 export class Codec {
     static async make(octets) {
@@ -23,7 +25,7 @@ export class Codec {
         };
         [this.lock, this.other] = [room(3104), room(3104)];
         [this.report, this.block, this.cells] = [room(1560), room(1536), room(3072)];
-        [this.status, this.text, this.capture] = [room(24), room(STATUS_TEXT), room(80)];
+        [this.status, this.text, this.capture, this.header] = [room(24), room(STATUS_TEXT), room(80), room(WAV_HEADER)];
         this.buffer = room(0);
         this.view = new DataView(memory);
         this.bytes = new Uint8Array(memory);
@@ -103,6 +105,12 @@ export class Codec {
         new Uint32Array(this.view.buffer, this.block, 384).set(words);
         const answer = this.call("encode_block", BigInt(this.block), before, BigInt(this.cells));
         return answer === 384 ? this.bytes.slice(this.cells, this.cells + 3072) : null;
+    }
+
+    /* The header of a WAV file of so many frames of two channels with samples of 24 bits, as `aes3 to-wav -o` writes it. */
+    wavHeader(frames, hertz) {
+        const count = this.call("wav_write", 24, hertz, BigInt(frames), BigInt(this.header));
+        return this.bytes.slice(this.header, this.header + count);
     }
 
     /* How many octets of samples `recover` takes: behind them there is room for their cells. */

@@ -6,10 +6,6 @@ import { durationOf } from "./rate.js";
 import { statusLine } from "./status.js";
 import { cellCount, plain } from "./words.js";
 
-const FRAMES = 192;
-const FRAME_BYTES = 6; // two samples of 24 bits
-const MOST_BYTES = 2 ** 32 - 1; // that a WAV file can tell of
-
 /* A block of a block file: each word lowest byte first. */
 export function blockBytes(words) {
     const bytes = new Uint8Array(4 * words.length);
@@ -26,29 +22,6 @@ export function sampleBytes(words) {
         bytes.set([sample & 255, sample >> 8 & 255, sample >> 16 & 255], 3 * i);
     });
     return bytes;
-}
-
-/* The header of a WAV file of two channels and 24 bits; null where it would be longer than such a file can be. */
-export function wavHeader(blocks, hertz) {
-    const size = blocks * FRAMES * FRAME_BYTES;
-    if (size + 36 > MOST_BYTES) {
-        return null;
-    }
-    const view = new DataView(new ArrayBuffer(44));
-    const name = (place, text) => [...text].forEach((letter, i) => view.setUint8(place + i, letter.charCodeAt(0)));
-    name(0, "RIFF");
-    view.setUint32(4, size + 36, true);
-    name(8, "WAVEfmt ");
-    view.setUint32(16, 16, true);
-    view.setUint16(20, 1, true);
-    view.setUint16(22, 2, true);
-    view.setUint32(24, hertz, true);
-    view.setUint32(28, hertz * FRAME_BYTES, true);
-    view.setUint16(32, FRAME_BYTES, true);
-    view.setUint16(34, 24, true);
-    name(36, "data");
-    view.setUint32(40, size, true);
-    return new Uint8Array(view.buffer);
 }
 
 /* The account of an input: what the page says of it, the channel status of its first and last whole block, and its lines. */

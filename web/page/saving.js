@@ -1,9 +1,10 @@
 /* The buttons that save. */
 
 import { CellFile } from "./cells.js";
+import { BLOCK_FRAMES } from "./codec.js";
 import { at } from "./elements.js";
 import { readBlocks } from "./reading.js";
-import { accountOf, blockBytes, offer, sampleBytes, wavHeader } from "./save.js";
+import { accountOf, blockBytes, offer, sampleBytes } from "./save.js";
 
 /* Reads the cells again and saves what `bytesOf` makes of each of their whole blocks, behind what stands before them. */
 async function save(page, ending, type, before, bytesOf) {
@@ -29,12 +30,8 @@ async function save(page, ending, type, before, bytesOf) {
 }
 
 export async function saveWav(page) {
-    const header = wavHeader(page.found.tally.blocks, page.rate().hertz);
-    if (header) {
-        await save(page, ".wav", "audio/wav", [header], sampleBytes);
-    } else {
-        at("trouble").textContent = "A WAV file has 4 GB at most, and these samples are more: save the block file.";
-    }
+    const header = page.codec.wavHeader(page.found.tally.blocks * BLOCK_FRAMES, page.rate().hertz);
+    await save(page, ".wav", "audio/wav", [header], sampleBytes);
 }
 
 export async function saveBlocks(page) {
