@@ -100,7 +100,7 @@ export class Codec {
         return String.fromCharCode(...this.bytes.subarray(this.text, this.text + count));
     }
 
-    /* The cells of a block as 3,072 octets, the earliest cell of each in bit 0; null where a word is not lawful. */
+    /* The cells of a block as 3,072 octets, the earliest cell of each in bit 0; null where a word is not valid. */
     encode(words, before) {
         new Uint32Array(this.view.buffer, this.block, 384).set(words);
         const answer = this.call("encode_block", BigInt(this.block), before, BigInt(this.cells));

@@ -8,22 +8,18 @@ mod output;
 ghost use Rattle.std.specs.Prelude.{◌+◌, ◌<◌, ◌^◌, ◌≡◌, IfErr};
 
 use aes3_cell::{BufferedSink, Sink, StdSink, StdSource};
+use aes3_cli::{REFUSED, Unread, words_of_line};
 use aes3_cli_arguments::{CommandLine, LineFault, file_of_line, line_of_words, output_of_line};
 use aes3_cli_hints::{Hints, Terminals};
 use aes3_cli_jobs::Job;
 use aes3_cli_progress::Clearing;
 use aes3_files::{Input, Preview};
-use aes3_program::Unread;
 use aes3_program_terminal::{recognise, report_unread, run_and_explain};
 use aes3_wave::Depth;
 use output::{Output, OutputFile};
 use std::cell::Cell;
-use std::env;
-use std::io::{Error, ErrorKind};
+use std::io::Error;
 use std::process::ExitCode;
-
-/// The exit status of a refusal.
-const REFUSED: u8 = 3;
 
 /// What is noted of the streams while they are lent.
 #[derive(Drop)]
@@ -142,16 +138,5 @@ fn depth_of_line(line: &Result<CommandLine<'_>, LineFault>) -> Option<Depth> {
     match line.job {
         Job::Read { work, .. } => work.wave_depth(),
         _ => None,
-    }
-}
-
-/// The words of the command line behind the program's name.
-fn words_of_line(rt: &HostRuntime) -> Result<Vec<String>, Unread> {
-    match env::args(rt) {
-        Ok(words) => Ok(words.skip(1).collect(rt.alloc())?),
-        Err(error) => match error.kind() {
-            ErrorKind::OutOfMemory => Err(Unread::Memory),
-            _ => Err(Unread::NotUtf8),
-        },
     }
 }

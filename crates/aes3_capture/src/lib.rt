@@ -8,7 +8,6 @@ mod bounds;
 mod count;
 /// A follower of edges.
 mod follower;
-mod leap;
 
 pub use bounds::{Bounds, PARTS};
 pub use count::{count_cells, count_cells_behind};

@@ -20,8 +20,8 @@ use Rattle.aes3_capture_recovery.specs.declared.run.Refusal.TheVariants.{Read, W
 use Rattle.aes3_capture_runs.specs.Lines.{IsFiguresLine, IsFoundText, bit_line, no_line_text}
 use Rattle.aes3_capture_runs.specs.Samples.{unit_of_job}
 use Rattle.aes3_capture_runs.specs.declared.line.Job.{Job}
-use Rattle.aes3_capture_runs.specs.declared.run.Unread.{Unread}
-use Rattle.aes3_capture_runs.specs.declared.run.Unread.TheVariants as unread
+use Rattle.aes3_cli.specs.declared.unread.Unread.{Unread}
+use Rattle.aes3_cli.specs.declared.unread.Unread.TheVariants as unread
 
 -- what a sink tells at the start, and the form and the period of the job
 abbrev pub setting_of : Job → List ℕ → Setting

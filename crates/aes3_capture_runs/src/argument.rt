@@ -3,7 +3,8 @@
 ghost use Rattle.aes3_cli.specs.CommandLine.{IsOption, flag, text_option};
 ghost use Rattle.aes3_capture_runs.specs.CellsLine.{rule};
 
-use clap::{Arg, ArgAction};
+use aes3_cli::{flag, text_option};
+use clap::Arg;
 use std::alloc::Global;
 
 /// An option or a value that the program takes.
@@ -42,9 +43,9 @@ impl Argument {
         ensures { IsOption (rule self) result }
     {
         match self {
-            Argument::Rate => number(alloc, "rate", "HZ", "Samples a second"),
+            Argument::Rate => text_option(alloc, "rate", "HZ", "Samples a second"),
             Argument::At => {
-                number(
+                text_option(
                     alloc,
                     "at",
                     "HZ",
@@ -52,14 +53,14 @@ impl Argument {
                 )
             }
             Argument::Unit => {
-                number(
+                text_option(
                     alloc,
                     "unit",
                     "OCTETS",
                     "Octets a sample, 1 or 2; 1 if not given",
                 )
             }
-            Argument::Bit => number(alloc, "bit", "BIT", "The line's bit in a sample"),
+            Argument::Bit => text_option(alloc, "bit", "BIT", "The line's bit in a sample"),
             Argument::PackedOut => flag(alloc, "packed-out", "Write packed cells, eight an octet"),
             Argument::Tell => {
                 flag(
@@ -73,24 +74,4 @@ impl Argument {
             ),
         }
     }
-}
-
-/// The flag `--name`.
-fn flag<'a>(alloc: Global, name: &'a str, help: &'a str) -> Arg<'a>
-    ensures { IsOption (flag name.now) result }
-{
-    Arg::new(alloc, name)
-        .long(name)
-        .action(ArgAction::SetTrue)
-        .help(help)
-}
-
-/// The option `--name` with a value.
-fn number<'a>(alloc: Global, name: &'a str, value: &'a str, help: &'a str) -> Arg<'a>
-    ensures { IsOption (text_option name.now) result }
-{
-    Arg::new(alloc, name)
-        .long(name)
-        .value_name(value)
-        .help(help)
 }

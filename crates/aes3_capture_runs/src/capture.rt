@@ -2,13 +2,13 @@
 
 ghost use Rattle.std.specs.Prelude.{◌+◌, ◌<◌, ◌≤◌, ◌^◌, IfErr};
 
-use crate::line::Job;
+use crate::line::{Job, unit_of_job};
 use crate::look::Look;
 use crate::other_file::{FIRST_LEN, advice_on_other};
-use crate::run::{NO_LINE, Unread, run_job, say};
-use crate::samples::unit_of_job;
+use crate::run::{NO_LINE, run_job, say};
 use crate::search::line_bit;
 use aes3_cell::{BufferedSink, Sink, StdSink, StdSource};
+use aes3_cli::Unread;
 use aes3_cli_progress::{Clearing, Course, Progress as Followed, Unit as Counted};
 use aes3_files::{Input, Preview};
 use std::cell::Cell;

@@ -1,14 +1,12 @@
 //! What the program says of itself.
 
-/// What `--version` prints after the program's name.
-pub const VERSION: &str = "0.1.0";
+use aes3_cli::help::Texts;
 
-pub const ABOUT: &str = "The cells of an AES3 / IEC 60958 line, from the samples of a capture";
-
-pub const USAGE: &str = "aes3-cells [OPTIONS] [FILE] > CELLS";
-
-pub const MORE: &str =
-    "Reads the samples of a logic analyser or of a pin. Writes the cells of the line in one of
+/// The texts of the program.
+pub const PROGRAM: Texts<'static> = Texts {
+    about: "The cells of an AES3 / IEC 60958 line, from the samples of a capture",
+    usage: "aes3-cells [OPTIONS] [FILE] > CELLS",
+    more: "Reads the samples of a logic analyser or of a pin. Writes the cells of the line in one of
 their bits, as `aes3` reads them. A sample has one octet, or two, the lower one first. A
 cell is half a time slot of the line: one level, 0 or 1.
 
@@ -35,4 +33,5 @@ Exit status:
      are written even if no line was found
   2  usage error; standard error says why
   3  the input or the output failed
-";
+",
+};

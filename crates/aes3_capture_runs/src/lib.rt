@@ -18,8 +18,6 @@ mod look;
 mod other_file;
 /// A job between its streams, and what is said of it.
 mod run;
-/// How samples lie, and the bit of them that is the line.
-mod samples;
 /// The bit in which the line lies, where none is asked for.
 mod search;
 /// The values of options.
@@ -30,4 +28,4 @@ mod wrong;
 pub use capture::run_capture;
 pub use line::{Job, job_of_words};
 pub use look::Look;
-pub use run::{Unread, report_fault, report_unread, run_job};
+pub use run::{report_fault, report_unread, run_job};

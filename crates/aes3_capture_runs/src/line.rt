@@ -1,22 +1,25 @@
-//! What the words of a command line ask for.
+//! What the words of a command line ask for, and how the samples of such a job lie.
 
-ghost use Rattle.std.specs.Prelude.{◌≡◌, [], IfErr, IfOk, None, Some, codes, map};
+ghost use Rattle.std.specs.Prelude.{◌≡◌, ◌<◌, [], IfErr, IfOk, None, Some, codes, map};
 ghost use Rattle.aes3_cli.specs.CommandLine.{IsDefinedAs};
 ghost use Rattle.aes3_cli.specs.Options.{options_of};
 ghost use Rattle.clap.specs.Walk.{first_of, one_of};
 ghost use Rattle.aes3_cell.specs.declared.form.Form.TheVariants as form;
+ghost use Rattle.aes3_capture_recovery.specs.Levels.{bit_of_line, bits_of_sample};
 ghost use Rattle.aes3_capture_runs.specs.Asks.{AsksFor, FitTogether, IsChosen, IsJobOf, IsValueBy};
 ghost use Rattle.aes3_capture_runs.specs.Asks.{at_by, octets_by, period_of, rate_by, value_by};
 ghost use Rattle.aes3_capture_runs.specs.CellsLine.{cells_line, line_with};
 ghost use Rattle.aes3_capture_runs.specs.Faults.{AreApart, HasNoValue, IsFaultOf, IsOptionFault, IsWrongWith};
+ghost use Rattle.aes3_capture_runs.specs.Samples.{unit_of, unit_of_job};
 ghost use Rattle.aes3_capture_runs.specs.Values.{bit_in, frequency_in, octets_in};
 
 use crate::argument::ARGUMENTS;
-use crate::help::{ABOUT, MORE, USAGE, VERSION};
+use crate::help::PROGRAM;
 use crate::value::{bit_of_text, frequency_of_text, octets_of_text, period_of};
 use crate::wrong::{Wrong, wrong_fault};
+use aes3_capture_recovery::Unit;
 use aes3_cell::Form;
-use aes3_cli::{LineFault, file_of_options};
+use aes3_cli::{LineFault, file_of_options, program_line};
 use clap::{ArgMatches, Command};
 use std::alloc::{AllocError, Global};
 
@@ -43,23 +46,11 @@ pub struct Job<'a> {
 fn command_line<'a>(alloc: Global) -> Result<Command<'a>, AllocError>
     ensures { IfOk result (IsDefinedAs cells_line) }
 {
-    let mut line = program(alloc);
+    let mut line = program_line(alloc, "aes3-cells", PROGRAM);
     for argument in ARGUMENTS.iter() {
         line = line.arg(argument.define(alloc))?;
     }
     Ok(line)
-}
-
-/// The command line that takes no word yet.
-fn program<'a>(alloc: Global) -> Command<'a>
-    ensures { IsDefinedAs (line_with []) result }
-{
-    Command::new(alloc, "aes3-cells")
-        .about(ABOUT)
-        .override_usage(USAGE)
-        .after_help(MORE)
-        .no_binary_name(true)
-        .version(VERSION)
 }
 
 /// What the words ask for, without the program's name. It reads no input.
@@ -74,7 +65,7 @@ pub fn job_of_words<'a>(alloc: Global, words: &'a [&'a str]) -> Result<Job<'a>, 
     let command = command_line(alloc)?;
     match command.try_get_matches_from(words) {
         Ok(options) => job_of_options(alloc, &options),
-        Err(error) => Err(LineFault::of_error(alloc, &error, USAGE)),
+        Err(error) => Err(LineFault::of_error(alloc, &error, PROGRAM.usage)),
     }
 }
 
@@ -256,5 +247,29 @@ fn period(rate: Option<u64>, at: Option<u64>) -> Result<Option<u64>, Wrong>
     match period_of(rate, at) {
         Some(period) => Ok(Some(period)),
         None => Err(Wrong::Period),
+    }
+}
+
+/// How samples of so many octets lie, with the line in this bit; of a bit past the last its remainder
+/// counts.
+pub fn unit_of(octets: usize, bit: u8) -> Unit
+    ensures { result ≡ unit_of octets bit }
+{
+    if octets == 1 {
+        Unit::Octets(bit % 8)
+    } else {
+        Unit::Pairs(bit % 16)
+    }
+}
+
+/// How the samples of a job lie: with the line in the bit that it names, else in the one that was found,
+/// else in the lowest.
+pub fn unit_of_job(job: &Job<'_>, found: Option<u8>) -> Unit
+    ensures unit { result ≡ unit_of_job job.now found }
+    ensures bit { bit_of_line result < bits_of_sample result }
+{
+    match (job.bit, found) {
+        (Some(bit), _) | (None, Some(bit)) => unit_of(job.octets, bit),
+        (None, None) => unit_of(job.octets, 0),
     }
 }

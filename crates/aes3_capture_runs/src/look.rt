@@ -1,6 +1,6 @@
 //! What the first samples of a capture tell where no line is found in it.
 
-use crate::samples::unit_of;
+use crate::line::unit_of;
 use crate::search::is_line;
 use aes3_capture_recovery::Unit;
 use std::alloc::{AllocError, Global};

@@ -10,41 +10,16 @@ ghost use Rattle.aes3_capture_runs.specs.Runs.{EndSaid, FaultRan, IsNothing, Job
 ghost use Rattle.aes3_capture_runs.specs.Runs.{memory_text, refusal_text};
 
 use crate::figures::{figures_line, found_text, no_line_text};
-use crate::line::Job;
+use crate::line::{Job, unit_of_job};
 use crate::look::Look;
-use crate::samples::unit_of_job;
 use aes3_capture_recovery::{Figures, Progress, Recovery, Refusal, Unit, recover};
 use aes3_cell::{Fault, Sink, Source, write_all};
-use aes3_cli::LineFault;
+use aes3_cli::{DONE, LineFault, REFUSED, USAGE, Unread, put_text};
 use itoa::Buffer;
 use std::alloc::{AllocError, Global};
 
-/// The exit status of a run in which a line was found.
-const DONE: u8 = 0;
-
 /// The exit status where no line was found.
 pub const NO_LINE: u8 = 1;
-
-/// The exit status of words that ask for no job.
-const USAGE: u8 = 2;
-
-/// The exit status where the input, the output or memory failed.
-const FAILED: u8 = 3;
-
-/// Writes all of a text and flushes it.
-///
-/// # Errors
-/// The sink's fault; then it may have taken a front of the text.
-fn put_text<T: Sink>(text: &str, sink: &mut T) -> Result<(), Fault>
-    requires room { T.failed sink.old + 1 < 2 ^ 64 }
-    ensures text { IfOk result (λ _. Grew (T.taken sink.old) (T.taken sink.new) text.now) }
-    ensures passed_on { IfOk result (λ _. T.passed sink.new ≡ T.taken sink.new) }
-    ensures count { IfOk result (λ _. T.failed sink.new ≡ T.failed sink.old) }
-    ensures err { OnErr result (T.failed sink.new ≡ T.failed sink.old + 1) }
-{
-    write_all(sink, text.as_bytes())?;
-    sink.flush()
-}
 
 /// Says a text among the messages, which are flushed then and whose own faults change nothing.
 pub fn say<E: Sink>(text: &str, messages: &mut E)
@@ -71,7 +46,7 @@ fn say_memory<E: Sink>(messages: &mut E) -> u8
     ensures up { E.failed messages.old ≤ E.failed messages.new }
 {
     say("aes3-cells: memory was refused\n", messages);
-    FAILED
+    REFUSED
 }
 
 /// Says which end of a run failed, and answers the exit status.
@@ -89,7 +64,7 @@ fn say_refusal<E: Sink>(refusal: Refusal, messages: &mut E) -> u8
         Refusal::Read => say("aes3-cells: the input failed\n", messages),
         Refusal::Write => say("aes3-cells: the output failed\n", messages),
     }
-    FAILED
+    REFUSED
 }
 
 /// Writes the line of the bit in which a line was found, and flushes it. It takes no memory.
@@ -326,23 +301,6 @@ pub fn report_fault<T: Sink, E: Sink>(fault: LineFault, sink: &mut T, messages: 
             Err(_) => say_refusal(Refusal::Write, messages),
         },
         LineFault::Memory => say_memory(messages),
-    }
-}
-
-/// Why the words of a command line could not be read.
-#[derive(Clone, Copy)]
-pub enum Unread {
-    /// They are not UTF-8.
-    NotUtf8,
-    /// Memory was refused.
-    Memory,
-}
-
-impl From<AllocError> for Unread {
-    fn from(_error: AllocError) -> Unread
-        ensures { result ≡ Unread.Memory }
-    {
-        Unread::Memory
     }
 }
 

@@ -1,6 +1,6 @@
 //! The bit of the samples in which the line lies, where none is asked for.
 
-use crate::samples::unit_of;
+use crate::line::unit_of;
 use aes3_capture_recovery::{Recovery, Unit, feed};
 use aes3_cell::{Form, MemorySink};
 use aes3_files::Preview;

@@ -3,7 +3,7 @@
 ghost use Rattle.std.specs.Prelude.{◌≡◌, IfOk};
 ghost use Rattle.aes3_capture_runs.specs.Faults.{IsFaultFor, reason, wrong_text};
 
-use crate::help::USAGE;
+use crate::help::PROGRAM;
 use aes3_cli::LineFault;
 use aes3_cli::wording::add_usage;
 use std::alloc::{AllocError, Global};
@@ -65,6 +65,6 @@ fn wrong_text(alloc: Global, wrong: Wrong) -> Result<String, AllocError>
 {
     let mut text = String::from_str(alloc, "aes3-cells: ")?;
     text.push_str(wrong.reason())?;
-    add_usage(&mut text, USAGE)?;
+    add_usage(&mut text, PROGRAM.usage)?;
     Ok(text)
 }

@@ -1,4 +1,4 @@
-//! Lines of cell text.
+//! Lines of cell text, and a reader that takes them.
 
 ghost use Rattle.std.specs.Prelude.{◌≡◌, ◌≢◌, ◌+◌, ◌*◌, ◌<◌, ◌≤◌, ◌^◌, ℕ, [], drop, length, map};
 ghost use Rattle.std.specs.Prelude.{slice_index_or, take, IfNone, IfSome, IsTrue, OnSome, ◌↔◌};
@@ -41,7 +41,7 @@ fn front_line(text: &[u8]) -> Option<u64>
 
 /// Makes words of the lines of 64 cells that text begins with, as many as come first and as there
 /// are words; answers how many.
-pub(crate) fn words_of_lines(text: &[u8], words: &mut [u64]) -> usize
+fn words_of_lines(text: &[u8], words: &mut [u64]) -> usize
     ensures len { length words.new ≡ length words.old }
     ensures room { result ≤ length words.new }
     ensures within { 65 * result ≤ length text.now }
@@ -57,6 +57,42 @@ pub(crate) fn words_of_lines(text: &[u8], words: &mut [u64]) -> usize
         }
     }
     words.len()
+}
+
+impl CellText {
+    /// Takes 64 bytes all of which are cells, and answers them as a word, the first in the lowest
+    /// bit; else it takes none of them.
+    pub fn feed_word(&mut self, bytes: &[u8; 64]) -> Option<u64>
+        requires { self.old.seen + 64 ≤ 2 ^ 40 }
+        ensures cells { IfSome result (λ word. bytes.now ≡ map byte_of (word_cells word)) }
+        ensures owed { (word : ℕ) → word < 2 ^ 64 → bytes.now ≡ map byte_of (word_cells word)
+            → result ≡ Some word }
+        ensures seen { OnSome result (self.new.seen ≡ self.old.seen + 64) }
+        ensures same { IfNone result (self.new ≡ self.old) }
+    {
+        let word = word_of_text(bytes)?;
+        self.seen += 64;
+        Some(word)
+    }
+
+    /// Takes lines of 64 cells and a line feed, as many as come first and as there are words, and
+    /// answers how many: these words are then their cells.
+    pub fn feed_lines(&mut self, text: &[u8], words: &mut [u64]) -> usize
+        requires { self.old.seen + length text.now ≤ 2 ^ 40 }
+        ensures len { length words.new ≡ length words.old }
+        ensures room { result ≤ length words.new }
+        ensures within { 65 * result ≤ length text.now }
+        ensures lines { take (65 * result) text.now
+            ≡ text_of (flat_map word_cells (take result words.new)) }
+        ensures stops { result < length words.new → 65 * result + 65 ≤ length text.now → (word : ℕ)
+            → word < 2 ^ 64
+            → take 65 (drop (65 * result) text.now) ≢ line_text (word_cells word) }
+        ensures seen { self.new.seen ≡ self.old.seen + 65 * result }
+    {
+        let taken = words_of_lines(text, words);
+        self.seen += (LINE_LEN * taken) as u64;
+        taken
+    }
 }
 
 /// Whether a byte separates cells, as at the end of a line.

@@ -1,4 +1,4 @@
-//! The words of cells that text begins with, whatever its lines.
+//! The words of cells that text begins with, whatever its lines, as a reader takes them.
 
 ghost use Rattle.std.specs.Prelude.{◌≡◌, ◌+◌, ◌<◌, ◌≤◌, ◌^◌, ◌++◌, [], ◌∷◌, length};
 ghost use Rattle.std.specs.Prelude.{take, slice_index, Err, IfOk, IfErr, OnErr, IfSome, OnSome};
@@ -222,11 +222,7 @@ fn feed_cells(text: &mut CellText, piece: &[u8]) -> Result<(usize, SomeCells), B
 ///
 /// # Errors
 /// The place of the first byte, where it is neither a cell nor a separator. Nothing is taken then.
-pub(crate) fn fill(
-    text: &mut CellText,
-    piece: &[u8],
-    words: &mut [u64; LINES],
-) -> Result<TextFront, BadCell>
+fn fill(text: &mut CellText, piece: &[u8], words: &mut [u64; LINES]) -> Result<TextFront, BadCell>
     requires some { 0 < length piece.now }
     requires room { text.old.seen + length piece.now ≤ 2 ^ 40 }
     ensures within { IfOk result (λ taken. (0 < taken.bytes) × (taken.bytes ≤ length piece.now)) }
@@ -249,4 +245,32 @@ pub(crate) fn fill(
         count: 0,
         rest,
     })
+}
+
+impl CellText {
+    /// Takes a front of a piece: lines of 64 cells, as many as come first and as there are words, or
+    /// chunks of cells and separators, or at least one byte. Answers how many bytes it has, how many
+    /// words its cells make, and the cells after these.
+    ///
+    /// # Errors
+    /// The place of the first byte, where it is neither a cell nor a separator. Nothing is taken then.
+    pub fn take_front(
+        &mut self,
+        piece: &[u8],
+        words: &mut [u64; LINES],
+    ) -> Result<TextFront, BadCell>
+        requires some { 0 < length piece.now }
+        requires room { self.old.seen + length piece.now ≤ 2 ^ 40 }
+        ensures within { IfOk result (λ taken. (0 < taken.bytes) × (taken.bytes ≤ length piece.now)) }
+        ensures few { IfOk result (λ taken. taken.count ≤ 64) }
+        ensures len { length words.new ≡ 64 }
+        ensures read { IfOk result (λ taken. TextRead self.old self.new (take taken.bytes piece.now)
+            (flat_map word_cells (take taken.count words.new)
+            ++ low_cells taken.rest.len taken.rest.word)) }
+        ensures fault { IfErr result (λ fault. Err fault
+            ≡ text_answer self.old (slice_index piece.now 0)) }
+        ensures same { OnErr result (self.new ≡ self.old) }
+    {
+        fill(self, piece, words)
+    }
 }

@@ -4,12 +4,12 @@
 
 ghost use Rattle.std.specs.Prelude.{◌+◌, ◌<◌, ◌≤◌, ◌^◌, IfErr};
 
-use aes3_capture_runs::{Unread, job_of_words, report_fault, report_unread, run_capture};
+use aes3_capture_runs::{job_of_words, report_fault, report_unread, run_capture};
 use aes3_cell::{Sink, StdSink};
+use aes3_cli::{Unread, words_of_line};
 use aes3_cli_progress::Clearing;
 use std::cell::Cell;
-use std::env;
-use std::io::{ErrorKind, IsTerminal};
+use std::io::IsTerminal;
 use std::process::ExitCode;
 
 fn main(rt: HostRuntime) -> ExitCode {
@@ -42,16 +42,5 @@ fn run_program<E: Sink>(
             let mut sink = StdSink::new(rt.stdout().lock());
             Ok(report_fault(fault, &mut sink, messages))
         }
-    }
-}
-
-/// The words of the command line after the program's name.
-fn words_of_line(rt: &HostRuntime) -> Result<Vec<String>, Unread> {
-    match env::args(rt) {
-        Ok(words) => Ok(words.skip(1).collect(rt.alloc())?),
-        Err(error) => match error.kind() {
-            ErrorKind::OutOfMemory => Err(Unread::Memory),
-            _ => Err(Unread::NotUtf8),
-        },
     }
 }

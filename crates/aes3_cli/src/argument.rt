@@ -186,19 +186,19 @@ impl Argument {
                 "The number of the first block, counted from 0",
             ),
             Argument::Count => number(alloc, "COUNT", 0, u64::MAX, "How many blocks"),
-            Argument::Status1 => text(
+            Argument::Status1 => text_option(
                 alloc,
                 "status1",
                 "HEX48",
                 "The status of channel 1, in hexadecimal",
             ),
-            Argument::Status2 => text(
+            Argument::Status2 => text_option(
                 alloc,
                 "status2",
                 "HEX48",
                 "The status of channel 2, in hexadecimal",
             ),
-            Argument::Preset => text(
+            Argument::Preset => text_option(
                 alloc,
                 "preset",
                 "consumer|professional",
@@ -211,19 +211,22 @@ impl Argument {
                 "HZ",
                 "The sampling frequency in the status, as 48000 or 48k",
             ),
-            Argument::Set => settings(
+            Argument::Set => repeated_option(
                 alloc,
                 "set",
+                "NAME=WORD",
                 "Set a field of both channels, as `show` prints it; may be repeated",
             ),
-            Argument::Set1 => settings(
+            Argument::Set1 => repeated_option(
                 alloc,
                 "set1",
+                "NAME=WORD",
                 "Set a field of channel 1, as `show` prints it; may be repeated",
             ),
-            Argument::Set2 => settings(
+            Argument::Set2 => repeated_option(
                 alloc,
                 "set2",
+                "NAME=WORD",
                 "Set a field of channel 2, as `show` prints it; may be repeated",
             ),
             Argument::MendCheck => flag(
@@ -256,7 +259,7 @@ impl Argument {
                 "valid",
                 "Write zero for a sample whose validity bit is 1",
             ),
-            Argument::Fill => text(
+            Argument::Fill => text_option(
                 alloc,
                 "fill",
                 "zero|hold",
@@ -279,25 +282,25 @@ impl Argument {
                 "Reject blocks that can't take what --set, --set1 or --set2 sets",
             ),
             Argument::ExactWave => flag(alloc, "exact", "Reject samples of more than 24 bits"),
-            Argument::Channels => text(
+            Argument::Channels => text_option(
                 alloc,
                 "channels",
                 "A,B",
                 "The channels to take, from 1 on; else the first two, or the only one",
             ),
-            Argument::Mono => text(
+            Argument::Mono => text_option(
                 alloc,
                 "mono",
                 "both|first",
                 "If the file has one channel: use it for both (usual) or for the first",
             ),
-            Argument::Use => text(
+            Argument::Use => text_option(
                 alloc,
                 "use",
                 "consumer|professional",
                 "The use of the status made from the header; else consumer",
             ),
-            Argument::SampleBits => text(
+            Argument::SampleBits => text_option(
                 alloc,
                 "bits",
                 "16|24|32",
@@ -310,13 +313,13 @@ impl Argument {
                 MOST_FRAMES,
                 "The sampling frequency in the header; else that of the first block",
             ),
-            Argument::Pcm => text(
+            Argument::Pcm => text_option(
                 alloc,
                 "pcm",
                 "s32|s24|s24in32|s16",
                 "Samples have 32 bits, 24 bits in 3 or 4 bytes, or 16 bits",
             ),
-            Argument::Words => text(
+            Argument::Words => text_option(
                 alloc,
                 "words",
                 "own|alsa|am824",
@@ -346,7 +349,7 @@ impl Argument {
 }
 
 /// The flag `--name`.
-fn flag<'a>(alloc: Global, name: &'a str, help: &'a str) -> Arg<'a>
+pub fn flag<'a>(alloc: Global, name: &'a str, help: &'a str) -> Arg<'a>
     ensures { IsOption (flag name.now) result }
 {
     Arg::new(alloc, name)
@@ -356,7 +359,7 @@ fn flag<'a>(alloc: Global, name: &'a str, help: &'a str) -> Arg<'a>
 }
 
 /// The option `--name` with a text, as help calls it.
-fn text<'a>(alloc: Global, name: &'a str, value: &'a str, help: &'a str) -> Arg<'a>
+pub fn text_option<'a>(alloc: Global, name: &'a str, value: &'a str, help: &'a str) -> Arg<'a>
     ensures { IsOption (text_option name.now) result }
 {
     Arg::new(alloc, name)
@@ -378,13 +381,13 @@ fn named_text<'a>(
     Arg::new(alloc, id).long(name).value_name(value).help(help)
 }
 
-/// The option `--name` with a setting, which may stand more than once.
-fn settings<'a>(alloc: Global, name: &'a str, help: &'a str) -> Arg<'a>
+/// The option `--name` with a text, as help calls it, which may stand more than once.
+pub fn repeated_option<'a>(alloc: Global, name: &'a str, value: &'a str, help: &'a str) -> Arg<'a>
     ensures { IsOption (settings_option name.now) result }
 {
     Arg::new(alloc, name)
         .long(name)
-        .value_name("NAME=WORD")
+        .value_name(value)
         .action(ArgAction::Append)
         .help(help)
 }

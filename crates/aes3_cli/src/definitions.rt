@@ -1,8 +1,8 @@
 //! The program's command line, as definitions for `clap`.
 
-ghost use Rattle.std.specs.Prelude.{◌≡◌, IfOk, map};
+ghost use Rattle.std.specs.Prelude.{◌≡◌, [], IfOk, map};
 ghost use Rattle.aes3_cli.specs.CommandLine.{IsDefinedAs, app_with, command, command_line};
-ghost use Rattle.aes3_cli.specs.CommandLine.{program, rule, shape};
+ghost use Rattle.aes3_cli.specs.CommandLine.{program, program_with, rule, shape};
 
 use crate::argument::Argument;
 use crate::help::{self, Texts};
@@ -77,16 +77,23 @@ pub fn command_line<'a>(alloc: Global) -> Result<Command<'a>, AllocError>
     Ok(line)
 }
 
+/// The command line of a program that has no commands, and takes no word yet.
+pub fn program_line<'a>(alloc: Global, name: &'a str, texts: Texts<'a>) -> Command<'a>
+    ensures { IsDefinedAs (program_with name.now []) result }
+{
+    Command::new(alloc, name)
+        .about(texts.about)
+        .override_usage(texts.usage)
+        .after_help(texts.more)
+        .no_binary_name(true)
+        .version(help::VERSION)
+}
+
 /// The program with no command yet.
 fn program<'a>(alloc: Global) -> Result<Command<'a>, AllocError>
     ensures { IfOk result (IsDefinedAs program) }
 {
-    Command::new(alloc, "aes3")
-        .about(help::PROGRAM.about)
-        .override_usage(help::PROGRAM.usage)
-        .after_help(help::PROGRAM.more)
-        .no_binary_name(true)
-        .version(help::VERSION)
+    program_line(alloc, "aes3", help::PROGRAM)
         .disable_help_subcommand(true)
         .subcommand_required(true)
         .bin_name("aes3")

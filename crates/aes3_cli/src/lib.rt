@@ -10,14 +10,21 @@ mod definitions;
 mod fault;
 /// The texts of `--help` and `--version`.
 pub mod help;
+/// Texts for people, and the exit statuses of programs.
+mod message;
 /// Numbers that values of options write.
 mod number;
 /// What options say that `clap` found.
 mod options;
+/// The words of a command line as the system gives them.
+mod unread;
 /// What is told of words that are no command line.
 pub mod wording;
 
-pub use definitions::command_line;
+pub use argument::{flag, repeated_option, text_option};
+pub use definitions::{command_line, program_line};
 pub use fault::LineFault;
+pub use message::{DONE, REFUSED, USAGE, put_text};
 pub use number::number_of_text;
 pub use options::{file_of_options, output_of_options};
+pub use unread::{Unread, words_of_line};

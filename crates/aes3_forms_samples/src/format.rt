@@ -1,12 +1,17 @@
-//! The forms of samples.
+//! The forms of samples: samples of 32 bits put into one and made of one.
 
-ghost use Rattle.std.specs.Prelude.{◌≡◌, ◌≤◌, ◌<◌};
+ghost use Rattle.std.specs.Prelude.{◌≡◌, ◌≤◌, ◌<◌, length, take, ◌*◌, ◌+◌, ◌++◌, drop};
 ghost use Rattle.aes3_forms_samples.specs.Formats.{asks_exact, block_len, frame_len, sample_len};
+ghost use Rattle.aes3_forms_samples.specs.Formats.{narrow_one, narrowed, sign_octet, fours, fits};
+ghost use Rattle.aes3_forms_samples.specs.Formats.{seconds_are_zero, widened};
 
 /// How many samples a block has, and how many octets these have at most.
 pub(crate) const BLOCK_SAMPLES: usize = 384;
 
 pub const BLOCK_BYTES: usize = 1536;
+
+/// How many octets a sample of 32 bits has.
+const SAMPLE_BYTES: usize = 4;
 
 /// How the 24 bits of a sample stand in octets, the lowest octet first.
 #[derive(Clone, Copy, PartialEq, Eq)]
@@ -66,4 +71,126 @@ impl SampleFormat {
             SampleFormat::S16 => false,
         }
     }
+
+    /// The four octets of a sample of 32 bits in this form, and zeros behind those.
+    fn narrow_one(self, a: u8, b: u8, c: u8, d: u8) -> [u8; SAMPLE_BYTES]
+        ensures { take (sample_len self) result ≡ narrow_one self a b c d }
+    {
+        match self {
+            SampleFormat::S32 => [a, b, c, d],
+            SampleFormat::S24 => [b, c, d, 0],
+            SampleFormat::S24In32 => [b, c, d, sign_octet(d)],
+            SampleFormat::S16 => [c, d, 0, 0],
+        }
+    }
+
+    /// Puts samples of 32 bits, lowest octet first, into this form: they stand in the first octets
+    /// then, of which it says how many they are. Of a sample all bits below those of the form are
+    /// dropped.
+    pub fn narrow(self, samples: &mut [u8]) -> usize
+        ensures octets { take result samples.new ≡ narrowed self samples.old }
+        ensures within { result ≤ length samples.new }
+        ensures len { length samples.new ≡ length samples.old }
+    {
+        match self {
+            SampleFormat::S32 => samples.len(),
+            SampleFormat::S24 => self.narrow_each(samples),
+            SampleFormat::S24In32 => self.narrow_each(samples),
+            SampleFormat::S16 => self.narrow_each(samples),
+        }
+    }
+
+    /// The same, sample by sample.
+    fn narrow_each(self, samples: &mut [u8]) -> usize
+        ensures octets { take result samples.new ≡ fours (narrow_one self) samples.old }
+        ensures within { result ≤ length samples.new }
+        ensures len { length samples.new ≡ length samples.old }
+    {
+        let len = self.sample_len();
+        let mut at = 0;
+        for i in 0..samples.len() / SAMPLE_BYTES {
+            let from = SAMPLE_BYTES * i;
+            let octets = self.narrow_one(
+                samples[from],
+                samples[from + 1],
+                samples[from + 2],
+                samples[from + 3],
+            );
+            samples[at..at + len].copy_from_slice(&octets[..len]);
+            at += len;
+        }
+        at
+    }
+
+    /// Whether samples of 24 bits, as samples of 32 with the lowest octet 0, lose no bit when they are
+    /// put into this form: in 16 bits those lose some whose second octet is not 0.
+    pub fn fits(self, samples: &[u8]) -> bool
+        ensures { result ≡ fits self samples.now }
+    {
+        match self {
+            SampleFormat::S32 => true,
+            SampleFormat::S24 => true,
+            SampleFormat::S24In32 => true,
+            SampleFormat::S16 => seconds_are_zero(samples),
+        }
+    }
+
+    /// Sample `i` of a block in this form, as four octets.
+    fn wide_one(self, octets: &[u8; BLOCK_BYTES], i: usize) -> [u8; SAMPLE_BYTES]
+        requires { i < BLOCK_SAMPLES }
+        ensures { widened self (drop (sample_len self * i) (take (block_len self) octets.now))
+            ≡ result ++ widened self (drop (sample_len self * (i + 1))
+            (take (block_len self) octets.now)) }
+    {
+        match self {
+            SampleFormat::S32 => {
+                let at = 4 * i;
+                [octets[at], octets[at + 1], octets[at + 2], octets[at + 3]]
+            }
+            SampleFormat::S24 => {
+                let at = 3 * i;
+                [0, octets[at], octets[at + 1], octets[at + 2]]
+            }
+            SampleFormat::S24In32 => {
+                let at = 4 * i;
+                [0, octets[at], octets[at + 1], octets[at + 2]]
+            }
+            SampleFormat::S16 => {
+                let at = 2 * i;
+                [0, 0, octets[at], octets[at + 1]]
+            }
+        }
+    }
+
+    /// The samples of a block, of which the first octets are in this form, as samples of 32 bits,
+    /// lowest octet first: the bits below those of the form are 0.
+    pub fn widen(self, octets: &[u8; BLOCK_BYTES]) -> [u8; BLOCK_BYTES]
+        ensures { result ≡ widened self (take (block_len self) octets.now) }
+    {
+        let mut wide = [0; BLOCK_BYTES];
+        for i in 0..BLOCK_SAMPLES {
+            let at = SAMPLE_BYTES * i;
+            wide[at..at + SAMPLE_BYTES].copy_from_slice(&self.wide_one(octets, i));
+        }
+        wide
+    }
+}
+
+/// The sign of a number whose highest octet is `d`, in an octet above it.
+fn sign_octet(d: u8) -> u8
+    ensures { result ≡ sign_octet d }
+{
+    if d < 128 { 0 } else { 255 }
+}
+
+/// Whether the second octet of each sample of 32 bits is zero.
+fn seconds_are_zero(samples: &[u8]) -> bool
+    ensures { result ≡ seconds_are_zero samples.now }
+{
+    for i in 0..samples.len() / SAMPLE_BYTES {
+        if samples[SAMPLE_BYTES * i + 1] != 0 {
+            return false;
+        }
+    }
+    true
 }

@@ -1,4 +1,4 @@
-//! Blocks.
+//! Blocks, and those made of samples as sound programs write them.
 use aes3_slot::SUBFRAME_CELLS;
 use std::marker::Model;
 
@@ -37,8 +37,9 @@ impl Model for Block {
 ghost use Rattle.std.specs.Prelude.{◌≡◌, ◌<◌, ◌+◌, ◌*◌, ℕ, IfErr, IfOk, Some, true, false, get_or};
 ghost use Rattle.std.specs.Prelude.{[], length, map, replicate, slice_get, slice_index_or, slice_set};
 ghost use Rattle.aes3_frame.specs.Blocks.{block_slots, zero_block};
-ghost use Rattle.aes3_frame.specs.Files.{is_lawful, payload_of};
+ghost use Rattle.aes3_frame.specs.Files.{is_lawful, payload_of, words_of};
 ghost use Rattle.aes3_frame.specs.Subframes.{bits_of};
+ghost use Rattle.aes3_frame.specs.Sampled.{payload_of_sample};
 
 use crate::frame::Frame;
 use crate::subframe::Subframe;
@@ -59,6 +60,23 @@ pub(crate) fn is_lawful_word(word: u32) -> bool
     has_right_code(word) && has_right_parity(word)
 }
 
+/// Sample `slot` of a block.
+fn sample_at(bytes: &[u8; BLOCK_BYTES], slot: usize) -> u32
+    requires { slot < SLOTS }
+    ensures { result ≡ get_or (words_of bytes.now) slot 0 }
+{
+    let at = 4 * slot;
+    u32::from_le_bytes([bytes[at], bytes[at + 1], bytes[at + 2], bytes[at + 3]])
+}
+
+/// The lawful word that carries the highest 24 of 32 bits as its audio, and no V, U and C.
+fn word_of_sample(sample: u32) -> u32
+    ensures lawful { is_lawful result ≡ true }
+    ensures payload { payload_of result ≡ payload_of_sample sample }
+{
+    word_of_payload(sample >> 8)
+}
+
 impl Block {
     /// The block all of whose bits are 0.
     pub fn zero() -> Block
@@ -67,6 +85,19 @@ impl Block {
         Block {
             words: zero_words(),
         }
+    }
+
+    /// The block of these samples, channel 1 and then channel 2 of each frame: 384 words of 32
+    /// bits, lowest byte first, each with the 24 audio bits of its subframe in the highest ones
+    /// (AES3-1, IEC 60958-1). The lowest 8 bits don't count, and V, U and C are zero.
+    pub fn of_samples(bytes: &[u8; BLOCK_BYTES]) -> Block
+        ensures { result ≡ map payload_of_sample (words_of bytes.now) }
+    {
+        let mut words = zero_words();
+        for slot in 0..SLOTS {
+            words[slot] = word_of_sample(sample_at(bytes, slot));
+        }
+        Block::of_words(words)
     }
 
     /// The same block once more.

@@ -12,7 +12,7 @@ ghost use Rattle.std.specs.Prelude.{◌≡◌, ◌<◌, ◌*◌, Some, take, dro
 ghost use Rattle.aes3_bits.specs.Bits.{number};
 ghost use Rattle.aes3_frame.specs.Statuses.{bits_at, bits_of_bytes, bytes_in, place_of, status_len};
 ghost use Rattle.aes3_frame.specs.Statuses.{first_slot_of, validity_of, user_of, with_bits_at};
-ghost use Rattle.aes3_frame.specs.Statuses.{with_validity, with_user};
+ghost use Rattle.aes3_frame.specs.Statuses.{with_validity, with_user, status_of, with_status};
 
 use crate::block::{Block, FRAMES};
 use crate::status::{Channel, STATUS_LEN};
@@ -53,6 +53,24 @@ impl Block {
         ensures { self.new ≡ with_user self.old channel bytes.now }
     {
         self.set_bytes(Carried::User, channel, bytes);
+    }
+
+    /// The channel status of a channel (AES3-2, IEC 60958-1): bit `i % 8` of byte `i / 8` is the C
+    /// bit of frame `i`.
+    #[tactic(auto, unfolding(crate::specs::Statuses::status_of))]
+    pub fn channel_status(&self, channel: Channel) -> [u8; STATUS_LEN]
+        ensures { result ≡ status_of self.now channel }
+    {
+        self.bytes(Carried::Status, channel)
+    }
+
+    /// Sets the channel status of a channel, and changes nothing else but the parity bits that
+    /// follow.
+    #[tactic(auto, unfolding(crate::specs::Statuses::with_status))]
+    pub fn set_channel_status(&mut self, channel: Channel, status: &[u8; STATUS_LEN])
+        ensures { self.new ≡ with_status self.old channel status.now }
+    {
+        self.set_bytes(Carried::Status, channel, status);
     }
 
     /// The bits of a channel's frames as bytes.

@@ -1,7 +1,7 @@
-//! The cells of a block's subframes as they are gathered from a line.
+//! The cells of a block's subframes as they are gathered from a line and judged.
 use crate::block::{Block, SLOTS, zero_words};
 use aes3_level::Level;
-use aes3_slot::mark_of;
+use aes3_slot::{Mark, mark_of, wrong_cells};
 use std::marker::Model;
 use std::simd::prelude::*;
 
@@ -33,16 +33,37 @@ ghost use Rattle.std.specs.Prelude.{IfSome, bit_xor, get_or, length, map, replic
 ghost use Rattle.std.specs.Int.{bit_at};
 ghost use Rattle.std.specs.List.{filter, flat_map};
 ghost use Rattle.aes3_level.specs.Words.{word_cells};
+ghost use Rattle.aes3_level.specs.Cells.{line};
 ghost use Rattle.aes3_bits.specs.Bits.{odd_ones};
 ghost use Rattle.aes3_slot.specs.ReadWords.{read_word, read_words};
-ghost use Rattle.aes3_slot.specs.Slots.{payload_len};
+ghost use Rattle.aes3_slot.specs.Slots.{payload_len, subframe_runs};
+ghost use Rattle.aes3_slot.specs.Rules.{at};
 ghost use Rattle.aes3_frame.specs.Blocks.{block_cells, block_slots, mark_at};
 ghost use Rattle.aes3_frame.specs.Files.{is_lawful, payload_of};
 ghost use Rattle.aes3_frame.specs.Gathered.{IsRight, with_first};
 
 use crate::slots::wrong_parities;
 use crate::word::{payload_of_word, word_of_payload};
-use crate::wrong_cells::wrong_in;
+
+/// One where a subframe's last cell is another level than `before`, as it is where its parity is
+/// wrong, else zero.
+fn other_last(before: Level, cells: u64) -> u64
+    ensures { result ≡ 0 → at (word_cells cells) 63 ≡ before }
+{
+    match before {
+        Level::Low => cells >> 63,
+        Level::High => !cells >> 63,
+    }
+}
+
+/// What is wrong with the cells of a subframe with this preamble after the level `before`: zero,
+/// where they are those of its payload, with right parity.
+pub fn wrong_in(before: Level, mark: Mark, cells: u64) -> u64
+    ensures { result ≡ 0 → word_cells cells ≡ line before
+        (subframe_runs mark (take payload_len (read_word cells))) }
+{
+    wrong_cells(before, mark, cells) | other_last(before, cells)
+}
 
 /// How many of the first words are right after the level `before`, with `more` right ones put from
 /// `slot` on, where `right` of them were after the level `first`.

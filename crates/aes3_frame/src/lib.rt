@@ -2,7 +2,7 @@
 //! blocks as they are gathered from a line.
 #![tactic(auto)]
 
-/// A block: the words of its 384 subframes.
+/// A block: the words of its 384 subframes, also made of samples.
 mod block;
 /// The validity, user and channel status bits of a channel, read and set as 24 bytes.
 mod carried;
@@ -12,31 +12,27 @@ mod cells;
 mod fill;
 /// A frame: its two subframes.
 mod frame;
-/// The cells of subframes as they are gathered from a line, and the block that they make.
+/// The cells of subframes as they are gathered from a line and judged, and the block that they
+/// make.
 mod gathered;
 /// Blocks of which some subframes have a wrong parity bit.
 mod mending;
-/// Blocks made of samples.
-mod samples_in;
 /// The words of subframes read from their cells, and how many have odd parity.
 mod slots;
-/// The channel status of a block, read and set.
+/// The two channels of a line.
 mod status;
 /// What a subframe carries.
 mod subframe;
 /// A word of a block file: bit `n` is time slot `n`.
 mod word;
-/// Which cells of a subframe are not those of its payload.
-mod wrong_cells;
 
 pub use aes3_slot::mark_of;
 pub use block::{BLOCK_BYTES, BLOCK_CELLS, Block, SLOTS, zero_words};
 pub use cells::fill_block_cells;
 pub use fill::Fill;
 pub use frame::Frame;
-pub use gathered::GatheredCells;
+pub use gathered::{GatheredCells, wrong_in};
 pub use slots::wrong_parities;
 pub use status::Channel;
 pub use subframe::{AUDIO_LIMIT, Subframe};
 pub use word::{PAYLOAD_LIMIT, has_right_code, has_right_parity, payload_of_word};
-pub use wrong_cells::wrong_in;

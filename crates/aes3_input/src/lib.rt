@@ -4,15 +4,12 @@
 
 /// The trait of an input, and the one loop over it.
 mod conversion;
-/// The run over an input of cells, in either form.
-mod driver;
 /// Packed cells as an input.
 mod packed_input;
-/// Who takes the cells of an input.
+/// Who takes the cells of an input, and the run over one in either form.
 mod taker;
 /// Cell text as an input.
 mod text_input;
 
 pub use conversion::{Input, convert, feed_fronts, read_piece};
-pub use driver::drive;
-pub use taker::{Taker, cell, word};
+pub use taker::{Taker, cell, drive, word};

@@ -1,4 +1,4 @@
-//! Takers of cells.
+//! Takers of cells, and the run that hands them those of an input.
 
 ghost use Rattle.std.specs.Prelude.{◌≡◌, ◌+◌, ◌*◌, ◌<◌, ◌≤◌, ◌^◌, ◌++◌, List, [], ◌∷◌, length};
 ghost use Rattle.std.specs.Prelude.{IfOk, OnErr};
@@ -10,8 +10,11 @@ ghost use Rattle.aes3_level.specs.Words.{cells_in, low_cells, word_cells};
 ghost use Rattle.aes3_input.specs.Forms.{CellsRan, SomeCellsRan};
 ghost use Rattle.aes3_input.specs.Taking.{TakerState};
 ghost use Rattle.aes3_input.specs.Running.{movement_of};
+ghost use Rattle.aes3_input.specs.Driving.{Drive};
 
-use aes3_cell::{Fault, Level, Sink};
+use crate::packed_input::drive_packed;
+use crate::text_input::drive_text;
+use aes3_cell::{Fault, Form, Level, RunError, Sink, Source};
 use aes3_level::Cells;
 
 /// Takes the cells of an input, in runs of words or in one word with fewer cells, and their end.
@@ -175,5 +178,37 @@ fn word_of_cell(level: Level) -> u64
     match level {
         Level::Low => 0,
         Level::High => 1,
+    }
+}
+
+/// Hands the cells of an input to the taker as they come, one by one or in words, and its end;
+/// answers how many bytes and cells the input has.
+///
+/// # Errors
+/// `BadCell` where a byte of cell text is neither a cell nor a separator, `BadPadding` where packed
+/// cells end wrongly, `TooLong` where the input has more than `max_bytes` bytes, `Read` and `Write`
+/// where an end failed. Then, unless the sink failed, the taker has taken the cells before, of
+/// packed cells those of all octets but the last two, and no end. At most `max_bytes + 1` bytes are
+/// read.
+pub fn drive<S: Source, T: Sink, K: Taker>(
+    source: &mut S,
+    sink: &mut T,
+    max_bytes: u64,
+    input: Form,
+    taker: &mut K,
+) -> Result<(u64, u64), RunError>
+    requires source_room { S.failed source.old + 1 < 2 ^ 64 }
+    requires sink_room { T.failed sink.old + 1 < 2 ^ 64 }
+    requires limit { max_bytes ≤ 2 ^ 40 }
+    requires start { (K.state taker.old).follows [] }
+    ensures ran { Drive max_bytes input (K.state taker.old).writes (K.state taker.new).follows
+        (K.state taker.new).finished (S.has_ended source.new)
+        (movement_of S.given S.failed source.old source.new)
+        (movement_of T.taken T.failed sink.old sink.new) result }
+    ensures passed_on { IfOk result (λ _. T.passed sink.new ≡ T.taken sink.new) }
+{
+    match input {
+        Form::Text => drive_text(source, sink, max_bytes, taker),
+        Form::Packed => drive_packed(source, sink, max_bytes, taker),
     }
 }

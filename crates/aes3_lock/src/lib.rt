@@ -3,19 +3,13 @@
 
 /// A place at which a block may begin.
 mod candidate;
-/// Eight subframes judged at once.
-mod eight;
 /// Laws over the definitions alone, whatever the cells.
 pub mod laws;
 /// The lock: it takes words of cells, fronts of words and single cells.
 mod lock;
-/// What becomes of a candidate that goes on no further.
-mod outcome;
 /// All that a lock keeps, for those who keep it themselves.
 mod parts;
-/// The last eight cells in an octet.
-mod recent;
-/// Reports, and the endings of which they are made.
+/// Reports, the endings of which they are made, and what ends a candidate.
 mod report;
 /// Which cells may stand in a block.
 mod rule;
@@ -23,7 +17,7 @@ mod rule;
 mod scan;
 /// All reports of a list of cells, each place tried by itself.
 mod slow;
-/// The cells of a subframe that is not whole yet.
+/// The cells of a subframe that is not whole yet, of eight at once, and the last eight cells.
 mod subframe;
 /// How many reports of each kind there were.
 mod tally;

@@ -1,18 +1,15 @@
 //! The lock, and what the end of the cells decides.
 
-/// Fronts of words up to the first cell that decides a report.
+/// Any cells, and fronts of words, up to the first cell that decides a report.
 mod fronts;
 /// Cells one by one, and a word at a time.
 mod one_by_one;
-/// Cells of words, from any of them on, up to the first that decides a report.
-mod taking;
 /// Whole words that decide no report.
 mod words;
 
 use crate::candidate::Candidate;
-use crate::outcome::{left_ending, report_with};
 use crate::parts::LockParts;
-use crate::report::{Ending, Report};
+use crate::report::{Ending, Report, left_ending, report_with};
 use aes3_frame::{GatheredCells, SLOTS};
 use std::marker::Model;
 

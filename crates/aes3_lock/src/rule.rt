@@ -2,10 +2,9 @@
 
 ghost use Rattle.std.specs.Prelude.{◌≡◌, ◌<◌};
 ghost use Rattle.aes3_slot.specs.Rules.{rule, shape};
-ghost use Rattle.aes3_slot.specs.Reading.{differs};
 ghost use Rattle.aes3_frame.specs.Blocks.{mark_at};
 
-use crate::recent::PREAMBLE_CELLS;
+use crate::subframe::PREAMBLE_CELLS;
 use aes3_level::Level;
 use aes3_slot::{Mark, SUBFRAME_CELLS, mark_cells, mark_of};
 
@@ -32,11 +31,4 @@ pub(crate) fn may_stand(offset: u64, cell: Level, before: Level, previous: Level
     } else {
         offset % 2 == 1 || cell != previous
     }
-}
-
-/// Whether the level turns between two cells.
-pub(crate) fn turns(previous: Level, cell: Level) -> bool
-    ensures { result ≡ differs previous cell }
-{
-    cell != previous
 }

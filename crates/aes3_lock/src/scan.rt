@@ -1,6 +1,5 @@
 //! The scan.
-use crate::recent::{PREAMBLE_CELLS, with_cell};
-use crate::subframe::{completed, last_behind, rest_of};
+use crate::subframe::{PREAMBLE_CELLS, completed, last_behind, rest_of, with_cell};
 use crate::word_marks::WordMarks;
 use aes3_level::Level;
 use aes3_slot::{Mark, match_mark, preambles};

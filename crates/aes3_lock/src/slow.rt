@@ -7,11 +7,9 @@ ghost use Rattle.aes3_lock.specs.Reports.{outcome_at, reports, told};
 ghost use Rattle.aes3_lock.specs.Following.{Filled};
 
 use crate::candidate::Candidate;
-use crate::outcome::{ending_at, left_ending, report_with};
-use crate::recent::{PREAMBLE_CELLS, candidate_in, with_cell};
-use crate::report::Report;
+use crate::report::{Report, ending_at, left_ending, report_with};
 use crate::rule::may_stand;
-use crate::subframe::with_next;
+use crate::subframe::{PREAMBLE_CELLS, candidate_in, with_cell, with_next};
 use aes3_frame::{BLOCK_CELLS, GatheredCells, SLOTS};
 use aes3_level::Level;
 use aes3_slot::SUBFRAME_CELLS;

@@ -1,10 +1,24 @@
-//! The cells of a subframe that is not whole yet, in a word, the first in the lowest bit.
+//! The cells of a subframe that is not whole yet, in a word, the first in the lowest bit: of one
+//! and of eight at once. The last eight of all cells in an octet, likewise.
 
 ghost use Rattle.std.specs.Prelude.{◌≡◌, ◌+◌, ◌-◌, ◌%◌, ◌<◌, ◌≤◌, ◌^◌, [], ◌∷◌, ◌++◌, drop, take};
+ghost use Rattle.std.specs.Prelude.{ℕ, true, get_or, length};
+ghost use Rattle.std.specs.Option.{ForSome};
 ghost use Rattle.aes3_level.specs.Words.{level_of, low_cells, word_cells};
 ghost use Rattle.aes3_slot.specs.Rules.{at};
+ghost use Rattle.aes3_slot.specs.Fronts.{IsFrontOf};
+ghost use Rattle.aes3_frame.specs.Blocks.{mark_at};
+ghost use Rattle.aes3_frame.specs.Gathered.{IsRight};
+ghost use Rattle.aes3_lock.specs.Steps.{begins_a_block, begun, eight_with};
+ghost use Rattle.aes3_lock.specs.Eights.{begun_before};
 
+use crate::candidate::Candidate;
 use aes3_level::Level;
+use aes3_slot::{Mark, mark_of, match_mark, wrong_cells_of_eight};
+use std::simd::prelude::*;
+
+/// How many cells a preamble has.
+pub(crate) const PREAMBLE_CELLS: u64 = 8;
 
 /// The first `len` cells of a subframe with one more.
 pub(crate) fn with_next(cells: u64, len: u64, cell: Level) -> u64
@@ -84,4 +98,102 @@ pub(crate) fn last_octet(word: u64) -> u8
     ensures { low_cells 8 result ≡ drop 56 (word_cells word) }
 {
     (word >> 56) as u8
+}
+
+/// The octet with one more cell.
+pub(crate) fn with_cell(recent: u8, cell: Level) -> u8
+    ensures { low_cells 8 result ≡ eight_with (low_cells 8 recent) cell }
+{
+    match cell {
+        Level::Low => recent / 2,
+        Level::High => recent / 2 + 0x80,
+    }
+}
+
+/// The last of eight cells.
+pub(crate) fn last_cell(recent: u8) -> Level
+    ensures { result ≡ at (low_cells 8 recent) 7 }
+{
+    if recent < 0x80 {
+        Level::Low
+    } else {
+        Level::High
+    }
+}
+
+/// Whether a preamble is that of a block's first subframe.
+fn is_z(mark: Mark) -> bool
+    ensures { result ≡ begins_a_block mark }
+{
+    match mark {
+        Mark::Z => true,
+        Mark::X | Mark::Y => false,
+    }
+}
+
+/// The candidate whose preamble the last eight of all `seen` cells are.
+pub(crate) fn candidate_in(seen: u64, recent: u8) -> Option<Candidate>
+    ensures value { result ≡ begun seen (low_cells 8 recent) }
+    ensures placed { ForSome result (λ t. t.at ≤ seen) }
+{
+    if seen < PREAMBLE_CELLS {
+        return None;
+    }
+    let Some((mark, before)) = match_mark(recent) else {
+        return None;
+    };
+    if !is_z(mark) {
+        return None;
+    }
+    Some(Candidate {
+        at: seen - PREAMBLE_CELLS,
+        before,
+        level: before,
+    })
+}
+
+/// The cells with which the eight subframes begin that eight words make whole: the `len` cells of
+/// `begun`, and the last `len` of each word but the last.
+fn fronts_of(begun: u64, len: u64, words: u64x8) -> [u64; 8]
+    requires { len < 64 }
+    ensures cells { (i : ℕ) → i < 8 → low_cells len (get_or result i 0)
+        ≡ begun_before len begun words i }
+    ensures few { begun < 2 ^ len → (i : ℕ) → i < 8 → get_or result i 0 < 2 ^ len }
+{
+    let rests = words >> u64x8::splat(1) >> u64x8::splat(63 - len);
+    let mut fronts = rests.rotate_elements_right::<1>().to_array();
+    fronts[0] = begun;
+    fronts
+}
+
+/// The subframes that eight words make whole: the first begins with the `len` cells of `begun`,
+/// each other one with the last `len` of the word before.
+pub(crate) fn eight_completed(begun: u64, len: u64, words: &[u64; 8]) -> [u64; 8]
+    requires { len < 64 }
+    ensures { begun < 2 ^ len → (i : ℕ) → i < 8
+        → word_cells (get_or result i 0) ≡ begun_before len begun words.now i
+        ++ take (64 - len) (word_cells (get_or words.now i 0)) }
+{
+    let fronts = fronts_of(begun, len, u64x8::from_array(*words));
+    let mut subframes = [0; 8];
+    for (i, word) in words.iter().enumerate() {
+        subframes[i] = completed(fronts[i], len, *word);
+    }
+    subframes
+}
+
+/// Whether these are subframes after the level `before` each of which ends with it again, as it
+/// does with right parity, with the preambles of a block's subframes from `slot` on.
+pub(crate) fn are_subframes(before: Level, slot: u64, cells: &[u64; 8]) -> bool
+    requires some { 0 < slot }
+    requires room { slot < 384 }
+    ensures fronts { result ≡ true → (i : ℕ) → i < 8
+        → IsFrontOf before (mark_at (slot + i)) (take 64 (word_cells (get_or cells.now i 0))) }
+    ensures levels { result ≡ true → (i : ℕ) → i < 8
+        → at (word_cells (get_or cells.now i 0)) 63 ≡ before }
+    ensures right { result ≡ true → (i : ℕ) → i < 8
+        → IsRight before (mark_at (slot + i)) (get_or cells.now i 0) }
+{
+    let cells = u64x8::from_array(*cells);
+    wrong_cells_of_eight(before, mark_of(slot), mark_of(slot + 1), cells).reduce_or() == 0
 }

@@ -5,6 +5,7 @@ use Rattle.aes3_cell.specs.declared.refusal.RunError.TheVariants as refusal
 use Rattle.aes3_cli_jobs.specs.Refusals.{number_of_refusal, place_of_refusal}
 use Rattle.aes3_cli_jobs.specs.declared.refusal.Refusal.{Refusal}
 use Rattle.aes3_cli_jobs.specs.declared.refusal.Refusal.TheVariants.{Run}
+use Rattle.aes3_status_text.specs.Refusals.{refusal_text}
 use Rattle.aes3_program.specs.declared.outcome.Remark.{Remark}
 use Rattle.aes3_program.specs.declared.outcome.Remark.TheVariants.{Nothing, Filled, LeftOut, Settings, Inexact}
 use Rattle.aes3_program.specs.declared.outcome.Remark.TheVariants.{UsualRate, FilledAtUsualRate, Wave}
@@ -13,15 +14,9 @@ use Rattle.aes3_program.specs.declared.outcome.Met.{Met}
 use Rattle.aes3_status_text.specs.Untaken.{texts_of, untaken_lines}
 use Rattle.aes3_status_text.specs.declared.typed.TypedSettings.{TypedSettings}
 
--- ` at <place>`, where the refusal has a place
-abbrev pub place_text : Option ℕ → List ℕ
-place_text None = []
-place_text (Some place) = codes " at " ++ decimal place
-
 -- `aes3: refused <number>`, the place and a line feed
 abbrev pub refusal_line : Refusal → List ℕ
-refusal_line error =
-    codes "aes3: refused " ++ decimal (number_of_refusal error) ++ place_text (place_of_refusal error) ++ 10 ∷ []
+refusal_line error = refusal_text (codes "aes3") (number_of_refusal error) (place_of_refusal error)
 
 -- `aes3: filled <frames> frames`, and `aes3: left out <words> words before the first block`
 abbrev pub filled_line : ℕ → List ℕ

@@ -9,8 +9,8 @@ use Rattle.aes3_cli_jobs.specs.declared.refusal.Refusal.TheVariants.{Run}
 use Rattle.aes3_cli_arguments.specs.declared.job.LineFault.{LineFault}
 use Rattle.aes3_cli_arguments.specs.declared.line.CommandLine.{CommandLine}
 use Rattle.aes3_cli_arguments.specs.declared.layout.Octets.{Octets}
-use Rattle.aes3_program.specs.declared.run.Unread.{Unread}
-use Rattle.aes3_program.specs.declared.run.Unread.TheVariants as unread
+use Rattle.aes3_cli.specs.declared.unread.Unread.{Unread}
+use Rattle.aes3_cli.specs.declared.unread.Unread.TheVariants as unread
 use Rattle.aes3_cli_arguments.specs.declared.job.LineFault.TheVariants.{Usage, Help, Refused}
 use Rattle.aes3_cli_arguments.specs.Jobs.{HaveOctets, HaveTyped, IsJobOf, IsFaultOf}
 use Rattle.aes3_program.specs.JobRuns.{IsTold}

@@ -2,9 +2,7 @@
 //! and its exit status.
 #![tactic(auto)]
 
-/// The flush behind a job, and its exit status.
-mod finish;
-/// A job done by the run that it asks for.
+/// A job done by the run that it asks for, its last flush and its exit status.
 mod job_run;
 /// A job whose octets are laid out in other ways.
 mod octets;
@@ -17,10 +15,10 @@ mod remark;
 /// A whole command line.
 mod run;
 
+pub use aes3_cli::{DONE, REFUSED, USAGE, Unread};
 pub use aes3_status_text::TypedSettings;
-pub use finish::finish_job;
-pub use job_run::{DONE, FAULTY, run_job};
+pub use job_run::{FAULTY, finish_job, run_job};
 pub use octets::{Ran, outputs_can_be_turned, run_octets};
 pub use outcome::{Met, Outcome, Remark};
-pub use refusal::{REFUSED, put_refusal, refuse};
-pub use run::{USAGE, Unread, run_line, tell_unread};
+pub use refusal::{put_refusal, refuse};
+pub use run::{run_line, tell_unread};

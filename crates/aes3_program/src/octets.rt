@@ -6,7 +6,7 @@ ghost use Rattle.aes3_program.specs.Asides.{AsideOfRun};
 ghost use Rattle.aes3_program.specs.OctetRuns.{BehindRan, OctetsRan, OutputsCanBeTurned, PackedRan, SourceRan};
 ghost use Rattle.aes3_program.specs.Streams.{PassesOn, streams_of};
 
-use crate::finish::{finish_begun, finish_job, refuse_unread};
+use crate::job_run::{finish_begun, finish_job, refuse_unread};
 use aes3_cell::{Sink, Source};
 use aes3_cell_octets::{RawSource, TurnedSink, TurnedSource, first_octet};
 use aes3_cli_arguments::Octets;

@@ -13,58 +13,42 @@ ghost use Rattle.aes3_program.specs.Streams.{PassesOn, moved};
 
 use crate::job_run::exit_status;
 use crate::outcome::{Met, Outcome, Remark, UnsaidFormat};
-use crate::refusal::{LINE_LEN, append, append_number, put_refusal, refuse};
+use crate::refusal::{put_refusal, refuse};
 use aes3_cell::{Fault, RunError, Sink, write_all};
 use aes3_cli_jobs::{Job, Observer, Refusal};
 use aes3_status::{Settings, Taken};
-use aes3_status_text::{TEXTS, TypedSettings, untaken_remedy};
-use arrayvec::ArrayVec;
+use aes3_status_text::{Line, TEXTS, TypedSettings, untaken_remedy};
 
-/// Writes the line of how many frames fill, as one buffer.
-///
-/// # Errors
-/// The sink's fault; then it has taken a front of the line.
-fn put_filled<T: Sink>(frames: u64, sink: &mut T) -> Result<(), Fault>
-    requires room { T.failed sink.old + 1 < 2 ^ 64 }
-    ensures { Wrote T.taken T.failed sink.old sink.new (filled_line frames) result }
+/// The line of how many frames fill.
+fn filled(frames: u64) -> Line
+    ensures { result ≡ filled_line frames }
 {
-    let mut line: ArrayVec<u8, LINE_LEN> = ArrayVec::new();
-    append(&mut line, b"aes3: filled ");
-    append_number(&mut line, frames);
-    append(&mut line, b" frames\n");
-    write_all(sink, line.as_slice())
+    let mut line = Line::new();
+    line.text("aes3: filled ");
+    line.number(frames);
+    line.text(" frames\n");
+    line
 }
 
-/// Writes the line of how many words are left out, as one buffer.
-///
-/// # Errors
-/// The sink's fault; then it has taken a front of the line.
-fn put_left_out<T: Sink>(words: u64, sink: &mut T) -> Result<(), Fault>
-    requires room { T.failed sink.old + 1 < 2 ^ 64 }
-    ensures { Wrote T.taken T.failed sink.old sink.new (left_out_line words) result }
+/// The line of how many words are left out.
+fn left_out(words: u64) -> Line
+    ensures { result ≡ left_out_line words }
 {
-    let mut line: ArrayVec<u8, LINE_LEN> = ArrayVec::new();
-    append(&mut line, b"aes3: left out ");
-    append_number(&mut line, words);
-    append(&mut line, b" words before the first block\n");
-    write_all(sink, line.as_slice())
+    let mut line = Line::new();
+    line.text("aes3: left out ");
+    line.number(words);
+    line.text(" words before the first block\n");
+    line
 }
 
-/// Writes the line that the sampling frequency of a WAV file is neither given nor named, as one buffer.
-///
-/// # Errors
-/// The sink's fault; then it has taken a front of the line.
-fn put_usual_rate<T: Sink>(sink: &mut T) -> Result<(), Fault>
-    requires room { T.failed sink.old + 1 < 2 ^ 64 }
-    ensures { Wrote T.taken T.failed sink.old sink.new usual_rate_line result }
+/// The line that the sampling frequency of a WAV file is neither given nor named.
+fn usual_rate() -> Line
+    ensures { result ≡ usual_rate_line }
 {
-    let mut line: ArrayVec<u8, LINE_LEN> = ArrayVec::new();
-    append(
-        &mut line,
-        b"aes3: no sampling frequency is known before the first sample: ",
-    );
-    append(&mut line, b"the WAV file says 48000 Hz\n");
-    write_all(sink, line.as_slice())
+    let mut line = Line::new();
+    line.text("aes3: no sampling frequency is known before the first sample: ");
+    line.text("the WAV file says 48000 Hz\n");
+    line
 }
 
 /// Writes the line of how many frames fill, and then the line of the sampling frequency.
@@ -75,54 +59,41 @@ fn put_filled_at_usual_rate<T: Sink>(frames: u64, sink: &mut T) -> Result<(), Fa
     requires room { T.failed sink.old + 1 < 2 ^ 64 }
     ensures { Wrote T.taken T.failed sink.old sink.new (filled_line frames ++ usual_rate_line) result }
 {
-    put_filled(frames, sink)?;
-    put_usual_rate(sink)
+    filled(frames).hand_on(sink)?;
+    usual_rate().hand_on(sink)
 }
 
-/// Writes the line that the status has no code for a sampling frequency, as one buffer.
-///
-/// # Errors
-/// The sink's fault; then it has taken a front of the line.
-fn put_no_rate<T: Sink>(rate: u32, sink: &mut T) -> Result<(), Fault>
-    requires room { T.failed sink.old + 1 < 2 ^ 64 }
-    ensures { Wrote T.taken T.failed sink.old sink.new (no_rate_line rate) result }
+/// The line that the status has no code for a sampling frequency.
+fn no_rate(rate: u32) -> Line
+    ensures { result ≡ no_rate_line rate }
 {
-    let mut line: ArrayVec<u8, LINE_LEN> = ArrayVec::new();
-    append(&mut line, b"aes3: the status has no code for ");
-    append_number(&mut line, u64::from(rate));
-    append(&mut line, b" Hz\n");
-    write_all(sink, line.as_slice())
+    let mut line = Line::new();
+    line.text("aes3: the status has no code for ");
+    line.number(u64::from(rate));
+    line.text(" Hz\n");
+    line
 }
 
-/// Writes the line that it has none for a width, as one buffer.
-///
-/// # Errors
-/// The sink's fault; then it has taken a front of the line.
-fn put_no_width<T: Sink>(bits: u8, sink: &mut T) -> Result<(), Fault>
-    requires room { T.failed sink.old + 1 < 2 ^ 64 }
-    ensures { Wrote T.taken T.failed sink.old sink.new (no_width_line bits) result }
+/// The line that the status has no code for a width.
+fn no_width(bits: u8) -> Line
+    ensures { result ≡ no_width_line bits }
 {
-    let mut line: ArrayVec<u8, LINE_LEN> = ArrayVec::new();
-    append(&mut line, b"aes3: the status has no code for samples of ");
-    append_number(&mut line, u64::from(bits));
-    append(&mut line, b" bits\n");
-    write_all(sink, line.as_slice())
+    let mut line = Line::new();
+    line.text("aes3: the status has no code for samples of ");
+    line.number(u64::from(bits));
+    line.text(" bits\n");
+    line
 }
 
-/// Writes the front of the line of a setting for a channel, as one buffer.
-///
-/// # Errors
-/// The sink's fault; then it has taken a front of this.
-fn put_head<T: Sink>(channel: u8, sink: &mut T) -> Result<(), Fault>
-    requires room { T.failed sink.old + 1 < 2 ^ 64 }
-    ensures { Wrote T.taken T.failed sink.old sink.new
-        (codes "aes3: no block took --set" ++ decimal channel ++ codes " ") result }
+/// The front of the line of a setting for a channel.
+fn head(channel: u8) -> Line
+    ensures { result ≡ codes "aes3: no block took --set" ++ decimal channel ++ codes " " }
 {
-    let mut line: ArrayVec<u8, LINE_LEN> = ArrayVec::new();
-    append(&mut line, b"aes3: no block took --set");
-    append_number(&mut line, u64::from(channel));
-    append(&mut line, b" ");
-    write_all(sink, line.as_slice())
+    let mut line = Line::new();
+    line.text("aes3: no block took --set");
+    line.number(u64::from(channel));
+    line.text(" ");
+    line
 }
 
 /// Writes a setting as it was typed, and the rest of its line.
@@ -146,7 +117,7 @@ fn put_line<T: Sink>(channel: u8, text: &str, remedy: &str, sink: &mut T) -> Res
     ensures { Wrote T.taken T.failed sink.old sink.new
         (told_line channel text.now remedy.now) result }
 {
-    put_head(channel, sink)?;
+    head(channel).hand_on(sink)?;
     put_rest(text, remedy, sink)
 }
 
@@ -241,7 +212,7 @@ fn put_unsaid_rate<T: Sink>(rate: Option<u32>, sink: &mut T) -> Result<(), Fault
 {
     match rate {
         None => Ok(()),
-        Some(rate) => put_no_rate(rate, sink),
+        Some(rate) => no_rate(rate).hand_on(sink),
     }
 }
 
@@ -255,7 +226,7 @@ fn put_unsaid_width<T: Sink>(bits: Option<u8>, sink: &mut T) -> Result<(), Fault
 {
     match bits {
         None => Ok(()),
-        Some(bits) => put_no_width(bits, sink),
+        Some(bits) => no_width(bits).hand_on(sink),
     }
 }
 
@@ -306,10 +277,10 @@ fn put_remark<T: Sink>(
 {
     match remark {
         Remark::Nothing => Ok(()),
-        Remark::Filled { frames } => put_filled(*frames, sink),
-        Remark::LeftOut { words } => put_left_out(*words, sink),
+        Remark::Filled { frames } => filled(*frames).hand_on(sink),
+        Remark::LeftOut { words } => left_out(*words).hand_on(sink),
         Remark::Settings { first, second } => put_settings(typed, first, second, sink),
-        Remark::UsualRate => put_usual_rate(sink),
+        Remark::UsualRate => usual_rate().hand_on(sink),
         Remark::FilledAtUsualRate { frames } => put_filled_at_usual_rate(*frames, sink),
         Remark::Wave {
             unsaid,

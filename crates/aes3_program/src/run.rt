@@ -7,16 +7,12 @@ ghost use Rattle.aes3_program.specs.StandardErrors.{ErrorsTold};
 ghost use Rattle.aes3_program.specs.Streams.{HasPassed, PassesOn, moved, streams_of};
 ghost use Rattle.aes3_program.specs.WordRuns.{FaultRan, IsLineOfWords, LineRan, UnreadTold, WordsRan};
 
-use crate::job_run::DONE;
 use crate::octets::{Ran, run_octets};
 use crate::refusal::refuse;
-use aes3_cell::{Fault, RunError, Sink, Source, write_all};
+use aes3_cell::{RunError, Sink, Source};
+use aes3_cli::{DONE, USAGE, Unread, put_text};
 use aes3_cli_arguments::{CommandLine, LineFault};
 use aes3_cli_jobs::{Observer, Refusal};
-use std::alloc::AllocError;
-
-/// The exit status of a refused command line.
-pub const USAGE: u8 = 2;
 
 /// What is told of words that are not UTF-8, as `clap` tells of words that it doesn't take.
 const NOT_UTF8: &str = "error: the words are not UTF-8
@@ -25,21 +21,6 @@ Usage: aes3 COMMAND [OPTIONS] < INPUT > OUTPUT
 
 For more information, try '--help'.
 ";
-
-/// Writes all of a text and flushes it.
-///
-/// # Errors
-/// The sink's fault; then it may have taken a front of the text.
-fn put_text<T: Sink>(text: &str, sink: &mut T) -> Result<(), Fault>
-    requires room { T.failed sink.old + 1 < 2 ^ 64 }
-    ensures text { IfOk result (λ _. Grew (T.taken sink.old) (T.taken sink.new) text.now) }
-    ensures passed_on { IfOk result (λ _. HasPassed T.Sink sink.new) }
-    ensures count { IfOk result (λ _. T.failed sink.new ≡ T.failed sink.old) }
-    ensures err { OnErr result (T.failed sink.new ≡ T.failed sink.old + 1) }
-{
-    write_all(sink, text.as_bytes())?;
-    sink.flush()
-}
 
 /// Tells why words are no job, and answers the exit status.
 fn tell_fault<T: Sink, E: Sink, O: Observer>(
@@ -66,23 +47,6 @@ fn tell_fault<T: Sink, E: Sink, O: Observer>(
             Err(_) => refuse(Refusal::Run(RunError::Write), errors, observer),
         },
         LineFault::Refused(error) => refuse(Refusal::Run(error), errors, observer),
-    }
-}
-
-/// Why the words of a command line could not be read.
-#[derive(Clone, Copy)]
-pub enum Unread {
-    /// They are not UTF-8.
-    NotUtf8,
-    /// Memory was refused.
-    Memory,
-}
-
-impl From<AllocError> for Unread {
-    fn from(_error: AllocError) -> Unread
-        ensures { result ≡ Unread.Memory }
-    {
-        Unread::Memory
     }
 }
 

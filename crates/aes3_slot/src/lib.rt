@@ -3,10 +3,8 @@
 
 /// The cells of the time slots of four subframes at once.
 mod four;
-/// The three preambles X, Y and Z, and which of them a subframe of a block has.
+/// The three preambles X, Y and Z, which of them a subframe of a block has, and their eight cells.
 mod mark;
-/// The eight cells of a preamble, and the preamble that eight cells are.
-mod preamble;
 /// Subframes read: which of 64 cells are wrong, and the bits that the others carry.
 mod reading;
 /// Where preambles stand in words of cells.
@@ -15,8 +13,7 @@ mod search;
 mod subframe;
 
 pub use four::slots_cells_of_four;
-pub use mark::{Mark, mark_of};
-pub use preamble::{mark_cells, match_mark};
+pub use mark::{Mark, mark_cells, mark_of, match_mark};
 pub use reading::{
     Place, begins_subframe, slot_bits, take_either, take_subframe, wrong_cells,
     wrong_cells_of_eight,

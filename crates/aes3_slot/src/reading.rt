@@ -11,8 +11,7 @@ ghost use Rattle.aes3_slot.specs.Reading.{read_bits};
 ghost use Rattle.aes3_slot.specs.Rules.{at};
 ghost use Rattle.aes3_slot.specs.Fronts.{IsFrontOf, IsLawfulFrontOf, stands, stands_even, with_some_parity};
 
-use crate::mark::Mark;
-use crate::preamble::mark_cells;
+use crate::mark::{Mark, mark_cells};
 use crate::subframe::SLOT_STARTS;
 use aes3_level::Level;
 use std::simd::prelude::*;

@@ -4,13 +4,10 @@
 ghost use Rattle.std.specs.Prelude.{◌≡◌, ◌<◌, ◌+◌, ◌^◌, IfErr};
 
 use aes3_cell::{BufferedSink, Sink, StdSink, StdSource};
+use aes3_cli::{Unread, words_of_line};
 use aes3_files::{Input, Preview};
-use aes3_spoil_runs::{
-    Unread, advice_on, file_of_line, job_of_words, report_unread, run_line, say_more,
-};
+use aes3_spoil_runs::{advice_on, file_of_line, job_of_words, report_unread, run_line, say_more};
 use std::cell::Cell;
-use std::env;
-use std::io::ErrorKind;
 use std::process::ExitCode;
 
 fn main(rt: HostRuntime) -> ExitCode {
@@ -40,15 +37,4 @@ fn run_program<E: Sink>(rt: &HostRuntime, messages: &mut E) -> Result<u8, Unread
     let status = run_line(line, &mut source, &mut sink, messages);
     say_more(rt, file, trouble.get(), status, advice);
     Ok(status)
-}
-
-/// The words of the command line after the program's name.
-fn words_of_line(rt: &HostRuntime) -> Result<Vec<String>, Unread> {
-    match env::args(rt) {
-        Ok(words) => Ok(words.skip(1).collect(rt.alloc())?),
-        Err(error) => match error.kind() {
-            ErrorKind::OutOfMemory => Err(Unread::Memory),
-            _ => Err(Unread::NotUtf8),
-        },
-    }
 }

@@ -15,8 +15,8 @@ use Rattle.aes3_spoil.specs.Spoiled.{spoiled}
 use Rattle.aes3_spoil.specs.Spoiling.{spoil_counts, whole_words}
 use Rattle.aes3_spoil_runs.specs.Lines.{not_utf8_text, refusal_line}
 use Rattle.aes3_spoil_runs.specs.declared.line.Job.{Job}
-use Rattle.aes3_spoil_runs.specs.declared.run.Unread.{Unread}
-use Rattle.aes3_spoil_runs.specs.declared.run.Unread.TheVariants as unread
+use Rattle.aes3_cli.specs.declared.unread.Unread.{Unread}
+use Rattle.aes3_cli.specs.declared.unread.Unread.TheVariants as unread
 
 -- how many bytes an input may have
 abbrev pub most : ℕ

@@ -6,7 +6,8 @@ ghost use Rattle.aes3_spoil_runs.specs.SpoilLine.{rule};
 ghost use Rattle.std.specs.Prelude.{◌≡◌};
 
 use crate::named::NamedError;
-use clap::{Arg, ArgAction};
+use aes3_cli::{flag, repeated_option, text_option};
+use clap::Arg;
 use std::alloc::Global;
 
 /// An option or a value that the program takes.
@@ -49,38 +50,19 @@ impl Argument {
             Argument::PackedIn => flag(alloc, "packed-in", "Read packed cells, eight an octet"),
             Argument::PackedOut => flag(alloc, "packed-out", "Write packed cells, eight an octet"),
             Argument::Named(named) => {
-                places(alloc, named.name(), value_name(named), help(named))
+                repeated_option(alloc, named.name(), value_name(named), help(named))
             }
-            Argument::Every => Arg::new(alloc, "every")
-                .long("every")
-                .value_name("N:KIND")
-                .help("Insert an error at each N-th cell: cell, invert, drop or double"),
+            Argument::Every => text_option(
+                alloc,
+                "every",
+                "N:KIND",
+                "Insert an error at each N-th cell: cell, invert, drop or double",
+            ),
             Argument::File => Arg::new(alloc, "FILE").help(
                 "The file to read; standard input if it is `-` or left out",
             ),
         }
     }
-}
-
-/// The flag `--name`.
-fn flag<'a>(alloc: Global, name: &'a str, help: &'a str) -> Arg<'a>
-    ensures { IsOption (flag name.now) result }
-{
-    Arg::new(alloc, name)
-        .long(name)
-        .action(ArgAction::SetTrue)
-        .help(help)
-}
-
-/// The option `--name` that puts in errors, which may stand more than once.
-fn places<'a>(alloc: Global, name: &'a str, value: &'a str, help: &'a str) -> Arg<'a>
-    ensures { IsOption (settings_option name.now) result }
-{
-    Arg::new(alloc, name)
-        .long(name)
-        .value_name(value)
-        .action(ArgAction::Append)
-        .help(help)
 }
 
 /// What help calls the option's value.

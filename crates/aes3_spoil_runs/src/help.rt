@@ -1,14 +1,12 @@
 //! What the program says of itself.
 
-/// What `--version` prints after the program's name.
-pub const VERSION: &str = "0.1.0";
+use aes3_cli::help::Texts;
 
-pub const ABOUT: &str = "The cells of an AES3 / IEC 60958 line, with errors inserted on purpose";
-
-pub const USAGE: &str = "aes3-spoil [OPTIONS] [FILE] > CELLS";
-
-pub const MORE: &str =
-    "Reads cells, which may begin anywhere, in either polarity. Writes them again with the
+/// The texts of the program.
+pub const PROGRAM: Texts<'static> = Texts {
+    about: "The cells of an AES3 / IEC 60958 line, with errors inserted on purpose",
+    usage: "aes3-spoil [OPTIONS] [FILE] > CELLS",
+    more: "Reads cells, which may begin anywhere, in either polarity. Writes them again with the
 errors that the options insert, and no others. So you can compare what a receiver makes
 of a fault with the place of the fault. Each option with P may be repeated.
 
@@ -56,4 +54,5 @@ Examples:
     aes3-spoil --biphase 64:12 < line.txt | aes3 check --faults
     aes3-spoil --parity 24576 --drop 61440 line.txt | aes3 check --gaps
     aes3-spoil --every 245760:cell --packed-in --packed-out < line.cells > worn.cells
-";
+",
+};

@@ -22,4 +22,4 @@ mod wrong;
 
 pub use line::{Job, file_of_line, job_of_words};
 pub use looks::{advice_on, say_more};
-pub use run::{Unread, report_unread, run_job, run_line};
+pub use run::{report_unread, run_job, run_line};

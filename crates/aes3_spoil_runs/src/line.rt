@@ -14,12 +14,12 @@ ghost use Rattle.aes3_spoil_runs.specs.Faults.{IsWrongAt, IsWrongIn, IsWrongWith
 ghost use Rattle.aes3_spoil_runs.specs.SpoilLine.{line_with, spoil_line};
 
 use crate::argument::ARGUMENTS;
-use crate::help::{ABOUT, MORE, USAGE, VERSION};
+use crate::help::PROGRAM;
 use crate::named::{NAMED, NamedError};
 use crate::value::{every_of_text, spot_of_text};
 use crate::wrong::{Wrong, wrong_fault};
 use aes3_cell::Form;
-use aes3_cli::{LineFault, file_of_options};
+use aes3_cli::{LineFault, file_of_options, program_line};
 use aes3_spoil::Errors;
 use clap::{ArgMatches, Command};
 use std::alloc::{AllocError, Global};
@@ -42,23 +42,11 @@ pub struct Job<'a> {
 fn command_line<'a>(alloc: Global) -> Result<Command<'a>, AllocError>
     ensures { IfOk result (IsDefinedAs spoil_line) }
 {
-    let mut line = program(alloc);
+    let mut line = program_line(alloc, "aes3-spoil", PROGRAM);
     for argument in ARGUMENTS.iter() {
         line = line.arg(argument.define(alloc))?;
     }
     Ok(line)
-}
-
-/// The command line that takes no word yet.
-fn program<'a>(alloc: Global) -> Command<'a>
-    ensures { IsDefinedAs (line_with []) result }
-{
-    Command::new(alloc, "aes3-spoil")
-        .about(ABOUT)
-        .override_usage(USAGE)
-        .after_help(MORE)
-        .no_binary_name(true)
-        .version(VERSION)
 }
 
 /// What the words ask for, without the program's name. It reads no input.
@@ -74,7 +62,7 @@ pub fn job_of_words<'a>(alloc: Global, words: &'a [&'a str]) -> Result<Job<'a>, 
     let command = command_line(alloc)?;
     match command.try_get_matches_from(words) {
         Ok(options) => job_of_options(alloc, &options),
-        Err(error) => Err(LineFault::of_error(alloc, &error, USAGE)),
+        Err(error) => Err(LineFault::of_error(alloc, &error, PROGRAM.usage)),
     }
 }
 

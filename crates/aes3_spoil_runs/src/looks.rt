@@ -1,9 +1,8 @@
 //! What to do with an input that was refused, by what its first octets look like.
 
 use crate::line::Job;
-use crate::refusal::REFUSED;
 use aes3_cell::Form;
-use aes3_cli::LineFault;
+use aes3_cli::{LineFault, REFUSED};
 use aes3_files::{FileKind, Preview};
 use std::alloc::AllocError;
 use std::io::{self, IsTerminal, Read};

@@ -11,15 +11,9 @@ ghost use Rattle.aes3_spoil_runs.specs.Runs.{FaultRan, Flushed, IsDone, JobRan, 
 use crate::line::Job;
 use crate::refusal::refuse;
 use aes3_cell::{Fault, RunError, Sink, Source, write_all};
-use aes3_cli::LineFault;
+use aes3_cli::{DONE, LineFault, USAGE, Unread, put_text};
 use aes3_spoil::spoil;
 use std::alloc::AllocError;
-
-/// The exit status of a run that was not refused.
-pub const DONE: u8 = 0;
-
-/// The exit status of words that ask for no job.
-pub const USAGE: u8 = 2;
 
 /// How many bytes an input may have.
 const MAX_BYTES: u64 = 1 << 40;
@@ -31,21 +25,6 @@ Usage: aes3-spoil [OPTIONS] [FILE] > CELLS
 
 For more information, try '--help'.
 ";
-
-/// Writes all of a text and flushes it.
-///
-/// # Errors
-/// The sink's fault; then it may have taken a front of the text.
-fn put_text<T: Sink>(text: &str, sink: &mut T) -> Result<(), Fault>
-    requires room { T.failed sink.old + 1 < 2 ^ 64 }
-    ensures text { IfOk result (λ _. Grew (T.taken sink.old) (T.taken sink.new) text.now) }
-    ensures passed_on { IfOk result (λ _. T.passed sink.new ≡ T.taken sink.new) }
-    ensures count { IfOk result (λ _. T.failed sink.new ≡ T.failed sink.old) }
-    ensures err { OnErr result (T.failed sink.new ≡ T.failed sink.old + 1) }
-{
-    write_all(sink, text.as_bytes())?;
-    sink.flush()
-}
 
 /// The refusal of a run once the sink has passed on what it holds: `Write` where that failed, else
 /// the first one.
@@ -157,23 +136,6 @@ pub fn run_line<S: Source, T: Sink, E: Sink>(
     match line {
         Ok(job) => run_job(&job, source, sink, messages),
         Err(fault) => report_fault(fault, sink, messages),
-    }
-}
-
-/// Why the words of a command line could not be read.
-#[derive(Clone, Copy)]
-pub enum Unread {
-    /// They are not UTF-8.
-    NotUtf8,
-    /// Memory was refused.
-    Memory,
-}
-
-impl From<AllocError> for Unread {
-    fn from(_error: AllocError) -> Unread
-        ensures { result ≡ Unread.Memory }
-    {
-        Unread::Memory
     }
 }
 

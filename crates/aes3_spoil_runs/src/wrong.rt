@@ -4,7 +4,7 @@ ghost use Rattle.std.specs.Prelude.{◌≡◌, IfOk};
 ghost use Rattle.aes3_spoil_runs.specs.Faults.{IsFaultFor, place_needed, value_line, wrong_line, wrong_text};
 
 use crate::argument::value_name;
-use crate::help::USAGE;
+use crate::help::PROGRAM;
 use crate::named::NamedError;
 use aes3_cli::LineFault;
 use aes3_cli::wording::add_usage;
@@ -40,7 +40,7 @@ fn wrong_text(alloc: Global, wrong: Wrong<'_>) -> Result<String, AllocError>
     ensures { IfOk result (λ text. text.bytes.items ≡ wrong_text wrong.entry) }
 {
     let mut text = wrong_line(alloc, wrong)?;
-    add_usage(&mut text, USAGE)?;
+    add_usage(&mut text, PROGRAM.usage)?;
     Ok(text)
 }
 

@@ -22,7 +22,8 @@ impl Model for Con {
 
 impl Con {
     ghost use Rattle.std.specs.Prelude.{◌≡◌};
-    ghost use Rattle.aes3_status.specs.Consumer.{payload, copyright, emphasis, mode, category};
+    ghost use Rattle.aes3_status.specs.Bits.{number_at};
+    ghost use Rattle.aes3_status.specs.Consumer.{con_place, payload, copyright, emphasis, mode, category};
     ghost use Rattle.aes3_status.specs.Consumer.{generation, source, number, rate, accuracy};
     ghost use Rattle.aes3_status.specs.Consumer.{b3high, greatest, word, original, rest};
 
@@ -38,6 +39,13 @@ impl Con {
         ensures { result ≡ self.now }
     {
         self.bytes
+    }
+
+    /// The code of a field.
+    pub fn code(&self, field: ConField) -> u8
+        ensures { result ≡ number_at (con_place field) self.now }
+    {
+        field.number(&self.bytes)
     }
 
     /// What the sample words carry: 0 linear PCM, 1 other (IEC 60958-3, byte 0 bit 1).

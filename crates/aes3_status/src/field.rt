@@ -6,8 +6,7 @@ ghost use Rattle.aes3_status.specs.Consumer.{con_place};
 ghost use Rattle.aes3_status.specs.Professional.{pro_place};
 ghost use Rattle.aes3_status.specs.Settings.{is_for, place_of, under};
 
-use crate::bits::is_for_professional_use;
-use crate::place::Place;
+use crate::place::{Place, is_for_professional_use};
 
 /// A field of professional channel status (AES3-2), as `Pro` reads it.
 #[derive(Clone, Copy, PartialEq, Eq, Debug)]

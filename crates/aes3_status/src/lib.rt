@@ -2,8 +2,6 @@
 //! and their check byte (AES3-2, IEC 60958-3).
 #![tactic(auto)]
 
-/// Where a field stands in the 24 bytes.
-mod bits;
 /// The bits that subframes carry behind their audio.
 mod carried;
 /// What the channel status, the validity bits and the user bits of a stream are changed to.

@@ -1,6 +1,6 @@
 //! Professional channel status.
-use crate::bits::{bytes_at, u32_at};
 use crate::field::ProField;
+use crate::place::{bytes_at, u32_at};
 use std::marker::Model;
 
 /// A channel status for professional use (AES3-2): byte 0 bit 0 is 1.
@@ -23,7 +23,8 @@ impl Model for Pro {
 
 impl Pro {
     ghost use Rattle.std.specs.Prelude.{◌≡◌};
-    ghost use Rattle.aes3_status.specs.Professional.{payload, emphasis, unlocked, rate, mode, user};
+    ghost use Rattle.aes3_status.specs.Bits.{number_at};
+    ghost use Rattle.aes3_status.specs.Professional.{pro_place, payload, emphasis, unlocked, rate, mode, user};
     ghost use Rattle.aes3_status.specs.Professional.{aux, word, b2high, b3, b4, b5, origin};
     ghost use Rattle.aes3_status.specs.Professional.{destination, frequency, local, time, b22low, unreliable};
 
@@ -39,6 +40,13 @@ impl Pro {
         ensures { result ≡ self.now }
     {
         self.bytes
+    }
+
+    /// The code of a field.
+    pub fn code(&self, field: ProField) -> u8
+        ensures { result ≡ number_at (pro_place field) self.now }
+    {
+        field.number(&self.bytes)
     }
 
     /// What the sample words carry: 0 linear PCM, 1 other (AES3-2, byte 0 bit 1).

@@ -1,6 +1,8 @@
 //! The fields of a status line for consumer use (IEC 60958-3).
 
 ghost use Rattle.std.specs.Prelude.{◌≡◌, ◌≤◌, ◌+◌, ◌*◌, ◌++◌, length, IsTrue};
+ghost use Rattle.aes3_status.specs.Bits.{number_at};
+ghost use Rattle.aes3_status.specs.Consumer.{con_place};
 ghost use Rattle.aes3_status_text.specs.Words.{are_within, rows_of};
 ghost use Rattle.aes3_status_text.specs.Consumer.{con_name, con_text, consumer_text, emphasis_words};
 ghost use Rattle.aes3_status_text.specs.Consumer.{length_fields, length_words};
@@ -101,6 +103,15 @@ pub(crate) fn put_consumer_code(line: &mut Line, field: ConField, under: u8, cod
     }
 }
 
+/// Appends the code of a field of a status, where the number `under` tells what its codes mean.
+fn put_field(line: &mut Line, status: &Con, field: ConField, under: u8)
+    requires { length line.old + FIELD_LEN ≤ LINE_LEN }
+    ensures field { line.new ≡ line.old ++ con_text field under (number_at (con_place field) status.now) }
+    ensures len { length line.new ≤ length line.old + FIELD_LEN }
+{
+    put_consumer_code(line, field, under, status.code(field));
+}
+
 /// Appends the fields of byte 0.
 #[tactic(auto, unfolding(crate::specs::Consumer::signal_fields))]
 fn put_signal(line: &mut Line, status: &Con)
@@ -108,15 +119,15 @@ fn put_signal(line: &mut Line, status: &Con)
     ensures fields { line.new ≡ line.old ++ signal_fields status.now }
     ensures len { length line.new ≤ length line.old + 4 * FIELD_LEN }
 {
-    put_consumer_code(line, ConField::Payload, 0, status.payload());
-    put_consumer_code(line, ConField::Copyright, 0, status.copyright());
-    put_consumer_code(
+    put_field(line, status, ConField::Payload, 0);
+    put_field(line, status, ConField::Copyright, 0);
+    put_field(
         line,
+        status,
         ConField::Emphasis,
-        status.payload(),
-        status.emphasis(),
+        status.code(ConField::Payload),
     );
-    put_consumer_code(line, ConField::Mode, 0, status.mode());
+    put_field(line, status, ConField::Mode, 0);
 }
 
 /// Appends the fields of bytes 1 and 2.
@@ -126,10 +137,10 @@ fn put_source(line: &mut Line, status: &Con)
     ensures fields { line.new ≡ line.old ++ source_fields status.now }
     ensures len { length line.new ≤ length line.old + 4 * FIELD_LEN }
 {
-    put_consumer_code(line, ConField::Category, 0, status.category());
-    put_consumer_code(line, ConField::Generation, 0, status.generation());
-    put_consumer_code(line, ConField::Source, 0, status.source());
-    put_consumer_code(line, ConField::Number, 0, status.number());
+    put_field(line, status, ConField::Category, 0);
+    put_field(line, status, ConField::Generation, 0);
+    put_field(line, status, ConField::Source, 0);
+    put_field(line, status, ConField::Number, 0);
 }
 
 /// Appends the fields of byte 3.
@@ -138,9 +149,9 @@ fn put_rate(line: &mut Line, status: &Con)
     ensures fields { line.new ≡ line.old ++ rate_fields status.now }
     ensures len { length line.new ≤ length line.old + 3 * FIELD_LEN }
 {
-    put_consumer_code(line, ConField::Rate, 0, status.rate());
-    put_consumer_code(line, ConField::Accuracy, 0, status.accuracy());
-    put_consumer_code(line, ConField::B3high, 0, status.b3high());
+    put_field(line, status, ConField::Rate, 0);
+    put_field(line, status, ConField::Accuracy, 0);
+    put_field(line, status, ConField::B3high, 0);
 }
 
 /// Appends the fields of bytes 4 to 23.
@@ -150,9 +161,14 @@ fn put_length(line: &mut Line, status: &Con)
     ensures fields { line.new ≡ line.old ++ length_fields status.now }
     ensures len { length line.new ≤ length line.old + 5 * FIELD_LEN }
 {
-    put_consumer_code(line, ConField::Greatest, 0, status.greatest());
-    put_consumer_code(line, ConField::Word, status.greatest(), status.word());
-    put_consumer_code(line, ConField::Original, 0, status.original());
+    put_field(line, status, ConField::Greatest, 0);
+    put_field(
+        line,
+        status,
+        ConField::Word,
+        status.code(ConField::Greatest),
+    );
+    put_field(line, status, ConField::Original, 0);
     line.hex_field("rest", &status.rest());
 }
 

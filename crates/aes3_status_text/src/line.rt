@@ -1,5 +1,6 @@
 //! A line in the making.
 
+use aes3_cell::{Fault, Sink, write_all};
 use arrayvec::ArrayVec;
 use itoa::Buffer;
 use std::marker::Model;
@@ -9,6 +10,9 @@ pub const LINE_LEN: usize = 1024;
 
 /// How many digits a number in a line has at most.
 pub const DIGITS: usize = 20;
+
+/// How many bytes the name of a program has at most.
+const NAME_LEN: usize = 32;
 
 /// The bytes of a line, as far as it is written.
 #[derive(Drop)]
@@ -25,7 +29,10 @@ impl Model for Line {
 }
 
 impl Line {
-    ghost use Rattle.std.specs.Prelude.{◌≡◌, ◌↔◌, ◌≤◌, ◌+◌, [], ◌++◌, IsTrue, codes, decimal, length};
+    ghost use Rattle.std.specs.Prelude.{◌≡◌, ◌↔◌, ◌<◌, ◌≤◌, ◌+◌, [], ◌++◌, ◌^◌, IsTrue, codes, decimal};
+    ghost use Rattle.std.specs.Prelude.{length};
+    ghost use Rattle.aes3_cell.specs.Writes.{Wrote};
+    ghost use Rattle.aes3_status_text.specs.Refusals.{place_text, refusal_text};
 
     /// An empty line.
     pub fn new() -> Line
@@ -33,6 +40,32 @@ impl Line {
     {
         Line {
             bytes: ArrayVec::new(),
+        }
+    }
+
+    /// The line of a refusal: the program's name, the refusal's number, and its place if it has one.
+    pub fn of_refusal(program: &str, number: u8, place: Option<u64>) -> Line
+        requires { length program.now ≤ NAME_LEN }
+        ensures { result ≡ refusal_text program.now number place }
+    {
+        let mut line = Line::new();
+        line.text(program);
+        line.text(": refused ");
+        line.number(u64::from(number));
+        line.place(place);
+        line.text("\n");
+        line
+    }
+
+    /// Appends the place of a fault, if it has one.
+    fn place(&mut self, place: Option<u64>)
+        requires { length self.old + 4 + DIGITS ≤ LINE_LEN }
+        ensures place { self.new ≡ self.old ++ place_text place }
+        ensures len { length self.new ≤ length self.old + 4 + DIGITS }
+    {
+        if let Some(place) = place {
+            self.text(" at ");
+            self.number(place);
         }
     }
 
@@ -85,5 +118,16 @@ impl Line {
         ensures { self.new ≡ [] }
     {
         self.bytes.clear();
+    }
+
+    /// Hands it to the sink as one buffer.
+    ///
+    /// # Errors
+    /// The sink's fault; then it has taken a front of it.
+    pub fn hand_on<T: Sink>(&self, sink: &mut T) -> Result<(), Fault>
+        requires room { T.failed sink.old + 1 < 2 ^ 64 }
+        ensures { Wrote T.taken T.failed sink.old sink.new self.now result }
+    {
+        write_all(sink, self.bytes.as_slice())
     }
 }

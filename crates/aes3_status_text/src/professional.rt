@@ -1,6 +1,8 @@
 //! The fields of a status line for professional use (AES3-2).
 
 ghost use Rattle.std.specs.Prelude.{◌≡◌, ◌≤◌, ◌+◌, ◌*◌, ◌++◌, length, IsTrue};
+ghost use Rattle.aes3_status.specs.Bits.{number_at};
+ghost use Rattle.aes3_status.specs.Professional.{pro_place};
 ghost use Rattle.aes3_status_text.specs.Words.{are_within, rows_of};
 ghost use Rattle.aes3_status_text.specs.Professional.{address_fields, check_word, length_words};
 ghost use Rattle.aes3_status_text.specs.Fields.{field_text};
@@ -143,16 +145,25 @@ fn put_line_code(line: &mut Line, field: ProField, under: u8, code: u8)
     }
 }
 
+/// Appends the code of a field of a status, where the number `under` tells what its codes mean.
+fn put_field(line: &mut Line, status: &Pro, field: ProField, under: u8)
+    requires { length line.old + FIELD_LEN ≤ LINE_LEN }
+    ensures field { line.new ≡ line.old ++ pro_text field under (number_at (pro_place field) status.now) }
+    ensures len { length line.new ≤ length line.old + FIELD_LEN }
+{
+    put_professional_code(line, field, under, status.code(field));
+}
+
 /// Appends the fields of byte 0.
 fn put_signal(line: &mut Line, status: &Pro)
     requires { length line.old + 4 * FIELD_LEN ≤ LINE_LEN }
     ensures fields { line.new ≡ line.old ++ signal_fields status.now }
     ensures len { length line.new ≤ length line.old + 4 * FIELD_LEN }
 {
-    put_professional_code(line, ProField::Payload, 0, status.payload());
-    put_professional_code(line, ProField::Emphasis, 0, status.emphasis());
-    put_professional_code(line, ProField::Unlocked, 0, status.unlocked());
-    put_professional_code(line, ProField::Rate, 0, status.rate());
+    put_field(line, status, ProField::Payload, 0);
+    put_field(line, status, ProField::Emphasis, 0);
+    put_field(line, status, ProField::Unlocked, 0);
+    put_field(line, status, ProField::Rate, 0);
 }
 
 /// Appends the fields of bytes 1 and 2.
@@ -161,11 +172,11 @@ fn put_mode(line: &mut Line, status: &Pro)
     ensures fields { line.new ≡ line.old ++ mode_fields status.now }
     ensures len { length line.new ≤ length line.old + 5 * FIELD_LEN }
 {
-    put_professional_code(line, ProField::Mode, 0, status.mode());
-    put_professional_code(line, ProField::User, 0, status.user());
-    put_professional_code(line, ProField::Aux, 0, status.aux());
-    put_professional_code(line, ProField::Word, status.aux(), status.word());
-    put_professional_code(line, ProField::B2high, 0, status.b2high());
+    put_field(line, status, ProField::Mode, 0);
+    put_field(line, status, ProField::User, 0);
+    put_field(line, status, ProField::Aux, 0);
+    put_field(line, status, ProField::Word, status.code(ProField::Aux));
+    put_field(line, status, ProField::B2high, 0);
 }
 
 /// Appends the fields of bytes 3 to 13.
@@ -175,9 +186,9 @@ fn put_names(line: &mut Line, status: &Pro)
     ensures fields { line.new ≡ line.old ++ name_fields status.now }
     ensures len { length line.new ≤ length line.old + 5 * FIELD_LEN }
 {
-    put_professional_code(line, ProField::B3, 0, status.b3());
-    put_professional_code(line, ProField::B4, 0, status.b4());
-    put_professional_code(line, ProField::B5, 0, status.b5());
+    put_field(line, status, ProField::B3, 0);
+    put_field(line, status, ProField::B4, 0);
+    put_field(line, status, ProField::B5, 0);
     line.characters_field("origin", status.origin());
     line.characters_field("destination", status.destination());
 }
@@ -191,8 +202,8 @@ fn put_addresses(line: &mut Line, status: &Pro)
 {
     line.number_field("local", u64::from(status.local()));
     line.number_field("time", u64::from(status.time()));
-    put_professional_code(line, ProField::Unreliable, 0, status.unreliable());
-    put_professional_code(line, ProField::B22low, 0, status.b22low());
+    put_field(line, status, ProField::Unreliable, 0);
+    put_field(line, status, ProField::B22low, 0);
 }
 
 /// Appends a channel status for professional use.

@@ -8,8 +8,6 @@ mod checking;
 /// Laws over the definitions alone, whatever the cells.
 pub mod laws;
 /// The channel status of blocks, line by line.
-mod showing;
-/// A reporter that writes the channel status of blocks.
 mod status_lines;
 
 pub use aes3_text_lines::{
@@ -18,4 +16,4 @@ pub use aes3_text_lines::{
 };
 pub use aes3_text_reports::{line_of_report, scan};
 pub use checking::check;
-pub use showing::{show, show_changes, show_detail};
+pub use status_lines::{show, show_changes, show_detail};

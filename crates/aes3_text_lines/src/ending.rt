@@ -4,7 +4,7 @@ ghost use Rattle.std.specs.Prelude.{◌≡◌, ◌<◌, ◌≤◌, ◌+◌, [], 
 ghost use Rattle.aes3_cell.specs.Writes.{Wrote};
 ghost use Rattle.aes3_text_lines.specs.MarkLines.{level_digit};
 
-use aes3_cell::{Fault, Level, Sink, write_all};
+use aes3_cell::{Fault, Level, Sink};
 use aes3_status_text::{LINE_LEN, Line};
 
 /// `0` for the lower level, `1` for the higher.
@@ -28,5 +28,5 @@ pub(crate) fn end_line<T: Sink>(line: &mut Line, sink: &mut T) -> Result<(), Fau
     ensures { Wrote T.taken T.failed sink.old sink.new (line.old ++ 10 ∷ []) result }
 {
     line.text("\n");
-    write_all(sink, line.as_bytes())
+    line.hand_on(sink)
 }

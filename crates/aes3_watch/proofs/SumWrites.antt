@@ -16,7 +16,7 @@ use Rattle.aes3_watch.specs.declared.summed.Summed.{Summed}
 use Rattle.aes3_watch.specs.Sums.{all_told, begun_sums, go_to, sum_lines, next_sum, notice_lines, report_told, summed, summing}
 use Rattle.aes3_watch.specs.Sums.{more, no_figures, on_to, periods, summed_by, Sums, told_to, unsummed}
 use Rattle.aes3_lock_gaps.specs.Gaps.{behind_full, full_count}
-use Rattle.aes3_watch.specs.declared.watched.Watched.{Watched}
+use Rattle.aes3_watch.specs.declared.watching.Watched.{Watched}
 use Rattle.aes3_text_lines.specs.declared.sum.Figures.{Figures}
 use Rattle.aes3_watch.proofs.WatchedCells.{pass-watches, take-watches}
 use Rattle.aes3_watch.proofs.Sums.{before-sums, behind-lines, ends-lines, with-sums, go-at, lines-join, next-at, notices-closed}

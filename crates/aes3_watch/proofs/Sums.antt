@@ -24,7 +24,7 @@ use Rattle.aes3_text_lines.specs.SumLines.{sum_line}
 use Rattle.aes3_lock_gaps.specs.Gaps.{behind_full, full_count}
 use Rattle.aes3_watch.specs.Watching.{loss_events, up_to, told_events, next, behind_reports, watched, event_lines}
 use Rattle.aes3_watch.specs.Watching.{is_locked, IsKept}
-use Rattle.aes3_watch.specs.declared.watched.Watched.{Watched}
+use Rattle.aes3_watch.specs.declared.watching.Watched.{Watched}
 use Rattle.aes3_watch.specs.declared.summed.Summed.{Summed}
 use Rattle.aes3_watch.specs.Sums.{Notice, event, sum, events, begun_notices, begun_sums, behind_sums, end_told}
 use Rattle.aes3_watch.specs.Sums.{ends_before, go_to, more, next_period, next_sum, no_figures, notice_line}

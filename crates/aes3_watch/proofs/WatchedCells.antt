@@ -30,7 +30,7 @@ use Rattle.aes3_status_text.specs.declared.style.Style.{Style}
 use Rattle.aes3_text_lines.specs.Events.{event_line}
 use Rattle.aes3_watch.specs.Signals.{change_events, signals_of}
 use Rattle.aes3_watch.specs.declared.signals.Signals.{Signals}
-use Rattle.aes3_watch.specs.declared.watched.Watched.{Watched}
+use Rattle.aes3_watch.specs.declared.watching.Watched.{Watched}
 use Rattle.aes3_watch.specs.Watching.{unwatched, is_told, loss_events, up_to, whole_events, slips, behind_whole}
 use Rattle.aes3_watch.specs.Watching.{told_events, next, events_from, behind_reports, begun_events, watched}
 use Rattle.aes3_watch.specs.Watching.{is_locked, ended, watch_events, event_lines, begun_watch, watch_lines}

@@ -2,7 +2,7 @@
 use Rattle.aes3_watch.specs.declared.signals.ChannelSignals.{ChannelSignals as ChannelKept}
 use Rattle.aes3_watch.specs.declared.signals.Signals.{Signals as SignalsKept}
 use Rattle.aes3_watch.specs.declared.summed.Summed.{Summed as SummedKept}
-use Rattle.aes3_watch.specs.declared.watched.Watched.{Watched as WatchedKept}
+use Rattle.aes3_watch.specs.declared.watching.Watched.{Watched as WatchedKept}
 
 abbrev pub ChannelSignals : Type 0
 ChannelSignals = ChannelKept

@@ -22,7 +22,7 @@ use Rattle.aes3_lock_gaps.specs.Gaps.{behind_full, full_count}
 use Rattle.aes3_watch.specs.Signals.{signals_of}
 use Rattle.aes3_watch.specs.Watching.{is_locked, loss_events, next, told_events, unwatched, up_to, Watches}
 use Rattle.aes3_watch.specs.declared.signals.Signals.{Signals}
-use Rattle.aes3_watch.specs.declared.watched.Watched.{Watched}
+use Rattle.aes3_watch.specs.declared.watching.Watched.{Watched}
 use Rattle.aes3_watch.specs.declared.summed.Summed.{Summed}
 
 -- more of what is counted in 64 bits

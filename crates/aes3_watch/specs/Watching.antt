@@ -21,7 +21,7 @@ use Rattle.aes3_status_text.specs.declared.style.Style.{Style}
 use Rattle.aes3_text_lines.specs.Events.{event_line}
 use Rattle.aes3_watch.specs.Signals.{change_events, last_cells, signals_of}
 use Rattle.aes3_watch.specs.declared.signals.Signals.{Signals}
-use Rattle.aes3_watch.specs.declared.watched.Watched.{Watched}
+use Rattle.aes3_watch.specs.declared.watching.Watched.{Watched}
 
 -- A line of which no cell has come.
 -- found: a whole block has come

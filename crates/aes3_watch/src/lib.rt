@@ -14,8 +14,6 @@ mod signals;
 mod summed;
 /// A line watched, with a sum for each period of it.
 mod summing;
-/// What is known of a line that is watched.
-mod watched;
 /// A line watched: what changes, in a few lines.
 mod watching;
 

@@ -1,6 +1,6 @@
 //! What is known of a line of which sums are told.
 
-use crate::watched::Watched;
+use crate::watching::Watched;
 use aes3_text_lines::Figures;
 
 /// What is known of a line of which some cells have come, and sums are told.

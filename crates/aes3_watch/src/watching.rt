@@ -19,7 +19,6 @@ ghost use Rattle.aes3_watch.specs.Watching.{slips, told_events, unwatched, up_to
 ghost use Rattle.aes3_watch.specs.Watching.{watch_lines, watching, whole_events};
 
 use crate::signals::{EVENTS, Signals, add_changes, carry_the_same, last_cells_of, no_cells};
-use crate::watched::Watched;
 use aes3_block::SLOTS;
 use aes3_cell::{Counts, Fault, Form, Level, RunError, Sink, Source};
 use aes3_lock::{Ending, Lock};
@@ -47,6 +46,21 @@ pub(crate) fn put_events<T: Sink>(
         line_of_event(style, event, sink)?;
     }
     Ok(())
+}
+
+/// What is known of a line of which some cells have come.
+#[derive(Clone, Copy)]
+pub(crate) struct Watched {
+    /// Whether a whole block has come.
+    pub(crate) found: bool,
+    /// The cell behind the last whole block, or the first of all.
+    pub(crate) place: u64,
+    /// Whether the cells from there on are told as lost.
+    pub(crate) lost: bool,
+    /// How often cells were told as lost, and whole blocks as slipped.
+    pub(crate) losses: u64,
+    /// What the last whole block says of its samples, if there is one.
+    pub(crate) latest: Option<Signals>,
 }
 
 impl Watched {

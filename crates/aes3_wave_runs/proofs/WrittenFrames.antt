@@ -94,6 +94,22 @@ frame-most f channels S24In32 n is few = absurd is.bits
 frame-most f channels S32 n is few =
     let e = ap (λ g. n * frame_len g) (format-is f ThirtyTwo is.two is.bits.0 is.bits.1) in omega arith
 
+-- frames whose octets are samples of 32 bits: what is made of them are these octets
+wide-is : (f : WaveFormat) (channels : Channels) → IsForm f channels S32 → f ≡ written_format ThirtyTwo f.rate
+wide-is f channels is = format-is f ThirtyTwo is.two is.bits.0 is.bits.1
+
+wide-len : (f : WaveFormat) (channels : Channels) (n : ℕ) → IsForm f channels S32 → n * frame_len f ≡ 8 * n
+wide-len f channels n is = let e = ap (λ g. n * frame_len g) (wide-is f channels is) in omega arith
+
+pub wide-frames : (f : WaveFormat) (channels : Channels) (n k : ℕ) (b : List ℕ) → IsForm f channels S32
+    → k ≡ n * frame_len f → k ≤ length b
+    → take k b ≡ parts_of (two_samples f channels) (frame_len f) n b
+wide-frames f channels n k b is count long =
+    let e = wide-len f channels n is in
+    sym (same-frames f channels ThirtyTwo n b (wide-is f channels is) is.order
+    ∙ sym (parts-take (pair_of ThirtyTwo f.rate) 8 n k b (omega arith) (omega arith))
+    ∙ thirty-two f.rate n (take k b) (length-take-le k b long ∙ omega arith))
+
 -- what is made of the first n parts of some more
 front-made : (made : List ℕ → List ℕ) (len n m : ℕ) (b : List ℕ) → ((v : List ℕ) → length (made v) ≡ 8) → n ≤ m
     → n * len ≤ length b → take (8 * n) (parts_of made len m b) ≡ parts_of made len n (take (n * len) b)

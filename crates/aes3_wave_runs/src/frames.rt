@@ -1,8 +1,7 @@
 //! The samples of frames.
 
-ghost use Rattle.std.specs.Prelude.{◌≡◌, ◌≤◌, ◌<◌, ◌*◌, IfSome, length, take, true};
+ghost use Rattle.std.specs.Prelude.{◌≡◌, ◌≤◌, ◌<◌, ◌*◌, IfSome, length, take};
 ghost use Rattle.std.specs.Option.{ForSome};
-ghost use Rattle.aes3_forms_samples.specs.Formats.{block_len, widened};
 ghost use Rattle.aes3_wave.specs.Formats.{frame_len};
 ghost use Rattle.aes3_wave.specs.Samples.{two_samples};
 ghost use Rattle.aes3_wave_runs.specs.Frames.{IsForm, parts_of};
@@ -18,7 +17,7 @@ pub(crate) const BLOCK_FRAMES: usize = 192;
 
 /// The form in which the octets of frames are samples as `from_pcm_words` takes them: both channels of a
 /// frame of two are taken in their order, and all bits count.
-fn form_of(format: WaveFormat, channels: Channels) -> Option<SampleFormat>
+pub(crate) fn form_of(format: WaveFormat, channels: Channels) -> Option<SampleFormat>
     ensures { IfSome result (IsForm format channels) }
 {
     if format.channels != 2 || channels.first != 0 {
@@ -33,7 +32,7 @@ fn form_of(format: WaveFormat, channels: Channels) -> Option<SampleFormat>
 }
 
 /// A block that begins with these octets, and goes on with zeros.
-fn block_of(octets: &[u8]) -> [u8; BLOCK_BYTES]
+pub(crate) fn block_of(octets: &[u8]) -> [u8; BLOCK_BYTES]
     requires few { length octets.now ≤ 1536 }
     ensures len { length result ≡ 1536 }
     ensures front { take (length octets.now) result ≡ octets.now }
@@ -43,48 +42,15 @@ fn block_of(octets: &[u8]) -> [u8; BLOCK_BYTES]
     block
 }
 
-/// Puts the samples of a block in this form into a piece, each as one of 32 bits.
-// The form is named in each case, so that the loop of `widen` does not choose it anew for each sample.
-#[inline(never)]
-fn widen_into(form: SampleFormat, block: &[u8; BLOCK_BYTES], wide: &mut [u8; BLOCK_BYTES])
-    ensures { wide.new ≡ widened form (take (block_len form) block.now) }
-{
-    *wide = match form {
-        SampleFormat::S16 => SampleFormat::S16.widen(block),
-        SampleFormat::S24 => SampleFormat::S24.widen(block),
-        SampleFormat::S24In32 => SampleFormat::S24In32.widen(block),
-        SampleFormat::S32 => SampleFormat::S32.widen(block),
-    };
-}
-
-/// Puts the samples of two channels of the first frames, of a block at most, into the front of a piece,
-/// each as one of 32 bits. Answers whether it did: where the frames have a form of `from_pcm_words`.
-/// It equals [`put_each`], which takes four times as long.
-fn put_block(
+/// Puts the samples of two channels of the first frames into the front of a piece, each as one of 32
+/// bits, frame by frame.
+pub(crate) fn put_each(
     format: WaveFormat,
     channels: Channels,
     octets: &[u8],
     count: usize,
-    wide: &mut [u8; BLOCK_BYTES],
-) -> bool
-    requires frames { count * frame_len format ≤ length octets.now }
-    requires room { count ≤ BLOCK_FRAMES }
-    ensures { result ≡ true → take (PAIR_LEN * count) wide.new
-        ≡ parts_of (two_samples format channels) (frame_len format) count octets.now }
-{
-    let Some(form) = form_of(format, channels) else {
-        return false;
-    };
-    match octets.first_chunk() {
-        Some(block) => widen_into(form, block, wide),
-        None => widen_into(form, &block_of(octets), wide),
-    }
-    true
-}
-
-/// Puts the samples of two channels of the first frames into the front of a piece, each as one of 32
-/// bits, frame by frame.
-fn put_each(format: WaveFormat, channels: Channels, octets: &[u8], count: usize, wide: &mut [u8])
+    wide: &mut [u8],
+)
     requires first { channels.first < format.channels }
     requires second { ForSome channels.second (λ n. n < format.channels) }
     requires frames { count * frame_len format ≤ length octets.now }
@@ -98,26 +64,5 @@ fn put_each(format: WaveFormat, channels: Channels, octets: &[u8], count: usize,
         let pair = format.two_samples(channels, &octets[at..at + len]);
         wide[PAIR_LEN * i..PAIR_LEN * i + PAIR_LEN].copy_from_slice(&pair);
         at += len;
-    }
-}
-
-/// Puts the samples of two channels of the first frames, of a block at most, into the front of a piece,
-/// each as one of 32 bits.
-pub(crate) fn put_frames(
-    format: WaveFormat,
-    channels: Channels,
-    octets: &[u8],
-    count: usize,
-    wide: &mut [u8; BLOCK_BYTES],
-)
-    requires first { channels.first < format.channels }
-    requires second { ForSome channels.second (λ n. n < format.channels) }
-    requires frames { count * frame_len format ≤ length octets.now }
-    requires room { count ≤ BLOCK_FRAMES }
-    ensures { take (PAIR_LEN * count) wide.new
-        ≡ parts_of (two_samples format channels) (frame_len format) count octets.now }
-{
-    if !put_block(format, channels, octets, count, wide) {
-        put_each(format, channels, octets, count, wide);
     }
 }

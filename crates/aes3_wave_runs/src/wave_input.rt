@@ -1,16 +1,19 @@
 //! The octets after the header of a WAV file as an input: the samples of two channels of each frame
 //! are handed on as samples of 32 bits.
 
-ghost use Rattle.std.specs.Prelude.{◌≡◌, ◌<◌, ◌≤◌, ◌+◌, ◌^◌, ℕ, List, [], Option, length, take};
+ghost use Rattle.std.specs.Prelude.{◌≡◌, ◌<◌, ◌≤◌, ◌+◌, ◌*◌, ◌^◌, ℕ, List, [], Option, length, take};
 ghost use Rattle.std.specs.Option.{ForSome};
 ghost use Rattle.aes3_wave.specs.Formats.{frame_len};
+ghost use Rattle.aes3_wave.specs.Samples.{two_samples};
+ghost use Rattle.aes3_forms_samples.specs.Formats.{block_len, widened};
 ghost use Rattle.aes3_forms_samples.specs.declared.format.SampleFormat.TheVariants.{S32};
 ghost use Rattle.aes3_status.specs.declared.change.Change.{Change};
 ghost use Rattle.aes3_input.specs.Running.{FrontRan, movement_of};
+ghost use Rattle.aes3_wave_runs.specs.Frames.{IsForm, parts_of};
 ghost use Rattle.aes3_wave_runs.specs.States.{state_of};
 ghost use Rattle.aes3_wave_runs.specs.Wave.{frames_most, taken_len};
 
-use crate::frames::{BLOCK_FRAMES, PAIR_LEN, put_frames};
+use crate::frames::{BLOCK_FRAMES, PAIR_LEN, block_of, form_of, put_each};
 use crate::state::{FRAME_MOST, WaveInput};
 use aes3_cell::{RunError, Sink};
 use aes3_engine::SampleInput;
@@ -80,6 +83,196 @@ impl WaveInput {
         }
     }
 
+    /// How many frames are taken at once: no more than the block that is begun lacks, so that those
+    /// after it are taken whole.
+    fn frames_due(&self, octets: &[u8]) -> usize
+        requires { frame_len self.now.format ≤ length octets.now }
+        ensures some { 0 < result }
+        ensures few { result ≤ BLOCK_FRAMES }
+        ensures frames { result * frame_len self.now.format ≤ length octets.now }
+    {
+        let due = BLOCK_FRAMES - self.samples.begun_len() / PAIR_LEN;
+        (octets.len() / self.format.frame_len()).min(due)
+    }
+
+    /// Takes the first frames, where none is begun, as the pairs of samples that are made of them, and
+    /// answers how many octets they are. The octets are here for the clauses alone.
+    fn take_pairs<T: Sink>(
+        &mut self,
+        change: &mut Change,
+        sink: &mut T,
+        _octets: &[u8],
+        count: usize,
+        pairs: &[u8],
+    ) -> Result<usize, RunError>
+        requires some { 0 < count }
+        requires frames { count * frame_len self.old.format ≤ length _octets.now }
+        requires pairs { pairs.now ≡ parts_of (two_samples self.old.format self.old.channels)
+            (frame_len self.old.format) count _octets.now }
+        requires samples { length _octets.now ≤ self.old.left }
+        requires none { self.old.at ≡ 0 }
+        requires room { T.failed sink.old + 1 < 2 ^ 64 }
+        requires following { (b : List ℕ) × (length b + length _octets.now ≤ 2 ^ 40)
+            × (state_of self.old change.old).follows b }
+        ensures { FrontRan (state_of self.old change.old) (state_of self.new change.new) _octets.now
+            (movement_of T.taken T.failed sink.old sink.new) result }
+    {
+        let len = self.format.frame_len();
+        match feed_fronts(&mut self.samples, change, sink, pairs) {
+            Ok(()) => {
+                self.left -= (count * len) as u64;
+                Ok(count * len)
+            }
+            Err(error) => Err(error),
+        }
+    }
+
+    /// Takes the first frames, where none is begun, as the pairs of samples that a block begins with.
+    // One place for all forms of samples: where each form makes its own block, that is copied once more.
+    #[inline(never)]
+    fn take_made<T: Sink>(
+        &mut self,
+        change: &mut Change,
+        sink: &mut T,
+        octets: &[u8],
+        count: usize,
+        wide: &[u8; BLOCK_BYTES],
+    ) -> Result<usize, RunError>
+        requires some { 0 < count }
+        requires few { count ≤ BLOCK_FRAMES }
+        requires frames { count * frame_len self.old.format ≤ length octets.now }
+        requires made { take (PAIR_LEN * count) wide.now
+            ≡ parts_of (two_samples self.old.format self.old.channels)
+            (frame_len self.old.format) count octets.now }
+        requires samples { length octets.now ≤ self.old.left }
+        requires none { self.old.at ≡ 0 }
+        requires room { T.failed sink.old + 1 < 2 ^ 64 }
+        requires following { (b : List ℕ) × (length b + length octets.now ≤ 2 ^ 40)
+            × (state_of self.old change.old).follows b }
+        ensures { FrontRan (state_of self.old change.old) (state_of self.new change.new) octets.now
+            (movement_of T.taken T.failed sink.old sink.new) result }
+    {
+        self.take_pairs(change, sink, octets, count, &wide[..PAIR_LEN * count])
+    }
+
+    /// Takes all whole frames, where none is begun, whose octets are samples of 32 bits.
+    fn take_wide<T: Sink>(
+        &mut self,
+        change: &mut Change,
+        sink: &mut T,
+        octets: &[u8],
+    ) -> Result<usize, RunError>
+        requires some { frame_len self.old.format ≤ length octets.now }
+        requires wide { IsForm self.old.format self.old.channels S32 }
+        requires samples { length octets.now ≤ self.old.left }
+        requires none { self.old.at ≡ 0 }
+        requires room { T.failed sink.old + 1 < 2 ^ 64 }
+        requires following { (b : List ℕ) × (length b + length octets.now ≤ 2 ^ 40)
+            × (state_of self.old change.old).follows b }
+        ensures { FrontRan (state_of self.old change.old) (state_of self.new change.new) octets.now
+            (movement_of T.taken T.failed sink.old sink.new) result }
+    {
+        let len = self.format.frame_len();
+        let count = octets.len() / len;
+        self.take_pairs(change, sink, octets, count, &octets[..count * len])
+    }
+
+    /// Takes the first frames, where none is begun, of a block of samples in this form.
+    // The form is named in each case, so that the loop of `widen` does not choose it anew for each sample.
+    #[inline(never)]
+    fn take_widened<T: Sink>(
+        &mut self,
+        change: &mut Change,
+        sink: &mut T,
+        octets: &[u8],
+        count: usize,
+        form: SampleFormat,
+        block: &[u8; BLOCK_BYTES],
+    ) -> Result<usize, RunError>
+        requires some { 0 < count }
+        requires few { count ≤ BLOCK_FRAMES }
+        requires frames { count * frame_len self.old.format ≤ length octets.now }
+        requires block { take (PAIR_LEN * count) (widened form (take (block_len form) block.now))
+            ≡ parts_of (two_samples self.old.format self.old.channels)
+            (frame_len self.old.format) count octets.now }
+        requires samples { length octets.now ≤ self.old.left }
+        requires none { self.old.at ≡ 0 }
+        requires room { T.failed sink.old + 1 < 2 ^ 64 }
+        requires following { (b : List ℕ) × (length b + length octets.now ≤ 2 ^ 40)
+            × (state_of self.old change.old).follows b }
+        ensures { FrontRan (state_of self.old change.old) (state_of self.new change.new) octets.now
+            (movement_of T.taken T.failed sink.old sink.new) result }
+    {
+        match form {
+            SampleFormat::S16 => {
+                self.take_made(change, sink, octets, count, &SampleFormat::S16.widen(block))
+            }
+            SampleFormat::S24 => {
+                self.take_made(change, sink, octets, count, &SampleFormat::S24.widen(block))
+            }
+            SampleFormat::S24In32 => {
+                self.take_made(
+                    change,
+                    sink,
+                    octets,
+                    count,
+                    &SampleFormat::S24In32.widen(block),
+                )
+            }
+            SampleFormat::S32 => {
+                self.take_made(change, sink, octets, count, &SampleFormat::S32.widen(block))
+            }
+        }
+    }
+
+    /// Takes whole frames, where none is begun, whose octets are samples in this form. It equals
+    /// `take_each`, which takes four times as long.
+    fn take_block<T: Sink>(
+        &mut self,
+        change: &mut Change,
+        sink: &mut T,
+        octets: &[u8],
+        form: SampleFormat,
+    ) -> Result<usize, RunError>
+        requires some { frame_len self.old.format ≤ length octets.now }
+        requires form { IsForm self.old.format self.old.channels form }
+        requires samples { length octets.now ≤ self.old.left }
+        requires none { self.old.at ≡ 0 }
+        requires room { T.failed sink.old + 1 < 2 ^ 64 }
+        requires following { (b : List ℕ) × (length b + length octets.now ≤ 2 ^ 40)
+            × (state_of self.old change.old).follows b }
+        ensures { FrontRan (state_of self.old change.old) (state_of self.new change.new) octets.now
+            (movement_of T.taken T.failed sink.old sink.new) result }
+    {
+        let count = self.frames_due(octets);
+        match octets.first_chunk() {
+            Some(block) => self.take_widened(change, sink, octets, count, form, block),
+            None => self.take_widened(change, sink, octets, count, form, &block_of(octets)),
+        }
+    }
+
+    /// Takes whole frames, where none is begun, frame by frame.
+    fn take_each<T: Sink>(
+        &mut self,
+        change: &mut Change,
+        sink: &mut T,
+        octets: &[u8],
+    ) -> Result<usize, RunError>
+        requires some { frame_len self.old.format ≤ length octets.now }
+        requires samples { length octets.now ≤ self.old.left }
+        requires none { self.old.at ≡ 0 }
+        requires room { T.failed sink.old + 1 < 2 ^ 64 }
+        requires following { (b : List ℕ) × (length b + length octets.now ≤ 2 ^ 40)
+            × (state_of self.old change.old).follows b }
+        ensures { FrontRan (state_of self.old change.old) (state_of self.new change.new) octets.now
+            (movement_of T.taken T.failed sink.old sink.new) result }
+    {
+        let count = self.frames_due(octets);
+        let mut wide = [0; BLOCK_BYTES];
+        put_each(self.format, self.channels, octets, count, &mut wide);
+        self.take_made(change, sink, octets, count, &wide)
+    }
+
     /// Takes whole frames, where none is begun, and answers how many octets they are.
     fn take_frames<T: Sink>(
         &mut self,
@@ -96,18 +289,10 @@ impl WaveInput {
         ensures { FrontRan (state_of self.old change.old) (state_of self.new change.new) octets.now
             (movement_of T.taken T.failed sink.old sink.new) result }
     {
-        let len = self.format.frame_len();
-        // No more than the block that is begun lacks, so that those after it are taken whole.
-        let due = BLOCK_FRAMES - self.samples.begun_len() / PAIR_LEN;
-        let count = (octets.len() / len).min(due);
-        let mut wide = [0; BLOCK_BYTES];
-        put_frames(self.format, self.channels, octets, count, &mut wide);
-        match feed_fronts(&mut self.samples, change, sink, &wide[..PAIR_LEN * count]) {
-            Ok(()) => {
-                self.left -= (count * len) as u64;
-                Ok(count * len)
-            }
-            Err(error) => Err(error),
+        match form_of(self.format, self.channels) {
+            Some(SampleFormat::S32) => self.take_wide(change, sink, octets),
+            Some(form) => self.take_block(change, sink, octets, form),
+            None => self.take_each(change, sink, octets),
         }
     }
 

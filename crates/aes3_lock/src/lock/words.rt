@@ -9,10 +9,10 @@ ghost use Rattle.aes3_lock.specs.Reports.{decided, open_at};
 ghost use Rattle.aes3_lock.specs.Following.{BeginsIn, Follows};
 
 use crate::candidate::Candidate;
-use crate::eight::{are_subframes, eight_completed};
 use crate::lock::Lock;
-use crate::recent::PREAMBLE_CELLS;
-use crate::subframe::{completed, last_octet, last_of, rest_of};
+use crate::subframe::{
+    PREAMBLE_CELLS, are_subframes, completed, eight_completed, last_octet, last_of, rest_of,
+};
 use aes3_frame::BLOCK_CELLS;
 use aes3_slot::{SUBFRAME_CELLS, begins_subframe, block_preambles, mark_of};
 

@@ -1,7 +1,7 @@
 use Rattle.std.proofs.Common.{refl, subst, sym}
 use Rattle.aes3_input.specs.Running.{movement_of}
 use Rattle.aes3_capture_runs.specs.Runs.{UnreadSaid}
-use Rattle.aes3_capture_runs.specs.declared.run.Unread.{Unread}
+use Rattle.aes3_cli.specs.declared.unread.Unread.{Unread}
 use Rattle.aes3_capture_runs.proofs.run.report_unread.Goals as goal
 
 pub returns-in-NotUtf8-clause-said : goal.returns-in-NotUtf8-clause-said

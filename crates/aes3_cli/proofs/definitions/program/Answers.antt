@@ -13,14 +13,7 @@ returns c =
           ∙ (ap app_of_fields c.subcommand_required.ensures
           ∙ ap (on_top (λ s. record s { subcommand_required = true }))
           (ap app_of_fields c.disable_help_subcommand.ensures
-          ∙ ap (on_top (λ s. record s { disable_help_subcommand = true }))
-          (ap app_of_fields c.version.ensures
-          ∙ ap (on_top (λ s. record s { has_version = true }))
-          (ap app_of_fields c.no_binary_name.ensures
-          ∙ ap (on_top (λ s. record s { no_binary_name = true }))
-          (ap app_of_fields c.after_help.ensures ∙ (ap app_of_fields c.override_usage.ensures
-          ∙ (ap app_of_fields c.about.ensures ∙ c.new.ensures.app))))))),
+          ∙ ap (on_top (λ s. record s { disable_help_subcommand = true })) c.program_line.ensures.0)),
       ap globals is.0 ∙ (ap globals c.subcommand_required.ensures ∙ (ap globals c.disable_help_subcommand.ensures
-          ∙ (ap globals c.version.ensures ∙ (ap globals c.no_binary_name.ensures ∙ (ap globals c.after_help.ensures
-          ∙ (ap globals c.override_usage.ensures ∙ (ap globals c.about.ensures ∙ c.new.ensures.local))))))),
+          ∙ c.program_line.ensures.1)),
     )) c.bin_name.ensures

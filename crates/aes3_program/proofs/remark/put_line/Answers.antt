@@ -1,4 +1,4 @@
-use Rattle.std.proofs.Common.{◌++◌}
+use Rattle.std.proofs.Common.{◌++◌, ◌∙◌, ap}
 use Rattle.std.proofs.lemmas.Result.{err_from_is_err_and}
 use Rattle.aes3_cell.proofs.Growing.{front-is, front-more}
 use Rattle.aes3_cell.proofs.Writing.{wrote-behind, wrote-is}
@@ -7,19 +7,20 @@ use Rattle.aes3_program.proofs.remark.put_line.Goals as goal
 
 pub returns : goal.returns
 returns g c =
-    wrote-is (line-joined c.args.channel c.args.text.now c.args.remedy.now)
-    (wrote-behind c.put_rest.result c.in_ok-put_head.ensures.count c.in_ok-put_head.ensures.grew c.put_rest.ensures)
+    wrote-is (ap (λ head. head ++ (c.args.text.now ++ c.args.remedy.now)) c.head.ensures
+    ∙ line-joined c.args.channel c.args.text.now c.args.remedy.now)
+    (wrote-behind c.put_rest.result c.in_ok-hand_on.ensures.count c.in_ok-hand_on.ensures.grew c.put_rest.ensures)
 
-pub returns-in_err-put_head : goal.returns-in_err-put_head
-returns-in_err-put_head g c =
+pub returns-in_err-hand_on : goal.returns-in_err-hand_on
+returns-in_err-hand_on g c =
     let p = err_from_is_err_and c.from_residual.result c.from_residual.ensures.1 in
-    let f = c.in_err-put_head.ensures.err in
+    let f = c.in_err-hand_on.ensures.err in
     rw p.1 (record {
       grew = tt;
       count = tt;
       err = (
         f.0,
         front-is (line-joined c.args.channel c.args.text.now c.args.remedy.now)
-            (front-more f.1 (c.args.text.now ++ c.args.remedy.now)),
+            (front-more (front-is c.head.ensures f.1) (c.args.text.now ++ c.args.remedy.now)),
       );
     })

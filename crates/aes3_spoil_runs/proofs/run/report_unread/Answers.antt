@@ -3,8 +3,8 @@ use Rattle.aes3_cell.specs.Ends.{Grew}
 use Rattle.aes3_input.specs.Running.{Movement, Quiet, Failed}
 use Rattle.aes3_spoil_runs.specs.Lines.{not_utf8_text}
 use Rattle.aes3_spoil_runs.specs.Runs.{UnreadReported}
-use Rattle.aes3_spoil_runs.specs.declared.run.Unread.{Unread}
-use Rattle.aes3_spoil_runs.specs.declared.run.Unread.TheVariants.{NotUtf8, Memory}
+use Rattle.aes3_cli.specs.declared.unread.Unread.{Unread}
+use Rattle.aes3_cli.specs.declared.unread.Unread.TheVariants.{NotUtf8, Memory}
 use Rattle.aes3_spoil_runs.proofs.run.report_unread.Goals as goal
 
 pub returns-in-NotUtf8-clause-reported : goal.returns-in-NotUtf8-clause-reported

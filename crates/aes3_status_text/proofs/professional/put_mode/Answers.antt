@@ -6,11 +6,10 @@ pub returns-clause-fields : goal.returns-clause-fields
 unfolding mode_fields
 returns-clause-fields c =
     rw (
-      c.put_professional_code-5.ensures.code,
-      c.put_professional_code-4.ensures.code,
-      c.put_professional_code-3.ensures.code,
-      c.put_professional_code-2.ensures.code,
-      c.put_professional_code.ensures.code,
+      c.put_field-5.ensures.field,
+      c.put_field-4.ensures.field,
+      c.put_field-3.ensures.field,
+      c.put_field-2.ensures.field,
+      c.put_field.ensures.field,
     )
-    (rw (c.mode.ensures, c.user.ensures, c.aux.ensures, c.word.ensures, c.aux-2.ensures, c.b2high.ensures)
-    (simp append_assoc))
+    (rw c.code.ensures (simp append_assoc))

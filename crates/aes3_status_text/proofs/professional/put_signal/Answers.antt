@@ -6,9 +6,9 @@ pub returns-clause-fields : goal.returns-clause-fields
 unfolding signal_fields
 returns-clause-fields c =
     rw (
-      c.put_professional_code-4.ensures.code,
-      c.put_professional_code-3.ensures.code,
-      c.put_professional_code-2.ensures.code,
-      c.put_professional_code.ensures.code,
+      c.put_field-4.ensures.field,
+      c.put_field-3.ensures.field,
+      c.put_field-2.ensures.field,
+      c.put_field.ensures.field,
     )
-    (rw (c.payload.ensures, c.emphasis.ensures, c.unlocked.ensures, c.rate.ensures) (simp append_assoc))
+    (simp append_assoc)

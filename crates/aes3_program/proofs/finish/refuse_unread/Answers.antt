@@ -1,7 +1,0 @@
-use Rattle.std.proofs.Common.{rules}
-use Rattle.aes3_program.proofs.Flushes.{read-refused}
-use Rattle.aes3_program.proofs.finish.refuse_unread.Goals as goal
-
-pub returns-clause-refused : goal.returns-clause-refused
-returns-clause-refused g c =
-    read-refused {told = c.flushed.result} (search (rules, c.flushed.ensures.told)) c.refuse.ensures.aside.refusal
