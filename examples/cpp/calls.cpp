@@ -2,6 +2,12 @@
 #include "aes3.hpp"
 #include <array>
 #include <cstdio>
+#include <string>
+#include <vector>
+#ifdef __cpp_lib_span
+#include <algorithm>
+#include <ranges>
+#endif
 
 static bool is_right = true;
 
@@ -10,6 +16,133 @@ static void judge(const char *what, bool answer) {
         std::printf("calls: %s\n", what);
     is_right &= answer;
 }
+
+// A line of each report of a range, and what it came to.
+template <class Range> static std::string lines_of(Range range) {
+    std::string lines;
+    for (const aes3::report &it : range)
+        lines += std::to_string(it.kind) + " at " + std::to_string(it.at) + (it.kind == AES3_WHOLE ? " " + std::to_string(it.words[0]) : "") + "\n";
+    judge("no report after the last", range.begin() == range.end() && !range.advance());
+    static const char *const ends[] = {"going", "ended", "rejected", "failed", "full"};
+    return lines + ends[static_cast<int>(range.result())] + " " + std::to_string(range.wrong_at()) + " of " + std::to_string(range.seen());
+}
+
+// The reports of octets that come in pieces of `size`, and then end or fail.
+static std::string lines_in_pieces(const std::vector<std::uint8_t> &octets, std::size_t size, aes3::form form, int end = 0) {
+    std::size_t at = 0;
+    return lines_of(aes3::reports(
+        [=, &octets](std::uint8_t *to, std::size_t room) mutable {
+            std::size_t count = 0;
+            while (at < octets.size() && count < size && count < room)
+                to[count++] = octets[at++];
+            return count > 0 ? static_cast<int>(count) : end;
+        },
+        form));
+}
+
+static void judge_ranges(const aes3::words &block) {
+    // Three blocks, with a wrong cell in the second, and three cells of a fourth.
+    aes3::cells cells;
+    aes3::encode(block, true, cells);
+    std::vector<std::uint8_t> raw, text;
+    for (int i = 0; i < 3 * AES3_BLOCK_WORDS; i++) {
+        const std::uint64_t word = cells[i % AES3_BLOCK_WORDS] ^ (i == AES3_BLOCK_WORDS + 10 ? 1u << 20 : 0);
+        std::uint8_t octets[8], line[65];
+        aes3_octets_of_word(word, octets);
+        aes3_line_of_word(word, line);
+        raw.insert(raw.end(), octets, octets + 8);
+        text.insert(text.end(), line, line + 65);
+    }
+    std::vector<std::uint8_t> packed = raw, rejected = text, counted = raw;
+    packed.insert(packed.end(), {0, 5});
+    counted.push_back(0);
+    const std::string first = "1 at 0 " + std::to_string(block[0]) + "\n3 at 24576\n", third = "1 at 49152 " + std::to_string(block[0]) + "\n";
+    const std::string more = first + third + "ended 0 of 73731", whole = first + third + "ended 0 of 73728";
+    rejected.insert(rejected.end(), {'0', 'x', '0', '0'});
+    text.insert(text.end(), {'0', ' ', '0', '\r', '\n', '0'});
+    for (const std::size_t size : {std::size_t(1), std::size_t(2), std::size_t(3), std::size_t(1000), std::size_t(100000)}) {
+        judge("packed cells in pieces", lines_in_pieces(packed, size, aes3::form::packed) == more);
+        judge("text in pieces", lines_in_pieces(text, size, aes3::form::text) == more);
+        judge("octets in pieces", lines_in_pieces(raw, size, aes3::form::raw) == whole);
+        judge("whole packed cells in pieces", lines_in_pieces(counted, size, aes3::form::packed) == whole);
+        judge("a byte that is no cell",
+            lines_in_pieces(rejected, size, aes3::form::text) == first + third + "rejected " + std::to_string(3 * 384 * 65 + 1) + " of 73729");
+        judge("a wrong end",
+            lines_in_pieces(raw, size, aes3::form::packed) == first + "rejected " + std::to_string(raw.size()) + " of 73712");
+        judge("a reader that fails", lines_in_pieces(raw, size, aes3::form::raw, -1) == first + "failed 0 of 73728");
+        judge("a reader of text that fails", lines_in_pieces(text, size, aes3::form::text, -1) == first + third + "failed 0 of 73731");
+    }
+    judge("memory", lines_of(aes3::reports(raw)) == whole && lines_of(aes3::reports(packed, aes3::form::packed)) == more);
+    judge("memory with a length", lines_of(aes3::reports({raw.data(), 0})) == "ended 0 of 0");
+    const std::uint8_t none[] = {0}, wrong[] = {1}, high[] = {0, 8}, unused[] = {1, 1}, most[] = {0x80, 7};
+    judge("no packed cells", lines_of(aes3::reports(none, aes3::form::packed)) == "ended 0 of 0");
+    judge("one packed cell", lines_of(aes3::reports(most, aes3::form::packed)) == "ended 0 of 1");
+    judge("a wrong number",
+        lines_of(aes3::reports(wrong, aes3::form::packed)) == "rejected 1 of 0" &&
+        lines_of(aes3::reports(high, aes3::form::packed)) == "rejected 2 of 0");
+    judge("unused cells", lines_of(aes3::reports(unused, aes3::form::packed)) == "rejected 2 of 0");
+    judge("no octet",
+        lines_of(aes3::reports({none, 0}, aes3::form::packed)) == "rejected 0 of 0" &&
+        lines_of(aes3::reports({none, 0}, aes3::form::text)) == "ended 0 of 0");
+#ifdef __cpp_lib_span
+    static_assert(std::ranges::input_range<decltype(aes3::reports(std::span<const std::uint8_t>()))>);
+    judge("a std::span",
+        lines_of(aes3::reports(std::span(raw))) == whole &&
+        lines_of(aes3::reports(std::span<const std::uint8_t>(raw).first(0))) == "ended 0 of 0");
+    auto range = aes3::reports(std::span(raw));
+    judge("count_if", std::ranges::count_if(range, [](const aes3::report &it) { return it.kind == AES3_FAULT; }) == 1);
+#endif
+}
+
+#ifdef __cpp_lib_span
+// Each call with std::span in and out, beside the same one with arrays.
+static void judge_spans(const aes3::words &block, const aes3::status &status) {
+    std::array<std::uint32_t, AES3_BLOCK_WORDS> words{}, made{};
+    std::array<std::uint64_t, AES3_BLOCK_WORDS> cells{};
+    std::array<std::int32_t, AES3_BLOCK_WORDS> samples{};
+    std::array<std::uint8_t, AES3_STATUS_BYTES> bits{}, other{};
+    std::ranges::copy(status, other.begin());
+    const auto &given = other;
+    judge("set_status", aes3::set_status(words, 1, given) == AES3_BLOCK_WORDS && std::ranges::equal(words, block));
+    judge("status_of", aes3::status_of(words, 1, bits) == AES3_BLOCK_WORDS && bits == other);
+    judge("set_user",
+        aes3::set_user(words, 2, given) == AES3_BLOCK_WORDS && aes3::user_of(words, 2, bits) == AES3_BLOCK_WORDS && bits == other);
+    judge("set_validity",
+        aes3::set_validity(words, 2, given) == AES3_BLOCK_WORDS && aes3::validity_of(words, 2, bits) == AES3_BLOCK_WORDS && bits == other);
+    samples.fill(0x123400);
+    aes3::block_of(samples, made);
+    judge("samples_of",
+        aes3::samples_of(made, samples) == AES3_BLOCK_WORDS && samples[383] == 0x123400 && made[383] == (0x1234u << 4 | 1u << 31));
+    aes3_professional professional;
+    aes3_consumer consumer;
+    judge("fields",
+        aes3::fields(given, professional) && !aes3::fields(given, consumer) && aes3::status_of(professional, bits) && bits == other);
+    std::vector<char> text(AES3_STATUS_TEXT);
+    judge("text_of", aes3::text_of(given, std::span(text).first<AES3_STATUS_TEXT>()) > 200 && text[1] == 'p');
+    judge("check", aes3::check(given) == AES3_GOOD && aes3::check_byte(given) == other[23]);
+    std::vector<std::uint64_t> many(2 * AES3_BLOCK_WORDS);
+    const std::span line(many);
+    judge("encode", aes3::encode(words, false, cells) == AES3_BLOCK_WORDS);
+    judge("encode a part", aes3::encode(words, false, line.subspan<AES3_BLOCK_WORDS, AES3_BLOCK_WORDS>()) == AES3_BLOCK_WORDS);
+    judge("encode the same", std::ranges::equal(cells, line.last(AES3_BLOCK_WORDS)) && many[0] == 0);
+    aes3::lock lock;
+    int count = 0;
+    const auto tell = [&](const aes3::report &it) { count += std::ranges::equal(aes3::words_of(it), words); };
+    judge("take",
+        lock.take(std::span<const std::uint64_t>(line).last(AES3_BLOCK_WORDS), tell) && lock.take(line.last(1), tell) && count == 1);
+    std::array<std::uint8_t, AES3_WAV_OCTETS> header{};
+    std::uint64_t at = 0;
+    aes3_wav wav;
+    const std::uint32_t length = aes3::write_wav(24, 48000, 2, header);
+    judge("write_wav", length == 104 && aes3::read_wav(std::span(header).first(length), wav, at) == AES3_WAV_HEADER && wav.len == 12);
+    const std::array<std::uint8_t, 12> frames{1, 2, 3, 4, 5, 6, 7, 8, 9, 10, 11, 12};
+    judge("samples_of a file",
+        aes3::samples_of(wav, 1, 2, std::span(frames), std::span(samples).first(3)) == 1 && samples[1] == 0x06050400 &&
+        samples[2] == 0x123400);
+    const std::span<const std::uint8_t> back = aes3::span<const std::uint8_t>(frames);
+    judge("a std::span of a span", back.data() == frames.data() && back.size() == frames.size());
+}
+#endif
 
 int main() {
     // The C bits of a professional status in a block of zeros: each word gets its parity bit.
@@ -121,6 +254,11 @@ int main() {
     judge("read_wav", aes3::read_wav({header, length}, wav, place) == AES3_WAV_HEADER && wav.rate == 44100 && wav.len == 4);
     judge("samples_of", aes3::samples_of(wav, 2, 1, frame, pair) == 1 && pair[0] == 0x04030000 && pair[1] == 0x02010000);
 
+    judge_ranges(block);
+#ifdef __cpp_lib_span
+    judge_spans(block, status);
+    std::puts("with std::span");
+#endif
     block[7] = 1u << 28;
     judge("an unlawful word", aes3::encode(block, false, cells) == 7 && aes3::status_of(block, 2, found) == 7);
     return !is_right;

@@ -64,12 +64,16 @@ build() { # COMPILER STANDARD
             -I"$root/include" -o $example "$here/$example.cpp" "$library"
     done
     judge "the example of docs/C.md by $1 $2" "$1" "$2" -Wall -Wextra -pedantic -Werror -I"$root/include" -fsyntax-only shown.cpp
-    judge "calls by $1 $2" ./calls
+    judge "recover.cpp by $1 $2" "$1" "$2" -Wall -Wextra -pedantic -Werror -fno-exceptions -fno-rtti -I"$root/include" -fsyntax-only "$here/recover.cpp"
+    ./calls >said
+    judge "calls by $1 $2" [ $? = 0 ]
+    case $2 in *20) judge "std::span by $1 $2" grep -qx "with std::span" said ;; *) judge "no std::span by $1 $2" [ ! -s said ] ;; esac
     for name in line damaged turned; do judge "check by $1 $2 on $name" tells $name; done
 }
 
 build g++ -std=c++11
 build clang++ -std=c++11
+build g++ -std=c++17
 build g++ -std=c++20
 build clang++ -std=c++20
 
