@@ -1,7 +1,7 @@
 #!/bin/sh
 # test.sh [PROGRAM [LIBRARY]]: the crates aes3-sys and aes3 over an installed library, which they find by pkg-config: their tests over
-# the shared library and over the static one, and the lines that their example tells of whole and damaged lines, which have to be those
-# of PROGRAM. Nothing is asked of a registry. PROGRAM is bin/aes3 where none is given, LIBRARY what `bin/build aes3_c` makes.
+# the shared library and over the static one, the examples in their docs, and the lines that their example tells of whole and damaged
+# lines, which have to be those of PROGRAM. Their docs are made without a warning, and every public item has some. Nothing is asked of a registry. PROGRAM is bin/aes3 where none is given, LIBRARY what `bin/build aes3_c` makes.
 # The last line is `N passed, M failed`; status 1 where one differs.
 here=$(dirname "$(realpath "$0")")
 root=$(realpath "$here/../..")
@@ -59,8 +59,12 @@ tells() { # PROGRAM NAME
     cmp got "$2.want"
 }
 
+# The examples in `///` docs run, and there are some.
+documented() { cargo test -q --doc -p aes3 >doc 2>&1 && grep -Eq '^test result: ok\. [1-9][0-9]+ passed' doc || { cat doc && false; }; }
+
 examples() { # HOW
-    judge "the tests over the $1 library" cargo test -q
+    judge "the tests over the $1 library" cargo test -q --lib --tests
+    judge "the examples in the docs over the $1 library" documented
     judge "the example over the $1 library" cargo build -q --example check
     for name in line damaged turned marked; do
         judge "the example over the $1 library on $name" tells "$CARGO_TARGET_DIR/debug/examples/check" $name
@@ -68,7 +72,7 @@ examples() { # HOW
 }
 
 # The example of docs/C.md, as a program.
-{ sed -n '/^## From Rust/,/^## From Rattle/p' "$root/docs/C.md" | sed -n '/^```rust$/,/^```$/p' | sed '/^```/d'; echo 'fn main() { tell_blocks(&[0; 4]).unwrap() }'; } >aes3/examples/shown.rs
+{ sed -n '/^## From Rust/,/^## From Rattle/p' "$root/docs/C.md" | sed -n '/^```rust$/,/^```$/p' | sed '/^```/d'; echo 'fn main() { tell_blocks(&[0; 4]).unwrap(); print_reports(&[0][..]).unwrap() }'; } >aes3/examples/shown.rs
 judge "the example of docs/C.md" env LD_LIBRARY_PATH="$to/lib" cargo run -q --example shown
 rm aes3/examples/shown.rs
 
@@ -84,6 +88,13 @@ examples static
 judge "it wants no shared library" test "$(wants)" = 0
 judge "no warning" env RUSTFLAGS="-D warnings" cargo check -q --all-targets
 judge "without std" env RUSTFLAGS="-D warnings" cargo check -q --lib --no-default-features
+for features in "" --no-default-features; do
+    # shellcheck disable=SC2086
+    judge "the docs, with no warning${features:+, $features}" env RUSTDOCFLAGS="-D warnings" cargo doc -q --no-deps $features
+done
+for crate in aes3 aes3-sys; do
+    judge "$crate warns of public items without docs" grep -qx '#!\[warn(missing_docs)\]' $crate/src/lib.rs
+done
 if cargo clippy --version >/dev/null 2>&1; then
     judge "clippy" cargo clippy -q --all-targets -- -D warnings
 fi

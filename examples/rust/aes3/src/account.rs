@@ -2,14 +2,14 @@ use crate::Report;
 use aes3_sys as sys;
 use core::{fmt, mem::MaybeUninit};
 
-/// A gap: cells in a row that lie in no whole block, as `aes3 check --gaps` tells it.
+/// A gap: cells in a row that are in no whole block. Its text is the line of `aes3 check --gaps`.
 #[derive(Clone, Copy, Debug, PartialEq, Eq)]
 pub struct Gap {
     /// The place of its first cell, counted from the lock's first.
     pub at: u64,
     /// How many cells it has, 1 to 24,576.
     pub cells: u64,
-    /// Whether it counts among the faults; where not, the cells are cut there.
+    /// Whether it counts among the faults. If not, the cells are cut there.
     pub counts: bool,
 }
 
@@ -20,7 +20,24 @@ impl fmt::Display for Gap {
     }
 }
 
-/// Tells the gaps between the whole blocks of a lock's cells. A clone goes on from there by itself.
+/// Gives the gaps between the whole blocks of a lock's cells. A clone goes on from there by itself.
+///
+/// ```
+/// use aes3::{Account, Form, Reports};
+///
+/// // 800 cells without signal.
+/// let line = [0; 100];
+/// let mut lines = Vec::new();
+/// let (mut account, mut reports) = (Account::new(), Reports::new(&line[..], Form::Raw));
+/// while let Some(report) = reports.next() {
+///     let report = report?;
+///     account.before(&report, |gap| lines.push(gap.to_string()));
+///     lines.push(report.to_string());
+/// }
+/// account.end(reports.seen(), |gap| lines.push(gap.to_string()));
+/// assert_eq!(lines, ["gap at 0 cells 800"]);
+/// # Ok::<(), std::io::Error>(())
+/// ```
 #[derive(Clone)]
 pub struct Account {
     state: sys::aes3_account,

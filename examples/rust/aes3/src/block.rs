@@ -1,12 +1,13 @@
 use crate::{Error, Status, STATUS_BYTES};
 use aes3_sys as sys;
+use core::fmt;
 
 /// Words of a block.
 pub const BLOCK_WORDS: usize = sys::AES3_BLOCK_WORDS;
 /// Cells of a block.
 pub const BLOCK_CELLS: usize = sys::AES3_BLOCK_CELLS;
 
-/// One of the two channels of a line.
+/// One of the two channels of a line. Its text is its number.
 #[derive(Clone, Copy, Debug, PartialEq, Eq)]
 pub enum Channel {
     /// Channel 1, whose subframe begins a frame.
@@ -15,11 +16,33 @@ pub enum Channel {
     Two = 2,
 }
 
-/// A block: 384 words as in a block file, a word a subframe, channel 1 first. Bits 4 to 27 of a word are the sample, 28 to 30 V, U and
-/// C, and 31 makes the ones in bits 4 to 31 even in number.
+impl fmt::Display for Channel {
+    fn fmt(&self, to: &mut fmt::Formatter<'_>) -> fmt::Result {
+        write!(to, "{}", *self as u8)
+    }
+}
+
+/// A block: 384 words as in a block file, a word a subframe, channel 1 first.
+///
+/// Bits 4 to 27 of a word are the sample, 28 to 30 V, U and C. Bit 31 makes the number of ones in bits 4 to 31 even.
+///
+/// ```
+/// use aes3::{Block, Channel, Lock, Report};
+///
+/// // A block of samples, sent and found again.
+/// let samples = [0x0123_4500; 384];
+/// let cells = Block::of_samples(&samples).encode(false)?;
+/// let mut lock = Lock::new();
+/// lock.take(&cells, |_| ())?;
+/// match lock.finish() {
+///     Some(Report::Whole { block, .. }) => assert_eq!(block.samples()?, samples),
+///     other => panic!("{other:?}"),
+/// }
+/// # Ok::<(), aes3::Error>(())
+/// ```
 #[derive(Clone, Copy, Debug, PartialEq, Eq)]
 pub struct Block {
-    /// The words, lawful or not.
+    /// The words, valid or not.
     pub words: [u32; BLOCK_WORDS],
 }
 
@@ -105,7 +128,7 @@ impl Block {
     }
 }
 
-/// What a call made, where it found 384 lawful words.
+/// What a call made, if it found 384 valid words.
 fn lawful_or<T>(lawful: u32, made: T) -> Result<T, Error> {
     match lawful as usize {
         BLOCK_WORDS => Ok(made),

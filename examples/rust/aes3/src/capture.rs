@@ -10,16 +10,30 @@ pub enum Unit {
     Pairs(u8),
 }
 
-/// How many octets are room enough for the packed cells of so many octets of samples.
+/// How many octets are room enough for the packed cells of that many octets of samples.
 pub const fn room_for(samples: usize) -> usize {
     samples / 4 + 64
 }
 
-/// Recovers the cells of a line from all samples of a capture, as the program `aes3-cells --packed-out` does: the first `octets` of `cells` are
-/// the packed cells then. A cell is so many 65,536ths of a sample, or is measured. Where `measured` is 0 no line was found.
+/// Recovers the cells of a line from all samples of a capture, as `aes3-cells --packed-out` does. The first `octets` of `cells`
+/// are then the packed cells. A cell is `period` 65,536ths of a sample, or is measured. If `measured` is 0, no line was found.
+///
+/// ```
+/// use aes3::{Block, Unit};
+///
+/// // A line in bit 3 of samples of one octet, four samples a cell.
+/// let cells = Block::silence().encode(false)?;
+/// let level = |cell: usize| (cells[cell / 64] >> (cell % 64) & 1) as u8;
+/// let samples: Vec<u8> = (0..4 * aes3::BLOCK_CELLS).map(|i| level(i / 4) << 3).collect();
+/// let mut packed = vec![0; aes3::room_for(samples.len())];
+/// let found = aes3::cells_of_samples(&samples, Unit::Octets(3), None, &mut packed)?;
+/// assert!(found.measured > 0);
+/// assert_eq!(packed[..8], aes3::octets_of_word(cells[0]));
+/// # Ok::<(), aes3::Error>(())
+/// ```
 ///
 /// # Errors
-/// [`Error::NoRoom`] where the cells don't fit.
+/// [`Error::NoRoom`] if the cells don't fit.
 pub fn cells_of_samples(
     samples: &[u8],
     unit: Unit,

@@ -13,6 +13,9 @@
 //! assert!(matches!(reports[..], [Report::Whole { at: 0, before: false, .. }]));
 //! # Ok::<(), aes3::Error>(())
 //! ```
+//!
+//! `Reports` gives the reports of a line that is read from a file or a pipe, [`Account`] the gaps between its whole blocks.
+//! [`Wav`] reads and writes the headers of WAV files.
 #![cfg_attr(not(feature = "std"), no_std)]
 #![warn(missing_docs)]
 
@@ -21,7 +24,10 @@ mod block;
 mod capture;
 mod error;
 mod lock;
+#[cfg(feature = "std")]
+mod reports;
 mod status;
+mod wav;
 mod words;
 
 pub use account::{Account, Gap};
@@ -30,5 +36,8 @@ pub use block::{Block, Channel, BLOCK_CELLS, BLOCK_WORDS};
 pub use capture::{cells_of_samples, room_for, Unit};
 pub use error::Error;
 pub use lock::{Lock, Report, Why};
+#[cfg(feature = "std")]
+pub use reports::{Form, Reports};
 pub use status::{Check, Status, STATUS_BYTES};
-pub use words::{line_of_word, octets_of_word, word_of_octets, word_of_text};
+pub use wav::{Wav, WavBits, WavFault, WavHeader, WavRead};
+pub use words::{library_version, line_of_word, octets_of_word, word_of_octets, word_of_text};

@@ -1,10 +1,11 @@
 use crate::{Consumer, Professional};
 use aes3_sys as sys;
+use core::fmt;
 
 /// Bytes of a channel status.
 pub const STATUS_BYTES: usize = sys::AES3_STATUS_BYTES;
 
-/// How a professional status stands to its check byte.
+/// Whether byte 23 of a professional status is its check byte. Its text is the word of `aes3 show`.
 #[derive(Clone, Copy, Debug, PartialEq, Eq)]
 pub enum Check {
     /// Byte 23 is the check byte.
@@ -15,7 +16,28 @@ pub enum Check {
     Bad,
 }
 
+impl fmt::Display for Check {
+    fn fmt(&self, to: &mut fmt::Formatter<'_>) -> fmt::Result {
+        to.write_str(match self {
+            Check::Good => "good",
+            Check::Absent => "absent",
+            Check::Bad => "bad",
+        })
+    }
+}
+
 /// A channel status: bit i % 8 of byte i / 8 is the C bit of frame i.
+///
+/// Its text is its use and its fields, as `aes3 show` prints them:
+///
+/// ```
+/// use aes3::{Consumer, Status};
+///
+/// let fields = Consumer { copyright: 1, rate: 2, greatest: 1, word: 5, ..Consumer::default() };
+/// let status = Status::of_consumer(&fields).expect("each code fits its field");
+/// assert!(status.to_string().starts_with("consumer payload=pcm copyright=not-asserted "));
+/// assert_eq!(status.rate(), Some(48_000));
+/// ```
 #[derive(Clone, Copy, Debug, PartialEq, Eq)]
 pub struct Status {
     /// The bytes, the first sent first.
@@ -51,6 +73,18 @@ impl Status {
         unsafe { sys::aes3_status_consumer(self.bytes.as_ptr(), &mut fields) }.then_some(fields)
     }
 
+    /// The sampling frequency in hertz, if the status names one: the one that `aes3 to-wav` writes into its header.
+    pub fn rate(&self) -> Option<u32> {
+        let code = self.bytes[0] >> 6;
+        if self.bytes[0] & 1 == 0 {
+            rate_in(&CONSUMER, self.bytes[3] & 15)
+        } else if code != 0 {
+            rate_in(&BYTE_0, code)
+        } else {
+            rate_in(&BYTE_4, self.bytes[4] >> 3 & 15)
+        }
+    }
+
     /// The check byte (CRCC) of a professional status, from its bytes 0 to 22.
     pub fn check_byte(&self) -> u8 {
         // SAFETY: the bytes are 24.
@@ -65,5 +99,36 @@ impl Status {
             sys::AES3_ABSENT => Check::Absent,
             _ => Check::Bad,
         }
+    }
+}
+
+// Codes of sampling frequencies: of IEC 60958-3 in byte 3; of AES3-2 in byte 0 and, if that is 0, in byte 4.
+const CONSUMER: [(u8, u32); 10] = [
+    (0, 44_100),
+    (2, 48_000),
+    (3, 32_000),
+    (4, 22_050),
+    (6, 24_000),
+    (8, 88_200),
+    (9, 768_000),
+    (10, 96_000),
+    (12, 176_400),
+    (14, 192_000),
+];
+const BYTE_0: [(u8, u32); 3] = [(1, 44_100), (2, 48_000), (3, 32_000)];
+const BYTE_4: [(u8, u32); 6] = [(1, 24_000), (2, 96_000), (3, 192_000), (9, 22_050), (10, 88_200), (11, 176_400)];
+
+/// The sampling frequency of a code.
+fn rate_in(codes: &[(u8, u32)], code: u8) -> Option<u32> {
+    codes.iter().find(|row| row.0 == code).map(|row| row.1)
+}
+
+impl fmt::Display for Status {
+    fn fmt(&self, to: &mut fmt::Formatter<'_>) -> fmt::Result {
+        let mut text = [0; sys::AES3_STATUS_TEXT];
+        // SAFETY: the bytes are 24, and there is room for 800 characters.
+        let len = unsafe { sys::aes3_status_text(self.bytes.as_ptr(), text.as_mut_ptr()) };
+        // It begins with a space, and is ASCII.
+        to.write_str(core::str::from_utf8(&text[1..len as usize]).map_err(|_| fmt::Error)?)
     }
 }

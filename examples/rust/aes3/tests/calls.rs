@@ -1,6 +1,10 @@
 //! Each call, with answers that are known.
 
-use aes3::{Account, Block, Channel, Check, Error, Gap, Lock, Report, Status, Why, BLOCK_CELLS, BLOCK_WORDS};
+use aes3::{
+    Account, Block, Channel, Check, Error, Form, Gap, Lock, Report, Reports, Status, Why, BLOCK_CELLS, BLOCK_WORDS,
+};
+use aes3::{Wav, WavBits, WavFault, WavRead};
+use std::io::{self, ErrorKind, Read};
 
 /// A word of a block with its parity.
 fn word(sample: u32, status: bool) -> u32 {
@@ -207,4 +211,183 @@ fn captures() {
     assert!((0..2 * 24576).all(|i| found_level(i) == level(i)));
     assert_eq!(aes3::cells_of_samples(&samples, aes3::Unit::Pairs(11), None, &mut cells[..9]), Err(Error::NoRoom));
     assert_eq!(aes3::cells_of_samples(&samples, aes3::Unit::Octets(5), None, &mut cells).unwrap().measured, 0);
+}
+
+/// Reads pieces of this size, each after an interruption, and then ends or fails.
+struct Pieces<'a> {
+    left: &'a [u8],
+    size: usize,
+    is_interrupted: bool,
+    fault: Option<ErrorKind>,
+}
+
+impl Read for Pieces<'_> {
+    fn read(&mut self, to: &mut [u8]) -> io::Result<usize> {
+        self.is_interrupted = !self.is_interrupted;
+        if self.is_interrupted {
+            return Err(ErrorKind::Interrupted.into());
+        }
+        let count = self.size.min(self.left.len()).min(to.len());
+        if let (0, Some(kind)) = (count, self.fault) {
+            return Err(kind.into());
+        }
+        to[..count].copy_from_slice(&self.left[..count]);
+        self.left = &self.left[count..];
+        Ok(count)
+    }
+}
+
+/// What the lock reports of these cells, and the end.
+fn told_of(cells: &[u64], rest: (u64, u32)) -> (Vec<Report>, Option<Report>) {
+    let mut lock = Lock::new();
+    let mut told = Vec::new();
+    lock.take(cells, |report| told.push(report)).unwrap();
+    lock.push(rest.0, rest.1, |report| told.push(report)).unwrap();
+    (told, lock.finish())
+}
+
+#[test]
+fn reports_of_what_is_read_in_each_form_and_in_pieces() {
+    let (block, _) = block();
+    let mut cells = Vec::new();
+    for _ in 0..3 {
+        cells.extend(block.encode(true).unwrap());
+    }
+    cells[BLOCK_WORDS + 10] ^= 1 << 20;
+    let octets: Vec<u8> = cells.iter().flat_map(|word| aes3::octets_of_word(*word)).collect();
+    let text: Vec<u8> = cells.iter().flat_map(|word| aes3::line_of_word(*word)).collect();
+    // The rest after the blocks: cells 1 1 0, which begin another one.
+    let (told, end) = told_of(&cells, (3, 3));
+    assert_eq!(told.len(), 3);
+    let packed = [&octets[..], &[0xc0, 5]].concat();
+    let lines = [&text[..], b"1 1\r\n0"].concat();
+    let wanted: Vec<Report> = told.iter().cloned().chain(end).collect();
+    let (mut whole, end) = told_of(&cells, (0, 0));
+    whole.extend(end);
+    let counted = [&octets[..], &[0]].concat();
+    for size in [1, 2, 3, 1000, 65536, usize::MAX] {
+        for (form, line, wanted) in [
+            (Form::Packed, &packed, &wanted),
+            (Form::Text, &lines, &wanted),
+            (Form::Raw, &octets, &whole),
+            (Form::Packed, &counted, &whole),
+            (Form::Text, &text, &whole),
+        ] {
+            let from = Pieces { left: line, size, is_interrupted: false, fault: None };
+            let mut reports = Reports::new(from, form);
+            let found: Vec<Report> = reports.by_ref().map(Result::unwrap).collect();
+            assert_eq!(&found, wanted, "{form:?} in pieces of {size}");
+            assert_eq!(reports.seen(), 3 * BLOCK_CELLS as u64 + if wanted == &whole { 0 } else { 3 });
+            assert!(reports.next().is_none());
+            // An input that fails: what was decided before, without what its end would decide.
+            let from = Pieces { left: line, size, is_interrupted: false, fault: Some(ErrorKind::BrokenPipe) };
+            let mut reports = Reports::new(from, form);
+            let (found, errors): (Vec<_>, Vec<_>) = reports.by_ref().partition(Result::is_ok);
+            let found: Vec<Report> = found.into_iter().map(Result::unwrap).collect();
+            let decided = if form == Form::Packed || wanted == &whole { &whole[..2] } else { &told[..] };
+            assert_eq!(found, decided, "{form:?} in pieces of {size}");
+            assert_eq!(errors.len(), 1);
+            assert_eq!(errors[0].as_ref().unwrap_err().kind(), ErrorKind::BrokenPipe);
+            assert!(reports.next().is_none());
+        }
+    }
+}
+
+#[test]
+fn input_that_is_rejected() {
+    let why = |line: &[u8], form| {
+        let mut reports = Reports::new(line, form);
+        let error = reports.by_ref().find_map(Result::err).unwrap();
+        assert!(reports.next().is_none());
+        assert_eq!(error.kind(), ErrorKind::InvalidData);
+        *error.get_ref().unwrap().downcast_ref::<Error>().unwrap()
+    };
+    assert_eq!(why(b"01\n2", Form::Text), Error::NotACell { at: 3 });
+    assert_eq!(why(&[b'1'; 70_000].map(|byte| byte + 1), Form::Text), Error::NotACell { at: 0 });
+    let mut late = vec![b'0'; 70_000];
+    late[69_999] = 0;
+    assert_eq!(why(&late, Form::Text), Error::NotACell { at: 69_999 });
+    for octets in [&[][..], &[1], &[8], &[0, 8], &[1, 1], &[0xff, 0xff, 3], &[0, 0, 255]] {
+        assert_eq!(why(octets, Form::Packed), Error::NotPacked { len: octets.len() as u64 });
+    }
+    for (octets, form) in [(&[0][..], Form::Packed), (&[], Form::Raw), (&[], Form::Text), (b" \r\n", Form::Text)] {
+        assert!(Reports::new(octets, form).next().is_none());
+    }
+    assert!(Error::Full.to_string().contains("2^43"));
+    assert_eq!(io::Error::from(Error::Wav { at: 0, fault: WavFault::Ended }).kind(), ErrorKind::UnexpectedEof);
+}
+
+#[test]
+fn texts() {
+    let (block, status) = block();
+    assert!(status.to_string().starts_with("professional payload=pcm emphasis=none "));
+    assert!(status.to_string().ends_with(&format!("check={}", status.check())));
+    assert_eq!(block.status(Channel::Two).unwrap().to_string().split(' ').next(), Some("consumer"));
+    for byte in 0..=255 {
+        assert!(Status { bytes: [byte; 24] }.to_string().is_ascii());
+    }
+    assert_eq!(format!("{} {} {}", Channel::One, Channel::Two, Check::Absent), "1 2 absent");
+    assert_eq!(aes3::library_version(), (0, 1, 0));
+    let report = Report::Unfinished { at: 5, cells: 7 };
+    assert_eq!((report.at(), report.is_fault(), report.to_string()), (5, false, "unfinished at 5 cells 7".into()));
+    let rate = |bytes: &[u8]| {
+        let mut status = Status { bytes: [0; 24] };
+        status.bytes[..bytes.len()].copy_from_slice(bytes);
+        status.rate()
+    };
+    assert_eq!((rate(&[0]), rate(&[0, 0, 0, 0x19]), rate(&[0, 0, 0, 1])), (Some(44_100), Some(768_000), None));
+    assert_eq!((rate(&[0xc1, 0, 0, 0, 8]), rate(&[1, 0, 0, 0, 0x10]), rate(&[1])), (Some(32_000), Some(96_000), None));
+}
+
+#[test]
+fn wav_headers_and_samples() {
+    for (bits, len) in [(WavBits::B16, 80), (WavBits::B24, 104), (WavBits::B32, 104)] {
+        let header = Wav::write(bits, 44_100, Some(3));
+        assert_eq!((header.len(), &header[..4], header.as_ref().len()), (len, &b"RIFF"[..], len));
+        for count in 0..len {
+            match Wav::read(&header[..count]) {
+                Ok(WavRead::More { needed }) => assert!(count < needed as usize && needed as usize <= len),
+                other => panic!("{other:?}"),
+            }
+            let error = Wav::read_from(&header[..count]).unwrap_err();
+            let wanted = Error::Wav { at: count as u64, fault: WavFault::Ended };
+            assert_eq!(error.get_ref().unwrap().downcast_ref(), Some(&wanted));
+        }
+        let wav = Wav::read_from(&header[..]).unwrap();
+        assert_eq!(Wav::read(&header), Ok(WavRead::Header(wav)));
+        assert_eq!((wav.start, wav.len), (len as u64, Some(6 * bits.octets() as u64)));
+        assert_eq!(
+            (wav.rate, wav.channels, wav.bits as usize, wav.frame()),
+            (44_100, 2, bits as usize, 2 * bits.octets())
+        );
+        let sound = [0x1234_5678, -1, i32::MIN, 0, 7 << 16, -7 << 16];
+        let octets: Vec<u8> = sound.iter().flat_map(|sample| bits.octets_of(*sample)).collect();
+        let mut samples = [5; 8];
+        let kept = |sample: i32| sample >> (32 - bits as u32) << (32 - bits as u32);
+        assert_eq!(wav.samples((1, 2), &octets, &mut samples), Ok(3));
+        assert_eq!(samples[..6], sound.map(kept));
+        assert_eq!(samples[6..], [5, 5]);
+        assert_eq!(wav.samples((2, 0), &octets, &mut samples[..3]), Ok(1));
+        assert_eq!(samples[..3], [kept(-1), 0, kept(i32::MIN)]);
+        for (channels, channel) in [((0, 1), 0), ((3, 1), 3), ((1, 3), 3)] {
+            assert_eq!(wav.samples(channels, &octets, &mut samples), Err(Error::NoChannel { channel }));
+        }
+    }
+    assert_eq!(Wav::read_from(&Wav::write(WavBits::B24, 48_000, None)[..]).unwrap().len, None);
+    assert_eq!(Wav::write(WavBits::B24, 48_000, Some(1 << 40))[..4], *b"RF64");
+    assert_eq!(Wav::read(b"RIFX\0\0\0\0WAVE"), Err(Error::Wav { at: 0, fault: WavFault::NotRiff }));
+    assert_eq!(Wav::read(b"RIFF\0\0\0\0AVI "), Err(Error::Wav { at: 8, fault: WavFault::NotWave }));
+    let mut header = Wav::write(WavBits::B16, 44_100, Some(0)).to_vec();
+    let format = header.windows(4).position(|it| it == b"fmt ").unwrap() + 8;
+    header[format] = 3;
+    match Wav::read(&header) {
+        Err(Error::Wav { fault, .. }) => {
+            assert_eq!((fault, fault.to_string()), (WavFault::NotPcm, "the samples are not PCM".into()))
+        }
+        other => panic!("{other:?}"),
+    }
+    // A chunk of 4 GiB that is not there takes no memory.
+    let mut long = b"RIFF\xff\xff\xff\xffWAVEJUNK\xff\xff\xff\xff".to_vec();
+    long.extend([0; 100]);
+    assert_eq!(Wav::read_from(&long[..]).unwrap_err().kind(), ErrorKind::UnexpectedEof);
 }
