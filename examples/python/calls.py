@@ -115,8 +115,8 @@ for call, least, greatest in (
     try:
         call(least)
     except ValueError as error:
-        # A word that has a bit where it must have none is lawful for its range.
-        assert "lawful" in str(error)
+        # A word that has a bit where it must have none is valid for its range.
+        assert "not valid" in str(error)
 assert is_refused(aes3.block_of_samples, 384 * [40_000_000_000]) and is_of_another_type(aes3.block_of_samples, 384 * [0.5])
 
 # Memory of other items than a call takes, and what is no row at all.

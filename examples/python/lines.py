@@ -39,7 +39,7 @@ plain = array.array("i", row)
 
 # The program's line of them, for each use and rate.
 for use in "consumer", "professional":
-    for rate in 22050, 24000, 32000, 44100, 48000, 88200, 96000, 176400, 192000:
+    for rate in (22050, 24000, 32000, 44100, 48000, 88200, 96000, 176400, 192000) + (768000,) * (use == "consumer"):
         blocks = run(octets, "from-pcm", "--preset", use, "--rate", str(rate))
         line = run(blocks, "encode", "--packed-out")
         assert aes3.encode(plain, rate, use=use, channels=2) == line, (use, rate)

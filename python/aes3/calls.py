@@ -316,9 +316,9 @@ def _packed(cells: npt.NDArray[numpy.uint8]) -> Tuple[CellWords, Rest]:
 # ---- blocks and status
 
 
-def _lawful(answer: int) -> None:
+def _check_valid(answer: int) -> None:
     if answer != 384:
-        raise ValueError(f"word {answer} is not lawful")
+        raise ValueError(f"word {answer} is not valid")
 
 
 def library_version() -> str:
@@ -328,17 +328,17 @@ def library_version() -> str:
 
 
 def encode_block(words: Numbers, before: int = 0) -> CellWords:
-    """The 384 words of cells of a block of 384 words, behind a cell of the level 0 or 1; ValueError where a word is not lawful."""
+    """The 384 words of cells of a block of 384 words, behind a cell of the level 0 or 1; ValueError where a word is not valid."""
     block, before, cells = _block_in(words), _number(before, "the level before a block", 0, 1), _Cells()
-    _lawful(_encode_block(block, before, cells))
+    _check_valid(_encode_block(block, before, cells))
     found: CellWords = _out(cells)
     return found
 
 
 def block_samples(words: Numbers) -> BlockSamples:
-    """The 384 samples of a block, channel 1 and 2 of each frame, 24 bits in the highest of 32; ValueError where a word is not lawful."""
+    """The 384 samples of a block, channel 1 and 2 of each frame, 24 bits in the highest of 32; ValueError where a word is not valid."""
     samples = _Samples()
-    _lawful(_block_samples(_block_in(words), samples))
+    _check_valid(_block_samples(_block_in(words), samples))
     found: BlockSamples = _out(samples)
     return found
 
@@ -352,7 +352,7 @@ def block_of_samples(samples: Numbers) -> BlockWords:
 
 
 def block_status(words: Numbers, channel: int) -> bytes:
-    """The channel status of channel 1 or 2 of a block; ValueError where a word is not lawful."""
+    """The channel status of channel 1 or 2 of a block; ValueError where a word is not valid."""
     return _bits_of("status", words, channel)
 
 
@@ -383,14 +383,14 @@ def with_user(words: Numbers, channel: int, bits: Octets) -> BlockWords:
 
 def _bits_of(name: str, words: Any, channel: Any) -> bytes:
     block, channel, bits = _block_in(words), _number(channel, "a channel", 1, 2), _Status()
-    _lawful(_bits[name, False](block, channel, bits))
+    _check_valid(_bits[name, False](block, channel, bits))
     return bytes(bits)
 
 
 def _with_bits(name: str, words: Any, channel: Any, bits: Any) -> BlockWords:
     block, channel = _block_in(words), _number(channel, "a channel", 1, 2)
     bits = _status_in(bits, "a channel status" if name == "status" else f"a channel's {name}")
-    _lawful(_bits[name, True](block, channel, bits))
+    _check_valid(_bits[name, True](block, channel, bits))
     found: BlockWords = _out(block)
     return found
 

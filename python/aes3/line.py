@@ -217,7 +217,7 @@ def _pieces(at: int, blocks: int, first: bytes, second: bytes) -> Iterator[bytes
             of_samples(at + 4 * _SAMPLES * (begin + i), word_at + 4 * _SAMPLES * i)
         set_status()
         for i in range(some):
-            calls._lawful(encode_block(word_at + 4 * _SAMPLES * i, 0, cell_at + _OCTETS * i))
+            calls._check_valid(encode_block(word_at + 4 * _SAMPLES * i, 0, cell_at + _OCTETS * i))
         # A bytearray is translated in half the time that bytes take.
         yield cells.translate(_REVERSED)[: some * _OCTETS]
 
@@ -233,8 +233,8 @@ def _status_setter(words: bytearray, at: int, first: bytes, second: bytes) -> Ca
 
     def set_each() -> None:
         for block in range(at, at + len(words), 4 * _SAMPLES):
-            calls._lawful(set_status(block, 1, first))
-            calls._lawful(set_status(block, 2, second))
+            calls._check_valid(set_status(block, 1, first))
+            calls._check_valid(set_status(block, 2, second))
 
     return set_each
 
@@ -280,7 +280,7 @@ def _samples_in(blocks: List[c.Array[c.c_uint32]]) -> DecodedSamples:
         to = samples.buffer_info()[0]
     samples_of = calls._block_samples
     for block in blocks:
-        calls._lawful(samples_of(block, to))
+        calls._check_valid(samples_of(block, to))
         to += 4 * _SAMPLES
     found: DecodedSamples = samples
     return found

@@ -11,7 +11,7 @@ if TYPE_CHECKING:
 
 # The codes of sampling frequencies in hertz: of consumer use (IEC 60958-3) in bits 0 to 3 of byte 3, and of professional use (AES3-2)
 # in bits 6 and 7 of byte 0 or, where these are 0, in bits 3 to 6 of byte 4.
-_CONSUMER = {44100: 0, 48000: 2, 32000: 3, 22050: 4, 24000: 6, 88200: 8, 96000: 10, 176400: 12, 192000: 14}
+_CONSUMER = {44100: 0, 48000: 2, 32000: 3, 22050: 4, 24000: 6, 88200: 8, 768000: 9, 96000: 10, 176400: 12, 192000: 14}
 _BYTE_0 = {44100: 1, 48000: 2, 32000: 3}
 _BYTE_4 = {24000: 1, 96000: 2, 192000: 3, 22050: 9, 88200: 10, 176400: 11}
 
