@@ -1,29 +1,48 @@
-/*
- * aes3.h - the AES3 / IEC 60958 line codec for C, over libaes3.a or libaes3.so.1, which bin/install
- * puts in their places; the first is libaes3_c.a of `bin/build aes3_c`.
+/**
+ * @file
+ * The AES3 / IEC 60958 line codec for C, over libaes3.a or libaes3.so.1.
  *
- * No function allocates, prints, waits, aborts or keeps anything between calls, and each returns
- * for all arguments that meet what is said here. The library wants memcpy, memmove and memset, and
- * nothing else. Different locks may be used by different threads at once, one lock by one thread at a time.
+ * bin/install puts both in their places. The archive is the libaes3_c.a of `bin/build aes3_c`.
  *
- * What the caller owes, and nothing checks: no pointer is null; each points to as many objects as
- * its type says (words and octets of the calls that take many to `count`), aligned as C wants it;
- * what a function writes overlaps no other argument of that call; a lock was made by aes3_lock_init,
- * and only the functions here write it.
+ * No function allocates, prints, waits, aborts or keeps anything between calls. Each returns for all arguments that meet what
+ * is said here. The library needs memcpy, memmove and memset, and nothing else. Different threads may use different locks at
+ * once, one lock one thread at a time.
  *
- * A cell is half of a time slot, low or high. A level is 0 for low; 1, and every other number, for
- * high. A word of cells is a uint64_t, the earliest of its 64 cells in bit 0, 1 for high.
+ * What the caller has to keep to, and nothing checks:
  *
- * A block has 384 words, as in a block file: a word a subframe, channel 1 first. Bit n of a word is
- * time slot n: bits 0 to 3 are zero, 4 to 27 the audio sample, 28 V, 29 U, 30 C, and 31 P, which
- * makes the ones in bits 4 to 31 even in number. A word that is so is lawful.
+ * - No pointer is null. Each points to the number of objects that its type or `count` says, aligned as C requires it.
+ * - What a function writes overlaps no other argument of that call.
+ * - A lock was made by aes3_lock_init(), an account by aes3_account_init(), and only the functions here write them.
  *
- * Stack in bytes that a call used (examples/c/stack.c, x86-64): aes3_lock_push 5,064,
- * aes3_lock_finish 4,792, aes3_lock_take_octets 3,976, aes3_lock_take_cells 3,432,
- * aes3_lock_take_words 3,304, aes3_capture_cells 5,408, aes3_block_of_samples 3,096, aes3_wav_write 2,104,
- * aes3_block_status, aes3_block_validity and aes3_block_user 1,592, aes3_encode_block,
- * aes3_block_set_status and its kin 1,576, aes3_lock_block and aes3_block_samples 1,560,
- * aes3_status_text 1,304, aes3_wav_read 272, aes3_wav_samples 136, each other 70 at most.
+ * The words that are used here:
+ *
+ * - A cell is half of a time slot, low or high.
+ * - A level is 0 for low; 1, and every other number, for high.
+ * - A word of cells is a `uint64_t`. The earliest of its 64 cells is in bit 0, 1 for high.
+ * - An octet of cells has eight, the first in its highest bit.
+ * - A place is the number of a cell, counted from 0 at the lock's first cell.
+ * - A block has 384 words, as in a block file: one for each subframe, channel 1 first. Bit n of a word is time slot n: bits 0
+ *   to 3 are zero, 4 to 27 the audio sample, 28 V, 29 U, 30 C, and 31 P.
+ * - A word of a block is valid, or lawful, if two things hold: bits 0 to 3 are zero, and the number of ones in bits 4 to 31 is
+ *   even.
+ *
+ * Stack in bytes that a call used (examples/c/stack.c, x86-64):
+ *
+ * - aes3_capture_cells(): 5,408
+ * - aes3_lock_push(): 5,064
+ * - aes3_lock_finish(): 4,792
+ * - aes3_lock_take_octets(): 3,976
+ * - aes3_lock_take_cells(): 3,432
+ * - aes3_lock_take_words(): 3,304
+ * - aes3_block_of_samples(): 3,096
+ * - aes3_wav_write(): 2,104
+ * - aes3_block_status(), aes3_block_validity(), aes3_block_user(): 1,592
+ * - aes3_encode_block(), aes3_block_set_status(), aes3_block_set_validity(), aes3_block_set_user(): 1,576
+ * - aes3_lock_block(), aes3_block_samples(): 1,560
+ * - aes3_status_text(): 1,304
+ * - aes3_wav_read(): 272
+ * - aes3_wav_samples(): 136
+ * - each other: 70 at most
  */
 #ifndef AES3_H
 #define AES3_H
@@ -32,13 +51,23 @@
 #include <stddef.h>
 #include <stdint.h>
 
-/* The version of this header and of the program aes3; aes3_version() tells that of the library. */
+/**
+ * @defgroup version Version
+ * @{
+ */
+
+/** The major number of the version of this header, which is that of the program aes3. */
 #define AES3_VERSION_MAJOR 0
+/** Its minor number. */
 #define AES3_VERSION_MINOR 1
+/** Its patch number. */
 #define AES3_VERSION_PATCH 0
+/** The version of this header as text. */
 #define AES3_VERSION "0.1.0"
+/** The same as one number: 65,536 times the major number, 256 times the minor one, and the patch. */
 #define AES3_VERSION_NUMBER (65536 * AES3_VERSION_MAJOR + 256 * AES3_VERSION_MINOR + AES3_VERSION_PATCH)
 
+/** @cond */
 /* The sizes that the library was built for; C11 and C++11 can say so. */
 #if defined(__cplusplus) && __cplusplus >= 201103L
 #define AES3_SIZE(type, size) static_assert(sizeof(type) == (size), #type)
@@ -47,443 +76,997 @@
 #else
 #define AES3_SIZE(type, size) struct aes3_no_size
 #endif
+/** @endcond */
 
 #ifdef __cplusplus
 extern "C" {
 #endif
 
-/* The version of the library that runs, as AES3_VERSION_NUMBER is that of this header. */
+/**
+ * The version of the library that runs.
+ *
+ * @return a number like #AES3_VERSION_NUMBER, which is that of this header
+ *
+ * @code
+ * assert(aes3_version() == AES3_VERSION_NUMBER);
+ * @endcode
+ */
 uint32_t aes3_version(void);
 
+/** @} */
+
+/** Numbers of the format, and lengths of arrays. */
 enum {
-    AES3_BLOCK_WORDS = 384,   /* words of a block, and words of its cells */
-    AES3_BLOCK_CELLS = 24576, /* cells of a block */
-    AES3_NO_CHANNEL = 385,    /* answered where a number is no channel's */
-    AES3_STATUS_BYTES = 24,   /* bytes of a channel status */
-    AES3_STATUS_TEXT = 800,   /* characters of one, written, at most */
-    AES3_WAV_OCTETS = 104     /* octets of the header of a WAV file, written, at most */
+    AES3_BLOCK_WORDS = 384,   /**< words of a block, and words of its cells */
+    AES3_BLOCK_CELLS = 24576, /**< cells of a block */
+    AES3_NO_CHANNEL = 385,    /**< what a call returns if the channel is neither 1 nor 2 */
+    AES3_STATUS_BYTES = 24,   /**< bytes of a channel status */
+    AES3_STATUS_TEXT = 800,   /**< characters of the text of a channel status, at most */
+    AES3_WAV_OCTETS = 104     /**< octets of the header of a WAV file that is written, at most */
 };
 
-/* ---- The lock: finds blocks in cells that come one behind the other ---- */
+/**
+ * @defgroup lock Lock
+ * Finds the blocks in cells that come one after the other.
+ *
+ * Which call for which cells: aes3_lock_take_octets() for octets, aes3_lock_take_cells() for words, aes3_lock_push() for a few
+ * cells. Each stops after the cell that decides a report. Call it again with the cells that are left, until the report is
+ * #AES3_NONE. At the end of the cells, aes3_lock_finish() gives the last report.
+ * @{
+ */
 
-/*
- * A lock, in memory of its caller. It may be copied by assignment: the copy goes on from there by
- * itself.
+/**
+ * A lock, in memory of its caller. It may be copied by assignment; the copy then goes on by itself.
  */
 typedef struct aes3_lock {
-    uint64_t state[388];
+    uint64_t state[388]; /**< opaque */
 } aes3_lock;
 AES3_SIZE(aes3_lock, 3104);
 
-/* What is told of a place where the preamble of a block stands. */
+/** What a report says of a place where the preamble of a block is. */
 enum aes3_kind {
-    AES3_NONE = 0,      /* nothing */
-    AES3_WHOLE = 1,     /* a whole block, all of whose parity bits are right: at, before, words */
-    AES3_MARKED = 2,    /* a whole block with wrong parity bits: at, before, wrong */
-    AES3_FAULT = 3,     /* no block: at, cell, why */
-    AES3_UNFINISHED = 4 /* a block that the end of the cells cuts: at, cell; only of aes3_lock_finish */
+    AES3_NONE = 0,      /**< there is no report */
+    AES3_WHOLE = 1,     /**< a whole block, all of whose parity bits are right: `at`, `before`, `words` */
+    AES3_MARKED = 2,    /**< a whole block with wrong parity bits: `at`, `before`, `wrong` */
+    AES3_FAULT = 3,     /**< no block: `at`, `cell`, `why` */
+    AES3_UNFINISHED = 4 /**< a block that the end of the cells cuts: `at`, `cell`; only of aes3_lock_finish() */
 };
 
-/* Why a cell shows that no block stands there. */
+/** Why a cell shows that no block is there. */
 enum aes3_why {
-    AES3_PREAMBLE = 0, /* the preamble of its subframe has the other level there */
-    AES3_BIPHASE = 1,  /* a time slot does not begin with a change of level */
-    AES3_UNCLOSED = 2  /* the cell behind a block's last does not change the level */
+    AES3_PREAMBLE = 0, /**< the preamble of its subframe has the other level there */
+    AES3_BIPHASE = 1,  /**< a time slot does not begin with a change of level */
+    AES3_UNCLOSED = 2  /**< the cell after a block's last does not change the level */
 };
 
-/* A report. A field that its kind does not name above has no meaning. */
+/** A report. Its kind says which fields have a meaning. */
 typedef struct aes3_report {
-    uint64_t at;         /* place of the block's first cell, counted from the lock's first */
-    uint64_t cell;       /* of a fault the cell's place; of an unfinished block how many cells of it there are */
-    uint32_t words[384]; /* the block */
-    uint16_t wrong;      /* how many subframes have a wrong parity bit, 1 to 384 */
-    uint8_t kind;        /* an aes3_kind */
-    uint8_t before;      /* the level before the block's first cell */
-    uint8_t why;         /* an aes3_why */
+    uint64_t at;         /**< place of the block's first cell */
+    uint64_t cell;       /**< of a fault the place of the wrong cell; of an unfinished block how many cells it has */
+    uint32_t words[384]; /**< the block */
+    uint16_t wrong;      /**< how many subframes have a wrong parity bit, 1 to 384 */
+    uint8_t kind;        /**< an #aes3_kind */
+    uint8_t before;      /**< the level before the block's first cell */
+    uint8_t why;         /**< an #aes3_why */
 } aes3_report;
 AES3_SIZE(aes3_report, 1560);
 
-/* Makes a lock that has seen no cell. */
+/**
+ * Makes a lock that has seen no cell.
+ *
+ * @param[out] lock  the lock
+ *
+ * @code
+ * static aes3_lock lock;
+ * aes3_lock_init(&lock);
+ * assert(aes3_lock_seen(&lock) == 0);
+ * @endcode
+ */
 void aes3_lock_init(aes3_lock *lock);
 
-/* How many cells it has seen. */
+/**
+ * How many cells a lock has seen.
+ *
+ * @param lock  the lock
+ * @return the number of cells, 2^43 at most
+ *
+ * @code
+ * static aes3_lock lock;
+ * aes3_report report;
+ * aes3_lock_init(&lock);
+ * aes3_lock_push(&lock, 5, 3, &report); // high, low, high
+ * assert(aes3_lock_seen(&lock) == 3);
+ * @endcode
+ */
 uint64_t aes3_lock_seen(const aes3_lock *lock);
 
-/*
- * Takes words of cells as long as no cell of a word decides a report. Answers how many it took;
- * that may be none. The next word, if there is one, goes to aes3_lock_push: a cell of it decides a
- * report, or the preamble of a block ends in it where none was begun, or a lock would have seen more
- * than 2^43 cells with it.
+/**
+ * Takes words of cells as long as no cell of a word decides a report.
+ *
+ * The word after those, if there is one, goes to aes3_lock_push(). A cell of it decides a report; or no block is begun and the
+ * preamble of one ends in it; or the lock would have seen more than 2^43 cells with it. aes3_lock_take_cells() needs no second
+ * call, and fewer instructions.
+ *
+ * @param[in,out] lock  the lock
+ * @param words  words of cells
+ * @param count  how many words
+ * @return how many words it took; that may be 0
+ *
+ * @code
+ * static aes3_lock lock;
+ * static const uint32_t zeros[384] = {0};
+ * uint64_t cells[384];
+ * aes3_report report;
+ * aes3_encode_block(zeros, 0, cells);
+ * aes3_lock_init(&lock);
+ * for (size_t at = 0; at < 384; at++) {
+ *     at += aes3_lock_take_words(&lock, cells + at, 384 - at);
+ *     if (at < 384)
+ *         aes3_lock_push(&lock, cells[at], 64, &report); // and again, if it took fewer than 64 cells
+ * }
+ * assert(aes3_lock_seen(&lock) == 24576);
+ * @endcode
  */
 size_t aes3_lock_take_words(aes3_lock *lock, const uint64_t *words, size_t count);
 
-/*
- * Takes the first `count` cells of a word, 64 at most, or as far as the first that decides a
- * report, and that one too. Puts the report, or AES3_NONE, into *report. Answers how many cells it
- * took: without a report all of them, or as many as are left to 2^43 cells, which is 16 days of a
- * line at 48 kHz; a lock that has seen so many takes none, and has to be made anew.
+/**
+ * Takes the first cells of a word, up to the cell that decides a report.
+ *
+ * @param[in,out] lock  the lock
+ * @param word  a word of cells
+ * @param count  how many of its cells to take, 64 at most
+ * @param[out] report  the report, with the words of a whole block; or #AES3_NONE
+ * @return how many cells it took. With a report that is up to the cell that decides it. Without one it is all of them, or the
+ *     number left to 2^43 cells, which is 16 days of a line at 48 kHz. A lock that has seen 2^43 cells takes none: call
+ *     aes3_lock_finish(), and make it anew.
+ *
+ * @code
+ * static aes3_lock lock;
+ * aes3_report report;
+ * uint64_t word = 0x1117; // 13 cells: the preamble of a block begins with 1 1 1 0 1
+ * uint32_t left = 13;
+ * aes3_lock_init(&lock);
+ * while (left > 0) {
+ *     const uint32_t taken = aes3_lock_push(&lock, word, left, &report);
+ *     if (taken == 0)
+ *         break; // 2^43 cells
+ *     if (report.kind == AES3_FAULT)
+ *         printf("fault at %llu\n", (unsigned long long)report.at);
+ *     word >>= taken < 64 ? taken : 63;
+ *     left -= taken;
+ * }
+ * assert(aes3_lock_seen(&lock) == 13);
+ * @endcode
  */
 uint32_t aes3_lock_push(aes3_lock *lock, uint64_t word, uint32_t count, aes3_report *report);
 
-/*
- * The same of many cells in octets, eight an octet, the first in its highest bit: takes the cells of
- * octets[0] to octets[count - 1] from the one of number `first` on, or as far as the first that
- * decides a report, and that one too. Puts the report, or AES3_NONE, into *report, but leaves its
- * words as they were: aes3_lock_block puts those of a whole block. Answers how many cells it took:
- * without a report all, or as many as are left to 2^43. The next call goes on where this one ended:
+/**
+ * Takes the cells of octets, up to the cell that decides a report.
  *
- *     size_t at = 0;
- *     do {
- *         at += aes3_lock_take_octets(&lock, octets, count, at, &report);
- *         ...
- *     } while (report.kind != AES3_NONE);
+ * @param[in,out] lock  the lock
+ * @param octets  octets of cells, the first cell in the highest bit of the first
+ * @param count  how many octets
+ * @param first  the number of the first cell to take, counted from 0 in `octets`
+ * @param[out] report  the report, or #AES3_NONE. Its words are unchanged: aes3_lock_block() gives those of a whole block.
+ * @return how many cells it took. Without a report that is all from `first` on, or the number left to 2^43 cells. The next call
+ *     begins where this one ended.
+ *
+ * @code
+ * static aes3_lock lock;
+ * static aes3_report report;
+ * static uint8_t octets[3072 + 1]; // those of a block, and one after it
+ * static const uint32_t zeros[384] = {0};
+ * uint64_t cells[384];
+ * size_t at = 0, blocks = 0;
+ * aes3_encode_block(zeros, 0, cells);
+ * for (int i = 0; i < 384; i++)
+ *     aes3_octets_of_word(cells[i], octets + 8 * i);
+ * octets[3072] = octets[0];
+ * aes3_lock_init(&lock);
+ * do {
+ *     at += aes3_lock_take_octets(&lock, octets, sizeof octets, at, &report);
+ *     blocks += report.kind == AES3_WHOLE;
+ * } while (report.kind != AES3_NONE);
+ * assert(blocks == 1 && at == 8 * sizeof octets);
+ * @endcode
  */
 size_t aes3_lock_take_octets(aes3_lock *lock, const uint8_t *octets, size_t count, size_t first, aes3_report *report);
 
-/*
- * The same of many cells in words: takes the cells of words[0] to words[count - 1] from the one of
- * number `first` on, 64 a word, and puts the report without its words. A loop that takes words by
- * aes3_lock_take_words and each next one by aes3_lock_push is told the same, but makes the words of
- * every whole block and copies the lock three times a block.
+/**
+ * Takes the cells of words, up to the cell that decides a report.
+ *
+ * A loop that takes words by aes3_lock_take_words() and each next one by aes3_lock_push() gets the same reports. But it makes the
+ * words of every whole block, and copies the lock three times a block.
+ *
+ * @param[in,out] lock  the lock
+ * @param words  words of cells
+ * @param count  how many words
+ * @param first  the number of the first cell to take, counted from 0 in `words`, 64 a word
+ * @param[out] report  the report, or #AES3_NONE. Its words are unchanged: aes3_lock_block() gives those of a whole block.
+ * @return how many cells it took. Without a report that is all from `first` on, or the number left to 2^43 cells. The next call
+ *     begins where this one ended.
+ *
+ * @code
+ * static aes3_lock lock;
+ * static aes3_report report;
+ * static const uint32_t zeros[384] = {0};
+ * uint64_t cells[385];
+ * size_t at = 0, blocks = 0;
+ * aes3_encode_block(zeros, 0, cells);
+ * cells[384] = cells[0]; // a block is reported with the first cell after it
+ * aes3_lock_init(&lock);
+ * do {
+ *     at += aes3_lock_take_cells(&lock, cells, 385, at, &report);
+ *     blocks += report.kind == AES3_WHOLE;
+ * } while (report.kind != AES3_NONE);
+ * assert(blocks == 1 && at == 64 * 385);
+ * @endcode
  */
 size_t aes3_lock_take_cells(aes3_lock *lock, const uint64_t *words, size_t count, size_t first, aes3_report *report);
 
-/*
- * Puts the words of the block of the lock's last report, where that is whole, until the lock takes
- * more cells. Where it is marked, puts what the subframes carry, with right parity bits.
+/**
+ * Puts the words of the block of the lock's last report, until the lock takes more cells.
+ *
+ * If that block is marked, it puts what the subframes carry, with right parity bits.
+ *
+ * @param lock  the lock, whose last report is of a whole or a marked block
+ * @param[out] words  the 384 words of the block
+ *
+ * @code
+ * static aes3_lock lock;
+ * static aes3_report report;
+ * static const uint32_t zeros[384] = {0};
+ * uint64_t cells[385];
+ * uint32_t words[384];
+ * aes3_encode_block(zeros, 0, cells);
+ * cells[384] = cells[0];
+ * aes3_lock_init(&lock);
+ * aes3_lock_take_cells(&lock, cells, 385, 0, &report);
+ * if (report.kind == AES3_WHOLE)
+ *     aes3_lock_block(&lock, words);
+ * assert(memcmp(words, zeros, sizeof words) == 0);
+ * @endcode
  */
 void aes3_lock_block(const aes3_lock *lock, uint32_t words[384]);
 
-/* Puts what the end of the cells decides, or AES3_NONE, into *report. The lock stays as it was. */
+/**
+ * Puts the report that the end of the cells decides. The lock is unchanged, and may take more cells.
+ *
+ * @param lock  the lock
+ * @param[out] report  the report, with the words of a whole block; or #AES3_NONE
+ *
+ * @code
+ * static aes3_lock lock;
+ * static aes3_report report;
+ * static const uint32_t zeros[384] = {0};
+ * uint64_t cells[384];
+ * aes3_encode_block(zeros, 0, cells);
+ * aes3_lock_init(&lock);
+ * aes3_lock_take_cells(&lock, cells, 384, 0, &report);
+ * assert(report.kind == AES3_NONE); // only the next cell, or the end, decides the block
+ * aes3_lock_finish(&lock, &report);
+ * assert(report.kind == AES3_WHOLE && report.at == 0);
+ * @endcode
+ */
 void aes3_lock_finish(const aes3_lock *lock, aes3_report *report);
 
-/* ---- The account: the cells of a lock that lie in no whole block ---- */
+/** @} */
 
-/*
- * What has been told of a lock's cells, by its reports and the gaps between them, in memory of its caller. It may be
- * copied by assignment.
+/**
+ * @defgroup account Account
+ * Gives the gaps between a lock's whole blocks.
+ *
+ * Each report goes to aes3_account_before() until that returns false. Then aes3_account_passed() may be asked:
+ *
+ * @code
+ * do {
+ *     at += aes3_lock_take_octets(&lock, octets, count, at, &report);
+ *     while (aes3_account_before(&account, &report, &gap))
+ *         print_gap();
+ *     print_report();
+ *     while (aes3_account_passed(&account, aes3_lock_seen(&lock), &gap))
+ *         print_gap();
+ * } while (report.kind != AES3_NONE);
+ * aes3_lock_finish(&lock, &report);
+ * while (aes3_account_before(&account, &report, &gap))
+ *     print_gap();
+ * print_report();
+ * while (aes3_account_end(&account, aes3_lock_seen(&lock), &gap))
+ *     print_gap();
+ * @endcode
+ *
+ * All gaps and reports, in this order, are the lines of `aes3 check --gaps`: each cell is in one whole block or in one gap.
+ * @{
+ */
+
+/**
+ * Which reports and gaps of a lock's cells were given, in memory of its caller. It may be copied by assignment.
  */
 typedef struct aes3_account {
-    uint64_t state[2];
+    uint64_t state[2]; /**< opaque */
 } aes3_account;
 AES3_SIZE(aes3_account, 16);
 
-/*
- * A gap: cells in a row that lie in no whole block, as `aes3 check --gaps` tells it. Where more are in a row, gaps of
- * 24,576 cells are told one behind the other, and one of those that are left.
+/**
+ * A gap: cells in a row that are in no whole block, as `aes3 check --gaps` prints it. If more than 24,576 are in a row, there are
+ * gaps of 24,576 cells one after the other, and one of those that are left.
  */
 typedef struct aes3_gap {
-    uint64_t at;    /* place of its first cell, counted from the lock's first */
-    uint64_t cells; /* how many, 1 to 24,576 */
-    uint8_t counts; /* 1 where it counts among the faults of `aes3 check --gaps`; 0 for fewer than 24,576 cells before
-                       the first or behind the last whole block, where the cells are cut */
+    uint64_t at;    /**< place of its first cell */
+    uint64_t cells; /**< how many cells, 1 to 24,576 */
+    uint8_t counts; /**< 1 if it is one of the faults of `aes3 check --gaps`; 0 for fewer than 24,576 cells before the first or
+                         after the last whole block, where the cells are cut */
 } aes3_gap;
 AES3_SIZE(aes3_gap, 24);
 
-/* Makes an account of which nothing is told, for a lock that has seen no cell. */
+/**
+ * Makes an account for a lock that has seen no cell.
+ *
+ * @param[out] account  the account
+ *
+ * @code
+ * aes3_account account;
+ * aes3_account_init(&account);
+ * @endcode
+ */
 void aes3_account_init(aes3_account *account);
 
-/*
- * Puts the next gap before a report of the lock into *gap and answers true; or, where none is left, takes the report
- * for told, leaves *gap as it was and answers false. Each report goes here in turn, until false is answered, and is
- * told then; AES3_NONE gives false and changes nothing. The report needs no words.
+/**
+ * Puts the next gap before a report, if any.
  *
- *     do {
- *         at += aes3_lock_take_cells(&lock, words, count, at, &report);
- *         while (aes3_account_before(&account, &report, &gap))
- *             ...  the gap
- *         ...      the report
- *         while (aes3_account_passed(&account, aes3_lock_seen(&lock), &gap))
- *             ...  the gap
- *     } while (report.kind != AES3_NONE);
+ * Each report of the lock goes here in turn, until the answer is false. A report of #AES3_NONE gives false, and changes nothing.
  *
- * and at the end aes3_lock_finish, aes3_account_before and aes3_account_end likewise. All gaps and reports, in this order,
- * are then the lines of `aes3 check --gaps`: each cell lies in one whole block or in one gap.
+ * @param[in,out] account  the account
+ * @param report  the report; it needs no words
+ * @param[out] gap  the gap
+ * @return true if there is a gap; else false, and `*gap` is unchanged
+ *
+ * @code
+ * aes3_account account;
+ * aes3_report report = {0};
+ * aes3_gap gap;
+ * aes3_account_init(&account);
+ * report.kind = AES3_WHOLE;
+ * report.at = 100;
+ * assert(aes3_account_before(&account, &report, &gap) && gap.at == 0 && gap.cells == 100);
+ * assert(!aes3_account_before(&account, &report, &gap));
+ * @endcode
  */
 bool aes3_account_before(aes3_account *account, const aes3_report *report, aes3_gap *gap);
 
-/*
- * Where the lock has seen `seen` cells, and each report was told, puts the next gap that stands whatever cells follow and
- * answers true: one of 24,576 cells with as many cells behind it. Answers false where there is none yet, and leaves *gap
- * as it was. So a line that is dead is told while it is. Who doesn't ask is told these gaps later, in the same order.
+/**
+ * Puts the next gap that no later cell changes, if any: one of 24,576 cells with that many cells after it.
+ *
+ * So a line without signal is reported while it has none. Without this call the same gaps come later, in the same order.
+ *
+ * @param[in,out] account  the account, to which each report of the lock was given
+ * @param seen  how many cells the lock has seen
+ * @param[out] gap  the gap
+ * @return true if there is a gap; else false, and `*gap` is unchanged
+ *
+ * @code
+ * aes3_account account;
+ * aes3_gap gap;
+ * aes3_account_init(&account);
+ * assert(!aes3_account_passed(&account, 2 * 24576 - 1, &gap));
+ * assert(aes3_account_passed(&account, 2 * 24576, &gap) && gap.at == 0 && gap.cells == 24576 && gap.counts);
+ * @endcode
  */
 bool aes3_account_passed(aes3_account *account, uint64_t seen, aes3_gap *gap);
 
-/* The same at the end of the `seen` cells: puts the next of all gaps that are left. */
+/**
+ * Puts the next of all gaps that are left at the end of the cells, if any.
+ *
+ * @param[in,out] account  the account, to which each report of the lock was given, with that of aes3_lock_finish()
+ * @param seen  how many cells the lock has seen
+ * @param[out] gap  the gap
+ * @return true if there is a gap; else false, and `*gap` is unchanged
+ *
+ * @code
+ * aes3_account account;
+ * aes3_gap gap;
+ * aes3_account_init(&account);
+ * assert(aes3_account_end(&account, 800, &gap) && gap.at == 0 && gap.cells == 800 && !gap.counts);
+ * assert(!aes3_account_end(&account, 800, &gap));
+ * @endcode
+ */
 bool aes3_account_end(aes3_account *account, uint64_t seen, aes3_gap *gap);
 
-/* ---- Blocks ---- */
+/** @} */
 
-/*
- * Puts the cells of a block behind a cell of the level `before` into cells[], a word a subframe. A
- * block ends at the level before it, so blocks follow one another with the same `before`. Answers
- * 384; or, where a word is not lawful, the number of the first that is not, and leaves cells[] as
- * it was.
+/**
+ * @defgroup block Blocks
+ * The words of a block: their cells, bits and samples.
+ *
+ * A call that needs valid words returns 384, which is #AES3_BLOCK_WORDS. If a word is not valid, it returns the number of the
+ * first such word, counted from 0, and changes nothing.
+ * @{
+ */
+
+/**
+ * Puts the cells of a block, a word for each subframe.
+ *
+ * A block ends at the level before it. So all blocks of a line have the same `before`.
+ *
+ * @param words  the words of the block
+ * @param before  the level of the cell before the block
+ * @param[out] cells  384 words of cells
+ * @return 384; or the number of the first word that is not valid, and `cells` is unchanged
+ *
+ * @code
+ * uint32_t words[384] = {0};
+ * uint64_t cells[384];
+ * assert(aes3_encode_block(words, 0, cells) == 384);
+ * words[7] = 1; // bit 0 has to be zero
+ * assert(aes3_encode_block(words, 0, cells) == 7);
+ * @endcode
  */
 uint32_t aes3_encode_block(const uint32_t words[384], uint8_t before, uint64_t cells[384]);
 
-/*
- * Puts the channel status of a block's channel, 1 or 2, into status[]: bit i % 8 of byte i / 8 is
- * the C bit of frame i. Answers 384; or, where a word is not lawful, the number of the first that
- * is not; or AES3_NO_CHANNEL where the channel is another number. Then it leaves status[] as it was.
+/**
+ * Puts the channel status of a channel.
+ *
+ * @param words  the words of the block
+ * @param channel  1 or 2
+ * @param[out] status  24 bytes: bit i % 8 of byte i / 8 is the C bit of frame i
+ * @return 384; or the number of the first word that is not valid; or #AES3_NO_CHANNEL for another channel. Then `status` is
+ *     unchanged.
+ *
+ * @code
+ * static const uint32_t words[384] = {0};
+ * uint8_t status[24];
+ * assert(aes3_block_status(words, 1, status) == 384 && status[0] == 0);
+ * assert(aes3_block_status(words, 3, status) == AES3_NO_CHANNEL);
+ * @endcode
  */
 uint32_t aes3_block_status(const uint32_t words[384], uint8_t channel, uint8_t status[24]);
 
-/*
- * The same for the V bits (validity: 0 where a sample may be made analogue) and the U bits (user
- * data) of a channel.
+/**
+ * Puts the V bits of a channel. Such a bit is 0 if the sample may be converted to analogue.
+ *
+ * @param words  the words of the block
+ * @param channel  1 or 2
+ * @param[out] bits  24 octets: bit i % 8 of octet i / 8 is the V bit of frame i
+ * @return 384; or the number of the first word that is not valid; or #AES3_NO_CHANNEL for another channel. Then `bits` is
+ *     unchanged.
+ *
+ * @code
+ * static const uint32_t words[384] = {0};
+ * uint8_t bits[24];
+ * assert(aes3_block_validity(words, 2, bits) == 384 && bits[0] == 0);
+ * @endcode
  */
 uint32_t aes3_block_validity(const uint32_t words[384], uint8_t channel, uint8_t bits[24]);
+
+/**
+ * Puts the U bits (user data) of a channel.
+ *
+ * @param words  the words of the block
+ * @param channel  1 or 2
+ * @param[out] bits  24 octets: bit i % 8 of octet i / 8 is the U bit of frame i
+ * @return 384; or the number of the first word that is not valid; or #AES3_NO_CHANNEL for another channel. Then `bits` is
+ *     unchanged.
+ *
+ * @code
+ * static const uint32_t words[384] = {0};
+ * uint8_t bits[24];
+ * assert(aes3_block_user(words, 2, bits) == 384 && bits[0] == 0);
+ * @endcode
+ */
 uint32_t aes3_block_user(const uint32_t words[384], uint8_t channel, uint8_t bits[24]);
 
-/*
- * Sets the channel status, the V bits or the U bits of a block's channel, 1 or 2, and with them the
- * parity bits, so that each word is lawful; all else stays. Answers 384; or, where a word is not
- * lawful, the number of the first that is not; or AES3_NO_CHANNEL where the channel is another
- * number. Then it leaves words[] as they were.
+/**
+ * Sets the channel status of a channel, and the parity bits. Nothing else changes, and each word is valid.
+ *
+ * @param[in,out] words  the words of the block
+ * @param channel  1 or 2
+ * @param status  24 bytes, as aes3_block_status() puts them
+ * @return 384; or the number of the first word that is not valid; or #AES3_NO_CHANNEL for another channel. Then `words` is
+ *     unchanged.
+ *
+ * @code
+ * static const uint8_t status[24] = {0x04, 0, 0, 0x02, 0x0B}; // consumer use, 48 kHz, 24 bits
+ * uint32_t words[384] = {0};
+ * uint8_t found[24];
+ * assert(aes3_block_set_status(words, 1, status) == 384);
+ * assert(aes3_block_status(words, 1, found) == 384 && memcmp(found, status, 24) == 0);
+ * @endcode
  */
 uint32_t aes3_block_set_status(uint32_t words[384], uint8_t channel, const uint8_t status[24]);
+
+/**
+ * Sets the V bits of a channel, and the parity bits. Nothing else changes, and each word is valid.
+ *
+ * @param[in,out] words  the words of the block
+ * @param channel  1 or 2
+ * @param bits  24 octets, as aes3_block_validity() puts them
+ * @return 384; or the number of the first word that is not valid; or #AES3_NO_CHANNEL for another channel. Then `words` is
+ *     unchanged.
+ *
+ * @code
+ * static const uint8_t bits[24] = {1}; // the sample of frame 0 is not valid
+ * uint32_t words[384] = {0};
+ * assert(aes3_block_set_validity(words, 1, bits) == 384);
+ * assert(words[0] == (1u << 28 | 1u << 31));
+ * @endcode
+ */
 uint32_t aes3_block_set_validity(uint32_t words[384], uint8_t channel, const uint8_t bits[24]);
+
+/**
+ * Sets the U bits of a channel, and the parity bits. Nothing else changes, and each word is valid.
+ *
+ * @param[in,out] words  the words of the block
+ * @param channel  1 or 2
+ * @param bits  24 octets, as aes3_block_user() puts them
+ * @return 384; or the number of the first word that is not valid; or #AES3_NO_CHANNEL for another channel. Then `words` is
+ *     unchanged.
+ *
+ * @code
+ * static const uint8_t bits[24] = {1};
+ * uint32_t words[384] = {0};
+ * assert(aes3_block_set_user(words, 2, bits) == 384);
+ * assert(words[1] == (1u << 29 | 1u << 31));
+ * @endcode
+ */
 uint32_t aes3_block_set_user(uint32_t words[384], uint8_t channel, const uint8_t bits[24]);
 
-/*
- * Puts the samples of a block as `aes3 to-pcm` writes them, channel 1 and then channel 2 of each
- * frame: 24 bits in the highest bits of each, and 0 in the lowest 8. It asks no V bit. Answers 384;
- * or, where a word is not lawful, the number of the first that is not, and leaves samples[] as it
- * was.
+/**
+ * Puts the samples of a block as `aes3 to-pcm` writes them. The V bits make no difference.
+ *
+ * @param words  the words of the block
+ * @param[out] samples  384 samples, channel 1 and then channel 2 of each frame: 24 bits in the highest of 32, and 0 in the
+ *     lowest 8
+ * @return 384; or the number of the first word that is not valid, and `samples` is unchanged
+ *
+ * @code
+ * uint32_t words[384] = {0};
+ * int32_t samples[384];
+ * words[0] = 0x123456u << 4 | 1u << 31;
+ * assert(aes3_block_samples(words, samples) == 384 && samples[0] == 0x12345600);
+ * @endcode
  */
 uint32_t aes3_block_samples(const uint32_t words[384], int32_t samples[384]);
 
-/*
- * Puts the words of a block of samples, 192 frames of channel 1 and channel 2, as `aes3 from-pcm`
- * makes them: the audio of a subframe is the highest 24 bits of its sample. The lowest 8 don't
- * count, and V, U and C are 0; aes3_block_set_status and its kin set these.
+/**
+ * Puts the words of a block of samples, as `aes3 from-pcm` makes them. V, U and C are 0; aes3_block_set_status() sets C.
+ *
+ * @param samples  384 samples, channel 1 and then channel 2 of each of 192 frames. The highest 24 bits of each are sent; the
+ *     lowest 8 make no difference.
+ * @param[out] words  the words of the block
+ *
+ * @code
+ * int32_t samples[384] = {0x12345600};
+ * uint32_t words[384];
+ * aes3_block_of_samples(samples, words);
+ * assert(words[0] == (0x123456u << 4 | 1u << 31));
+ * @endcode
  */
 void aes3_block_of_samples(const int32_t samples[384], uint32_t words[384]);
 
-/* ---- Words of cells, written ---- */
+/** @} */
 
-/*
- * Where each of 64 characters is '0' or '1', puts their cells into *word and answers true; else
- * changes nothing.
+/**
+ * @defgroup cells Words of cells
+ * Words of cells from text and octets, and back.
+ * @{
+ */
+
+/**
+ * Puts the word of 64 characters.
+ *
+ * @param text  64 characters, the first cell first; no 0 is needed after them
+ * @param[out] word  the word of cells
+ * @return true if each is `0` or `1`; else false, and `*word` is unchanged
+ *
+ * @code
+ * uint8_t line[65];
+ * uint64_t word;
+ * aes3_line_of_word(0x1B33, line); // cells 1 1 0 0 1 1 0 0 1 1 0 1 1, and zeros
+ * assert(aes3_word_of_text(line, &word) && word == 0x1B33);
+ * line[5] = 'x';
+ * assert(!aes3_word_of_text(line, &word));
+ * @endcode
  */
 bool aes3_word_of_text(const uint8_t text[64], uint64_t *word);
 
-/* The cells of eight octets, the first in the highest bit of the first. */
+/**
+ * The word of eight octets.
+ *
+ * @param octets  octets of cells, the first cell in the highest bit of the first
+ * @return the word of cells
+ *
+ * @code
+ * static const uint8_t octets[8] = {0x80};
+ * assert(aes3_word_of_octets(octets) == 1);
+ * @endcode
+ */
 uint64_t aes3_word_of_octets(const uint8_t octets[8]);
 
-/*
- * Puts the words of many octets, eight octets a word, as long as there are eight more and room for a
- * word: `count` octets, and `room` words. Answers how many words it put.
+/**
+ * Puts the words of octets, as long as there are eight more octets and room for a word.
+ *
+ * @param octets  octets of cells
+ * @param count  how many octets
+ * @param[out] words  words of cells
+ * @param room  how many words there is room for
+ * @return how many words it put
+ *
+ * @code
+ * static const uint8_t octets[20] = {0x80, 0, 0, 0, 0, 0, 0, 0, 0x40};
+ * uint64_t words[3];
+ * assert(aes3_words_of_octets(octets, 20, words, 3) == 2);
+ * assert(words[0] == 1 && words[1] == 2);
+ * @endcode
  */
 size_t aes3_words_of_octets(const uint8_t *octets, size_t count, uint64_t *words, size_t room);
 
-/* Puts the cells of a word as 64 characters and a line feed. */
+/**
+ * Puts the cells of a word as text.
+ *
+ * @param word  the word of cells
+ * @param[out] line  64 characters `0` and `1`, and a line feed; no 0 at the end
+ *
+ * @code
+ * uint8_t line[65];
+ * aes3_line_of_word(5, line);
+ * assert(memcmp(line, "10100", 5) == 0 && line[64] == '\n');
+ * @endcode
+ */
 void aes3_line_of_word(uint64_t word, uint8_t line[65]);
 
-/*
- * Puts the cells of a word as eight octets. Packed cells end with one more: how many of the cells
- * are unused, here 0.
+/**
+ * Puts the cells of a word as eight octets. Packed cells end with one octet more, the number of unused cells; here that is 0.
+ *
+ * @param word  the word of cells
+ * @param[out] octets  eight octets, the first cell in the highest bit of the first
+ *
+ * @code
+ * uint8_t octets[8];
+ * aes3_octets_of_word(5, octets);
+ * assert(octets[0] == 0xA0 && octets[1] == 0);
+ * @endcode
  */
 void aes3_octets_of_word(uint64_t word, uint8_t octets[8]);
 
-/* ---- Channel status, of 24 bytes ---- */
+/** @} */
 
-/*
- * The fields of a status for professional use (AES3-2). A field of bits is a number, its lowest bit
- * the first sent.
+/**
+ * @defgroup status Channel status
+ * The 24 bytes of a channel status: their fields, check byte and text.
+ * @{
+ */
+
+/**
+ * The fields of a status for professional use (AES3-2). A field of bits is a number; its lowest bit is the first that is sent.
  */
 typedef struct aes3_professional {
-    uint8_t payload;        /* byte 0 bit 1: 0 linear PCM, 1 other */
-    uint8_t emphasis;       /* byte 0 bits 2 to 4: pre-emphasis */
-    uint8_t unlocked;       /* byte 0 bit 5: the source's sampling frequency is unlocked */
-    uint8_t rate;           /* byte 0 bits 6 and 7: sampling frequency */
-    uint8_t mode;           /* byte 1 bits 0 to 3: channel mode */
-    uint8_t user;           /* byte 1 bits 4 to 7: management of the user bits */
-    uint8_t aux;            /* byte 2 bits 0 to 2: use of the auxiliary bits */
-    uint8_t word;           /* byte 2 bits 3 to 5: sample word length, a code under that of aux */
-    uint8_t b2high;         /* byte 2 bits 6 and 7: alignment level */
-    uint8_t b3;             /* byte 3: multichannel use */
-    uint8_t b4;             /* byte 4: reference signal, further sampling frequencies */
-    uint8_t b5;             /* byte 5 */
-    uint8_t origin[4];      /* bytes 6 to 9: four characters */
-    uint8_t destination[4]; /* bytes 10 to 13: four characters */
-    uint32_t local;         /* bytes 14 to 17: local sample address */
-    uint32_t time;          /* bytes 18 to 21: sample address of the time of day */
-    uint8_t unreliable;     /* byte 22 bits 4 to 7: bytes 0 to 5, 6 to 13, 14 to 17, 18 to 21 are unreliable */
-    uint8_t b22low;         /* byte 22 bits 0 to 3 */
+    uint8_t payload;        /**< byte 0 bit 1: 0 linear PCM, 1 other */
+    uint8_t emphasis;       /**< byte 0 bits 2 to 4: pre-emphasis */
+    uint8_t unlocked;       /**< byte 0 bit 5: the source's sampling frequency is unlocked */
+    uint8_t rate;           /**< byte 0 bits 6 and 7: sampling frequency */
+    uint8_t mode;           /**< byte 1 bits 0 to 3: channel mode */
+    uint8_t user;           /**< byte 1 bits 4 to 7: management of the user bits */
+    uint8_t aux;            /**< byte 2 bits 0 to 2: use of the auxiliary bits */
+    uint8_t word;           /**< byte 2 bits 3 to 5: sample word length, a code under that of aux */
+    uint8_t b2high;         /**< byte 2 bits 6 and 7: alignment level */
+    uint8_t b3;             /**< byte 3: multichannel use */
+    uint8_t b4;             /**< byte 4: reference signal, further sampling frequencies */
+    uint8_t b5;             /**< byte 5 */
+    uint8_t origin[4];      /**< bytes 6 to 9: four characters */
+    uint8_t destination[4]; /**< bytes 10 to 13: four characters */
+    uint32_t local;         /**< bytes 14 to 17: local sample address */
+    uint32_t time;          /**< bytes 18 to 21: sample address of the time of day */
+    uint8_t unreliable;     /**< byte 22 bits 4 to 7: bytes 0 to 5, 6 to 13, 14 to 17, 18 to 21 are unreliable */
+    uint8_t b22low;         /**< byte 22 bits 0 to 3 */
 } aes3_professional;
 AES3_SIZE(aes3_professional, 32);
 
-/* The fields of a status for consumer use (IEC 60958-3), likewise. */
+/** The fields of a status for consumer use (IEC 60958-3), likewise. */
 typedef struct aes3_consumer {
-    uint8_t payload;    /* byte 0 bit 1: 0 linear PCM, 1 other */
-    uint8_t copyright;  /* byte 0 bit 2: 0 asserted, 1 not asserted */
-    uint8_t emphasis;   /* byte 0 bits 3 to 5: of linear PCM the pre-emphasis */
-    uint8_t mode;       /* byte 0 bits 6 and 7: status mode */
-    uint8_t category;   /* byte 1 bits 0 to 6: category code without its last bit */
-    uint8_t generation; /* byte 1 bit 7: generation status */
-    uint8_t source;     /* byte 2 bits 0 to 3: source number */
-    uint8_t number;     /* byte 2 bits 4 to 7: channel number */
-    uint8_t rate;       /* byte 3 bits 0 to 3: sampling frequency */
-    uint8_t accuracy;   /* byte 3 bits 4 and 5: clock accuracy */
-    uint8_t b3high;     /* byte 3 bits 6 and 7 */
-    uint8_t greatest;   /* byte 4 bit 0: greatest sample word length, 0 for 20 bits, 1 for 24 */
-    uint8_t word;       /* byte 4 bits 1 to 3: sample word length, a code under that of greatest */
-    uint8_t original;   /* byte 4 bits 4 to 7: original sampling frequency */
-    uint8_t rest[19];   /* bytes 5 to 23 */
+    uint8_t payload;    /**< byte 0 bit 1: 0 linear PCM, 1 other */
+    uint8_t copyright;  /**< byte 0 bit 2: 0 asserted, 1 not asserted */
+    uint8_t emphasis;   /**< byte 0 bits 3 to 5: of linear PCM the pre-emphasis */
+    uint8_t mode;       /**< byte 0 bits 6 and 7: status mode */
+    uint8_t category;   /**< byte 1 bits 0 to 6: category code without its last bit */
+    uint8_t generation; /**< byte 1 bit 7: generation status */
+    uint8_t source;     /**< byte 2 bits 0 to 3: source number */
+    uint8_t number;     /**< byte 2 bits 4 to 7: channel number */
+    uint8_t rate;       /**< byte 3 bits 0 to 3: sampling frequency */
+    uint8_t accuracy;   /**< byte 3 bits 4 and 5: clock accuracy */
+    uint8_t b3high;     /**< byte 3 bits 6 and 7 */
+    uint8_t greatest;   /**< byte 4 bit 0: greatest sample word length, 0 for 20 bits, 1 for 24 */
+    uint8_t word;       /**< byte 4 bits 1 to 3: sample word length, a code under that of greatest */
+    uint8_t original;   /**< byte 4 bits 4 to 7: original sampling frequency */
+    uint8_t rest[19];   /**< bytes 5 to 23 */
 } aes3_consumer;
 AES3_SIZE(aes3_consumer, 33);
 
-/*
- * Where a status is for professional use, puts its fields and answers true; else changes nothing.
+/**
+ * Puts the fields of a status for professional use.
+ *
+ * @param status  the bytes of a status
+ * @param[out] fields  its fields
+ * @return true if the status is for professional use (byte 0 bit 0 is 1); else false, and `*fields` is unchanged
+ *
+ * @code
+ * static const uint8_t status[24] = {0x85, 0x02, 0x2C};
+ * aes3_professional fields;
+ * assert(aes3_status_professional(status, &fields));
+ * assert(fields.rate == 2 && fields.mode == 2); // 48 kHz, stereophonic
+ * @endcode
  */
 bool aes3_status_professional(const uint8_t status[24], aes3_professional *fields);
 
-/* Where a status is for consumer use, puts its fields and answers true; else changes nothing. */
+/**
+ * Puts the fields of a status for consumer use.
+ *
+ * @param status  the bytes of a status
+ * @param[out] fields  its fields
+ * @return true if the status is for consumer use (byte 0 bit 0 is 0); else false, and `*fields` is unchanged
+ *
+ * @code
+ * static const uint8_t status[24] = {0x04, 0, 0, 0x02, 0x0B};
+ * aes3_consumer fields;
+ * assert(aes3_status_consumer(status, &fields));
+ * assert(fields.rate == 2 && fields.greatest == 1 && fields.word == 5); // 48 kHz, 24 bits
+ * @endcode
+ */
 bool aes3_status_consumer(const uint8_t status[24], aes3_consumer *fields);
 
-/*
- * Puts the status for professional use that has these fields and their check byte, and answers true;
- * or, where a field of n bits has a code above 2^n - 1, answers false and changes nothing.
- * aes3_status_professional gives the same fields back.
+/**
+ * Puts the status for professional use that has these fields, with its check byte.
+ *
+ * @param fields  the fields; a field of n bits has a code up to 2^n - 1
+ * @param[out] status  the bytes of the status
+ * @return true; or false if a code is greater, and `status` is unchanged
+ *
+ * @code
+ * aes3_professional fields = {0};
+ * uint8_t status[24];
+ * fields.rate = 2;
+ * assert(aes3_status_of_professional(&fields, status) && status[0] == 0x81);
+ * fields.rate = 4; // it has two bits
+ * assert(!aes3_status_of_professional(&fields, status));
+ * @endcode
  */
 bool aes3_status_of_professional(const aes3_professional *fields, uint8_t status[24]);
 
-/* The same for consumer use, which has no check byte. */
+/**
+ * Puts the status for consumer use that has these fields. It has no check byte.
+ *
+ * @param fields  the fields; a field of n bits has a code up to 2^n - 1
+ * @param[out] status  the bytes of the status
+ * @return true; or false if a code is greater, and `status` is unchanged
+ *
+ * @code
+ * aes3_consumer fields = {0};
+ * uint8_t status[24];
+ * fields.copyright = 1;
+ * fields.rate = 2;
+ * assert(aes3_status_of_consumer(&fields, status) && status[0] == 4 && status[3] == 2);
+ * @endcode
+ */
 bool aes3_status_of_consumer(const aes3_consumer *fields, uint8_t status[24]);
 
-/* The check byte (CRCC) of a professional status, from its bytes 0 to 22 (AES3-2, byte 23). */
+/**
+ * The check byte (CRCC) of a status for professional use, which belongs into byte 23 (AES3-2).
+ *
+ * @param status  the bytes of the status; byte 23 makes no difference
+ * @return the check byte of bytes 0 to 22
+ *
+ * @code
+ * uint8_t status[24] = {0x85, 0x02, 0x2C};
+ * status[23] = aes3_status_check_byte(status);
+ * assert(aes3_status_check_state(status) == AES3_GOOD);
+ * @endcode
+ */
 uint8_t aes3_status_check_byte(const uint8_t status[24]);
 
+/** Whether byte 23 of a status for professional use is its check byte. */
 enum aes3_check {
-    AES3_GOOD = 0,   /* byte 23 is the check byte */
-    AES3_ABSENT = 1, /* it is not, and is zero, as from a source that sends none */
-    AES3_BAD = 2     /* it is not, and is not zero */
+    AES3_GOOD = 0,   /**< it is the check byte */
+    AES3_ABSENT = 1, /**< it is not, and is zero, as from a source that sends none */
+    AES3_BAD = 2     /**< it is not, and is not zero */
 };
 
-/* How a professional status stands to its check byte, an aes3_check. */
+/**
+ * Whether byte 23 of a status for professional use is its check byte.
+ *
+ * @param status  the bytes of the status
+ * @return an #aes3_check
+ *
+ * @code
+ * uint8_t status[24] = {0x85, 0x02, 0x2C};
+ * assert(aes3_status_check_state(status) == AES3_ABSENT);
+ * status[23] = (uint8_t)(aes3_status_check_byte(status) ^ 1);
+ * assert(aes3_status_check_state(status) == AES3_BAD);
+ * @endcode
+ */
 uint8_t aes3_status_check_state(const uint8_t status[24]);
 
-/*
- * Puts the use and the fields of a status as `aes3 show` writes them, as " professional payload=pcm
- * emphasis=none ..": each behind a space, with the word of its code, and no 0 at the end. Answers
- * how many characters; those behind them stay.
+/**
+ * Puts the use and the fields of a status as `aes3 show` prints them: ` professional payload=pcm emphasis=none ..`.
+ *
+ * @param status  the bytes of the status
+ * @param[out] text  the text, each word after a space, and no 0 at the end; 800 characters at most
+ * @return how many characters it put; those after them are unchanged
+ *
+ * @code
+ * static const uint8_t status[24] = {0x04, 0, 0, 0x02, 0x0B};
+ * char text[800];
+ * const uint32_t length = aes3_status_text(status, text);
+ * assert(length > 30 && memcmp(text, " consumer payload=pcm", 21) == 0);
+ * @endcode
  */
 uint32_t aes3_status_text(const uint8_t status[24], char text[800]);
 
-/* ---- Captures: the samples of a logic analyser ---- */
+/** @} */
 
-/* What was found of a line among samples. */
+/**
+ * @defgroup capture Captures
+ * The samples of a logic analyser.
+ * @{
+ */
+
+/** What was found of a line among samples. */
 typedef struct aes3_capture {
-    uint64_t octets;   /* octets of packed cells that were put */
-    uint64_t samples;  /* samples taken */
-    uint64_t cells;    /* cells recovered of them */
-    uint64_t period;   /* how long a cell was last, in 65,536ths of a sample; 0 where none was given or found */
-    uint64_t edges;    /* edges followed */
-    uint64_t greatest; /* the greatest distance of an edge from its place, in 256ths of a sample */
-    uint64_t squares;  /* the sum of the squares of these distances */
-    uint64_t dead;     /* stretches in which the line was dead */
-    uint64_t dead_at;  /* the sample at which the latest of them began */
-    uint64_t measured; /* how often the line was measured; 0 where none was found */
+    uint64_t octets;   /**< octets of packed cells that were put */
+    uint64_t samples;  /**< samples taken */
+    uint64_t cells;    /**< cells recovered of them */
+    uint64_t period;   /**< how long a cell was last, in 65,536ths of a sample; 0 if none was given or found */
+    uint64_t edges;    /**< edges followed */
+    uint64_t greatest; /**< the greatest distance of an edge from its place, in 256ths of a sample */
+    uint64_t squares;  /**< the sum of the squares of these distances */
+    uint64_t dead;     /**< stretches without signal */
+    uint64_t dead_at;  /**< the sample at which the latest of them began */
+    uint64_t measured; /**< how often the line was measured; 0 if no line was found */
 } aes3_capture;
 AES3_SIZE(aes3_capture, 80);
 
-/*
- * Recovers the cells of a line from all samples of a capture, in `count` octets: of `unit` octets a
- * sample, 1 or 2, the lower first, of which bit `bit` is the line, 0 to 7 or 0 to 15. Any `unit` but 2
- * counts as 1, and of a `bit` past the last its remainder by 8 or 16. A cell is
- * `period` 65,536ths of a sample, 132,096 to 524,288,000 (2.015625 to 8,000 samples); where that is 0
- * it is measured, within the same limits. Puts the cells into cells[], packed as `aes3-cells
- * --packed-out` writes them, and what was found into *found. Answers whether they all fitted into the
- * `room` octets. If not, cells[] has the first `room` of these octets, and *found the figures of all
- * samples. cells[] is unchanged after found->octets octets. A quarter of `count`, and 64 octets, are
- * room enough for any samples.
+/**
+ * Recovers the cells of a line from all samples of a capture, packed as `aes3-cells --packed-out` writes them.
  *
- * Where found->measured is 0, no line was found. If `period` is 0 or outside its limits, there are no
- * cells then. Otherwise the cells are counted by `period` alone, and no measurement confirmed them: the
- * samples are no line of that period, or too few edges came to check it. 129 up to the end are enough.
+ * If found->measured is 0, no line was found. If then `period` is 0 or outside its limits, there are no cells. Otherwise the cells
+ * are counted by `period` alone, and no measurement confirmed them. Then the samples are not a line of that period, or too few
+ * edges came to check it: 129 up to the end are enough.
+ *
+ * @param samples  octets of samples, of two the lower first
+ * @param count  how many octets
+ * @param unit  octets a sample, 1 or 2; any other number counts as 1
+ * @param bit  the bit of a sample that is the line, 0 to 7 or 0 to 15; of a greater number its remainder by 8 or 16
+ * @param period  how long a cell is, in 65,536ths of a sample: 132,096 to 524,288,000 (2.015625 to 8,000 samples). If it is 0,
+ *     it is measured, within the same limits.
+ * @param[out] cells  packed cells; unchanged after found->octets octets
+ * @param room  how many octets there is room for; a quarter of `count`, and 64, are enough for any samples
+ * @param[out] found  what was found of the line, in all samples
+ * @return true if all cells fit; else false, and `cells` has the first `room` octets of them
+ *
+ * @code
+ * static uint8_t samples[4 * 24576], packed[24576 + 64];
+ * static const uint32_t zeros[384] = {0};
+ * uint64_t cells[384];
+ * aes3_capture found;
+ * aes3_encode_block(zeros, 0, cells);
+ * for (size_t i = 0; i < sizeof samples; i++) // four samples a cell, in bit 3
+ *     samples[i] = (uint8_t)((cells[i / 256] >> i / 4 % 64 & 1) << 3);
+ * assert(aes3_capture_cells(samples, sizeof samples, 1, 3, 0, packed, sizeof packed, &found));
+ * assert(found.measured > 0 && found.cells == 24576 && found.octets == 3073);
+ * @endcode
  */
 bool aes3_capture_cells(const uint8_t *samples, size_t count, uint8_t unit, uint8_t bit, uint64_t period,
                         uint8_t *cells, size_t room, aes3_capture *found);
 
-/* ---- WAV files: RIFF, RF64 and BW64, with PCM samples of 8, 16, 20, 24 or 32 bits ---- */
+/** @} */
 
-/* What aes3_wav_read answers. From 2 on the header is rejected, whatever octets follow. */
+/**
+ * @defgroup wav WAV files
+ * RIFF, RF64 and BW64, with PCM samples of 8, 16, 20, 24 or 32 bits.
+ * @{
+ */
+
+/** What aes3_wav_read() returns. From 2 on the header is rejected, whatever octets follow. */
 enum aes3_wav_answer {
-    AES3_WAV_MORE = 0,         /* the header is not whole: more octets are needed */
-    AES3_WAV_HEADER = 1,       /* the header is whole */
-    AES3_WAV_NOT_RIFF = 2,     /* the file begins with none of RIFF, RF64 and BW64 */
-    AES3_WAV_NOT_WAVE = 3,     /* it is a RIFF file of another kind than WAVE */
-    AES3_WAV_SHORT_SIZES = 4,  /* the chunk `ds64` is too short */
-    AES3_WAV_SHORT_FORMAT = 5, /* the chunk `fmt ` is too short */
-    AES3_WAV_NOT_PCM = 6,      /* the samples are not PCM, but for example floating point */
-    AES3_WAV_NO_CHANNELS = 7,  /* the samples have no channels */
-    AES3_WAV_WRONG_BITS = 8,   /* a sample has other bits than 8, 16, 20, 24 or 32, or more than its octets hold */
-    AES3_WAV_WRONG_FRAME = 9,  /* a frame has another number of octets than the samples of its channels */
-    AES3_WAV_NO_FORMAT = 10,   /* the samples come before their format */
-    AES3_WAV_ENDED = 11        /* for callers: the file ended where more octets are needed; no octets show it */
+    AES3_WAV_MORE = 0,         /**< the header is not whole: more octets are needed */
+    AES3_WAV_HEADER = 1,       /**< the header is whole */
+    AES3_WAV_NOT_RIFF = 2,     /**< the file begins with none of RIFF, RF64 and BW64 */
+    AES3_WAV_NOT_WAVE = 3,     /**< it is a RIFF file of another kind than WAVE */
+    AES3_WAV_SHORT_SIZES = 4,  /**< the chunk `ds64` is too short */
+    AES3_WAV_SHORT_FORMAT = 5, /**< the chunk `fmt ` is too short */
+    AES3_WAV_NOT_PCM = 6,      /**< the samples are not PCM, but for example floating point */
+    AES3_WAV_NO_CHANNELS = 7,  /**< the samples have no channels */
+    AES3_WAV_WRONG_BITS = 8,   /**< a sample has other bits than 8, 16, 20, 24 or 32, or more than its octets hold */
+    AES3_WAV_WRONG_FRAME = 9,  /**< a frame has another number of octets than the samples of its channels */
+    AES3_WAV_NO_FORMAT = 10,   /**< the samples come before their format */
+    AES3_WAV_ENDED = 11        /**< for callers: the file ended where more octets are needed; no octets show it */
 };
 
-/* A number of octets or of frames that is not known: samples go on to the end of their file. */
+/** A number of octets or of frames that is not known: the samples go on to the end of their file. */
 #define AES3_WAV_UNKNOWN ((uint64_t)-1)
 
-/* What the header of a WAV file says. */
+/** What the header of a WAV file says. */
 typedef struct aes3_wav {
-    uint64_t start;    /* the octet of the file at which the samples begin, counted from 0 */
-    uint64_t len;      /* octets of all samples, or AES3_WAV_UNKNOWN */
-    uint32_t rate;     /* frames a second */
-    uint16_t channels; /* samples a frame, 1 at least */
-    uint8_t octets;    /* octets a sample, 1 to 4, the lowest first; a frame has channels * octets */
-    uint8_t bits;      /* how many of its bits count, the highest ones: 8, 16, 20, 24 or 32 */
+    uint64_t start;    /**< the octet of the file at which the samples begin, counted from 0 */
+    uint64_t len;      /**< octets of all samples, or AES3_WAV_UNKNOWN */
+    uint32_t rate;     /**< frames a second */
+    uint16_t channels; /**< samples a frame, 1 at least */
+    uint8_t octets;    /**< octets a sample, 1 to 4, the lowest first; a frame has channels * octets */
+    uint8_t bits;      /**< how many of its bits count, the highest ones: 8, 16, 20, 24 or 32 */
 } aes3_wav;
 AES3_SIZE(aes3_wav, 24);
 
-/*
- * Judges the header of a WAV file by the file's first `count` octets, and answers an aes3_wav_answer.
+/**
+ * Judges the header of a WAV file by the file's first octets.
  *
- * AES3_WAV_HEADER: puts what the header says into *wav, and leaves *at as it was.
- * AES3_WAV_MORE: puts into *at how many of the file's first octets are needed at least, more than `count`.
- * Else the header is rejected: puts the octet that is wrong, counted from 0, into *at.
- * Without AES3_WAV_HEADER, *wav stays as it was.
+ * If there are no more octets to read and more are needed, the file ended inside its header. A header that says 0 octets of
+ * samples, or the greatest number, says none: wav->len is #AES3_WAV_UNKNOWN then. Otherwise other chunks may follow the samples.
  *
- *     uint64_t at = 0;
- *     size_t count = 0;
- *     uint8_t answer;
- *     while ((answer = aes3_wav_read(octets, count, &wav, &at)) == AES3_WAV_MORE) {
- *         ...  read on, up to the octets[] before number `at`: more room may be needed, as a header may be long
- *     }
+ * @param octets  the first octets of the file
+ * @param count  how many octets
+ * @param[out] wav  what the header says, if it is whole; else unchanged
+ * @param[out] at  if more octets are needed, how many of the file's first octets at least, more than `count`; if the header is
+ *     rejected, the octet that is wrong, counted from 0; else unchanged
+ * @return an #aes3_wav_answer
  *
- * The file ended inside its header if there are no more octets to read. A header that says 0 octets of
- * samples, or the greatest number, says none: wav.len is AES3_WAV_UNKNOWN then. Otherwise other chunks
- * may follow the samples.
+ * @code
+ * uint8_t octets[AES3_WAV_OCTETS], answer;
+ * const uint32_t length = aes3_wav_write(16, 48000, 192, octets);
+ * uint64_t at = 0;
+ * size_t count = 0;
+ * aes3_wav wav;
+ * while ((answer = aes3_wav_read(octets, count, &wav, &at)) == AES3_WAV_MORE)
+ *     count = (size_t)at; // here read on, up to the octet before number `at`; a header may be long
+ * assert(answer == AES3_WAV_HEADER && wav.start == length && wav.len == 768 && wav.rate == 48000);
+ * @endcode
  */
 uint8_t aes3_wav_read(const uint8_t *octets, size_t count, aes3_wav *wav, uint64_t *at);
 
-/*
- * Puts the samples of two channels, channel `first` and then channel `second` of each frame, as
- * aes3_block_of_samples takes them: the highest bit of a sample is the highest of 32, and bits that
- * don't count are 0. Takes the whole frames of octets[0] to octets[count - 1], as far as samples[] has
- * room: `room` samples, two of them a frame. Answers how many frames it took. samples[] is unchanged
- * after theirs.
+/**
+ * Puts the samples of two channels of a WAV file, as aes3_block_of_samples() takes them.
  *
- * Channels are counted from 1. If `second` is 0, its samples are zero. If the file has no such channels,
- * that is if `first` is 0 or one is greater than wav->channels, the answer is 0.
+ * It takes whole frames, as long as there are octets and room for two samples.
+ *
+ * @param wav  what the header says
+ * @param first  the channel of the first sample of each pair, counted from 1
+ * @param second  the channel of the second one; if it is 0, its samples are zero
+ * @param octets  octets of frames
+ * @param count  how many octets
+ * @param[out] samples  two samples for each frame: the highest bit of a sample is the highest of 32, and bits that don't count
+ *     are 0. Those after them are unchanged.
+ * @param room  how many samples there is room for
+ * @return how many frames it took; 0 if `first` is 0, or if one of the two is greater than wav->channels
+ *
+ * @code
+ * static const uint8_t frame[4] = {0x01, 0x02, 0x03, 0x04};
+ * const aes3_wav wav = {80, 4, 48000, 2, 2, 16};
+ * int32_t samples[2];
+ * assert(aes3_wav_samples(&wav, 1, 2, frame, 4, samples, 2) == 1);
+ * assert(samples[0] == 0x02010000 && samples[1] == 0x04030000);
+ * @endcode
  */
 size_t aes3_wav_samples(const aes3_wav *wav, uint16_t first, uint16_t second, const uint8_t *octets, size_t count,
                         int32_t *samples, size_t room);
 
-/*
- * Puts the header of a WAV file whose `frames` frames have two channels, with samples of 16, 24 or 32
- * bits, as `aes3 to-wav -o` writes it: from 4 GiB on the file is RF64. Answers how many octets it put,
- * 80 or 104, always the same for the same `bits`; or 0 for other bits. octets[] is unchanged after them.
+/**
+ * Puts the header of a WAV file of two channels, as `aes3 to-wav -o` writes it. From 4 GiB on the file is RF64.
  *
- * If `frames` is AES3_WAV_UNKNOWN, or 2^60 or more, the header says that the length is not known, as
- * that of `aes3 to-wav` without `-o`. The header with the right number can be written over it later.
- * Samples follow it, channel 1 and 2 of each frame, each with its highest `bits` bits in octets, the
- * lowest octet first.
+ * Samples follow it, channel 1 and 2 of each frame. Each has its highest `bits` bits in octets, the lowest octet first. The
+ * header with the right number of frames can be written over one without it later: for the same `bits` it is always as long.
+ *
+ * @param bits  bits a sample: 16, 24 or 32
+ * @param rate  frames a second
+ * @param frames  how many frames; if it is #AES3_WAV_UNKNOWN, or 2^60 or more, the header says that the length is not known
+ * @param[out] octets  the header; unchanged after it
+ * @return how many octets it put, 80 or 104; 0 for other bits
+ *
+ * @code
+ * uint8_t octets[104];
+ * assert(aes3_wav_write(24, 48000, 192, octets) == 104 && memcmp(octets, "RIFF", 4) == 0);
+ * assert(aes3_wav_write(20, 48000, 192, octets) == 0);
+ * @endcode
  */
 uint32_t aes3_wav_write(uint8_t bits, uint32_t rate, uint64_t frames, uint8_t octets[104]);
+
+/** @} */
 
 #undef AES3_SIZE
 

@@ -13,7 +13,7 @@ int main(void) {
         }
         uint32_t word = aes3_encode_block(words, 0, cells);
         if (word != AES3_BLOCK_WORDS) {
-            fprintf(stderr, "encode: word %lu of a block is not lawful\n", (unsigned long)word);
+            fprintf(stderr, "encode: word %lu of a block is not valid\n", (unsigned long)word);
             return 3;
         }
         for (int i = 0; i < AES3_BLOCK_WORDS; i++) {

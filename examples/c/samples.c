@@ -59,7 +59,7 @@ static int tell_samples(void) {
             words[i] = word_of_bytes(bytes + 4 * i);
         uint32_t word = aes3_block_samples(words, samples);
         if (word != AES3_BLOCK_WORDS) {
-            fprintf(stderr, "samples: word %lu of a block is not lawful\n", (unsigned long)word);
+            fprintf(stderr, "samples: word %lu of a block is not valid\n", (unsigned long)word);
             return 3;
         }
         for (int i = 0; i < AES3_BLOCK_WORDS; i++)

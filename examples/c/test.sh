@@ -1,7 +1,7 @@
 #!/bin/sh
 # test.sh [PROGRAM [LIBRARY]]: builds the examples over libaes3_c.a by each compiler that is here, with all warnings as errors and
 # with its checks of addresses and undefined behaviour, runs them, and compares what they tell with what PROGRAM tells;
-# that the header declares what the library has, and that each field stands where the header has it. PROGRAM is bin/aes3 where none is given, LIBRARY what `bin/build aes3_c` makes.
+# that the header declares what the library has, that each field stands where the header has it, and that the examples of include/README.md run. PROGRAM is bin/aes3 where none is given, LIBRARY what `bin/build aes3_c` makes.
 # The last line is `N passed, M failed`; status 1 where one differs.
 here=$(dirname "$(realpath "$0")")
 # shellcheck source=examples/words.sh
@@ -118,7 +118,7 @@ build() { # COMPILER FLAGS..
         echo "left out: the checks of addresses and undefined behaviour by $compiler (they do not work here)"
         checks=
     }
-    for example in check gaps encode calls layout user samples capture wav; do
+    for example in check gaps encode calls layout user samples capture wav recover; do
         "$compiler" "$@" -O2 -Wall -Wextra -pedantic -Werror $checks -I"$here/../../include" \
             -o $example "$here/$example.c" -x none "$library" || {
             differs "$example.c, which $compiler does not compile,"
@@ -126,6 +126,12 @@ build() { # COMPILER FLAGS..
         }
     done
     judge "calls by $compiler" ./calls
+    if [ -s examples.c ]; then
+        # shellcheck disable=SC2086
+        judge "examples of include/README.md that $compiler compiles" "$compiler" "$@" -O2 -Wall -Wextra -pedantic -Werror \
+            -Wno-missing-field-initializers $checks -I"$here/../../include" -o examples examples.c -x none "$library"
+        judge "the examples of include/README.md by $compiler" eval './examples | grep -qx "$(grep -c "^static void" examples.c) examples"'
+    fi
     judge "the layout by $compiler" ./layout
     ./encode <"$speech" >got
     judge "encode by $compiler" cmp -s got line.txt
@@ -162,6 +168,14 @@ WORDS
     done
     echo "built and run: $compiler $*${checks:+ $checks}"
 }
+
+# Each call has one in the reference.
+if command -v python3 >/dev/null; then
+    python3 "$here/../../bin/make-reference" --examples >examples.c
+    judge "an example of each call" [ "$(grep -c '^static void' examples.c)" = "$(grep -c '^[a-z][a-z0-9_ ]*[ *]aes3_[a-z_]*(' "$here/../../include/aes3.h")" ]
+else
+    echo "left out: the examples of include/README.md (python3 is not installed)"
+fi
 
 build gcc -std=c99
 build clang -std=c99

@@ -40,7 +40,7 @@ int main(int count, char **arguments) {
             word = aes3_block_user(words, 1, bits);
         }
         if (word != AES3_BLOCK_WORDS) {
-            fprintf(stderr, "user: word %lu of a block is not lawful\n", (unsigned long)word);
+            fprintf(stderr, "user: word %lu of a block is not valid\n", (unsigned long)word);
             return 3;
         }
         if (user)
