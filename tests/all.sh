@@ -2,7 +2,7 @@
 # tests/all.sh [PROGRAM]: all that is run with a built program, with bin/aes3's where none is given: how bin/aes3 and bin/build have it built, the worked rows, the machine's own
 # streams, refused memory, the examples of help, README, tutorial and docs/COMMANDS.md, the manual page, the shells' completions, the pictures,
 # the figures and the links of the books, captures with jitter and in the files of other programs, errors put in on purpose, round trips with other programs, the examples from C (also
-# for 64-bit ARM), C++, Python and Rust, and of the page in a browser, and the Debian packages in a root of their own.
+# for 64-bit ARM), C++, Python and Rust, the reference of the C calls, and of the page in a browser, and the Debian packages in a root of their own.
 #
 # The C library is built first, where that is still to be done. Each part has folders of its own, and as many run side by side as there
 # are processors. Each prints what fails, `left out: WHAT (WHY)` where something it needs is not installed, and `N passed, M failed`;
@@ -95,6 +95,7 @@ part_with python3 tests/info.py "$program"
 part_with python3 tests/wave.py "$program"
 part_with python3 tests/thresholds.py "$program" "$root/crates/aes3_cells_program/out/aes3_cells_program"
 part_with python3 bin/make-manual --check "$program"
+part_with python3 bin/make-reference --check
 part tests/manual.sh
 part_with python3 tests/completions.py "$program"
 part tests/captures.sh "$root/crates/aes3_cells_program/out/aes3_cells_program" "$program"
@@ -124,10 +125,11 @@ if [ -e crates/aes3_c/out/libaes3_c.a ]; then
     part_with python3 examples/python/test.sh "$program"
     part_with python3 tests/python.sh
     part_with cargo examples/rust/test.sh "$program"
+    part tests/recover.sh "$program"
     part_with cc tests/install.sh
     part_with sigrok-cli tests/sigrok.sh "$program" "$root/crates/aes3_cells_program/out/aes3_cells_program"
 else
-    echo "left out: examples/c/test.sh, examples/c/arm.sh and those of cpp, python and rust, tests/python.sh, tests/install.sh, tests/packages.sh, tests/sigrok.sh (no C library is built: bin/build aes3_c)" | tee -a "$folder/left"
+    echo "left out: examples/c/test.sh, examples/c/arm.sh and those of cpp, python and rust, tests/recover.sh, tests/python.sh, tests/install.sh, tests/packages.sh, tests/sigrok.sh (no C library is built: bin/build aes3_c)" | tee -a "$folder/left"
 fi
 
 number=0
