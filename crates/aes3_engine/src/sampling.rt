@@ -112,9 +112,11 @@ fn put_samples<T: Sink>(
 {
     match format {
         SampleFormat::S32 => put_widened(samples, change, words, sink),
-        SampleFormat::S24 => put_widened(&format.widen(samples), change, words, sink),
-        SampleFormat::S24In32 => put_widened(&format.widen(samples), change, words, sink),
-        SampleFormat::S16 => put_widened(&format.widen(samples), change, words, sink),
+        SampleFormat::S24 | SampleFormat::S24In32 | SampleFormat::S16 => {
+            let mut wide = [0; BLOCK_BYTES];
+            format.widen_into(samples, &mut wide);
+            put_widened(&wide, change, words, sink)
+        }
     }
 }
 

@@ -127,34 +127,6 @@ impl WaveInput {
         }
     }
 
-    /// Takes the first frames, where none is begun, as the pairs of samples that a block begins with.
-    // One place for all forms of samples: where each form makes its own block, that is copied once more.
-    #[inline(never)]
-    fn take_made<T: Sink>(
-        &mut self,
-        change: &mut Change,
-        sink: &mut T,
-        octets: &[u8],
-        count: usize,
-        wide: &[u8; BLOCK_BYTES],
-    ) -> Result<usize, RunError>
-        requires some { 0 < count }
-        requires few { count ≤ BLOCK_FRAMES }
-        requires frames { count * frame_len self.old.format ≤ length octets.now }
-        requires made { take (PAIR_LEN * count) wide.now
-            ≡ parts_of (two_samples self.old.format self.old.channels)
-            (frame_len self.old.format) count octets.now }
-        requires samples { length octets.now ≤ self.old.left }
-        requires none { self.old.at ≡ 0 }
-        requires room { T.failed sink.old + 1 < 2 ^ 64 }
-        requires following { (b : List ℕ) × (length b + length octets.now ≤ 2 ^ 40)
-            × (state_of self.old change.old).follows b }
-        ensures { FrontRan (state_of self.old change.old) (state_of self.new change.new) octets.now
-            (movement_of T.taken T.failed sink.old sink.new) result }
-    {
-        self.take_pairs(change, sink, octets, count, &wide[..PAIR_LEN * count])
-    }
-
     /// Takes all whole frames, where none is begun, whose octets are samples of 32 bits.
     fn take_wide<T: Sink>(
         &mut self,
@@ -178,7 +150,6 @@ impl WaveInput {
     }
 
     /// Takes the first frames, where none is begun, of a block of samples in this form.
-    // The form is named in each case, so that the loop of `widen` does not choose it anew for each sample.
     #[inline(never)]
     fn take_widened<T: Sink>(
         &mut self,
@@ -203,26 +174,9 @@ impl WaveInput {
         ensures { FrontRan (state_of self.old change.old) (state_of self.new change.new) octets.now
             (movement_of T.taken T.failed sink.old sink.new) result }
     {
-        match form {
-            SampleFormat::S16 => {
-                self.take_made(change, sink, octets, count, &SampleFormat::S16.widen(block))
-            }
-            SampleFormat::S24 => {
-                self.take_made(change, sink, octets, count, &SampleFormat::S24.widen(block))
-            }
-            SampleFormat::S24In32 => {
-                self.take_made(
-                    change,
-                    sink,
-                    octets,
-                    count,
-                    &SampleFormat::S24In32.widen(block),
-                )
-            }
-            SampleFormat::S32 => {
-                self.take_made(change, sink, octets, count, &SampleFormat::S32.widen(block))
-            }
-        }
+        let mut wide = [0; BLOCK_BYTES];
+        form.widen_into(block, &mut wide);
+        self.take_pairs(change, sink, octets, count, &wide[..PAIR_LEN * count])
     }
 
     /// Takes whole frames, where none is begun, whose octets are samples in this form. It equals
@@ -270,7 +224,7 @@ impl WaveInput {
         let count = self.frames_due(octets);
         let mut wide = [0; BLOCK_BYTES];
         put_each(self.format, self.channels, octets, count, &mut wide);
-        self.take_made(change, sink, octets, count, &wide)
+        self.take_pairs(change, sink, octets, count, &wide[..PAIR_LEN * count])
     }
 
     /// Takes whole frames, where none is begun, and answers how many octets they are.

@@ -4,7 +4,7 @@ use Rattle.std.proofs.lemmas.List.{take_all}
 use Rattle.std.proofs.lemmas.Slice.{overwrites, take-put_mid}
 use Rattle.aes3_forms_samples.specs.Formats.{block_len, sample_len, widened}
 use Rattle.aes3_forms_samples.proofs.Formats.{all-left, none-left}
-use Rattle.aes3_forms_samples.proofs.format.SampleFormat.widen.Goals as goal
+use Rattle.aes3_forms_samples.proofs.format.SampleFormat.widen_each.Goals as goal
 
 pub loop-i-init : goal.loop-i-init
 loop-i-init c = record {

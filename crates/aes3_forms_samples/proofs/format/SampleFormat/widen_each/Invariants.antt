@@ -1,6 +1,6 @@
 use Rattle.std.proofs.Common.{◌≡◌, ◌*◌, ◌++◌, length, take, drop}
 use Rattle.aes3_forms_samples.specs.Formats.{block_len, sample_len, widened}
-use Rattle.aes3_forms_samples.proofs.format.SampleFormat.widen.Given as goal
+use Rattle.aes3_forms_samples.proofs.format.SampleFormat.widen_each.Given as goal
 
 abbrev pub invariant-loop-i : goal.invariant-loop-i
 invariant-loop-i l = record {
