@@ -5,6 +5,7 @@ pub mod Gathered
 pub mod Samples
 pub mod Sampled
 pub mod Statuses
+pub mod Ones
 pub use Rattle.aes3_level.specs.Cells
 pub use Rattle.aes3_level.specs.Words
 pub use Rattle.aes3_bits.specs.Bits

@@ -8,8 +8,9 @@ pub enum Carried {
     Status,
 }
 
-ghost use Rattle.std.specs.Prelude.{◌≡◌, ◌<◌, ◌*◌, Some, take, drop, slice_get};
+ghost use Rattle.std.specs.Prelude.{◌≡◌, ◌≤◌, ◌<◌, ◌*◌, Some, count_ones, take, drop, slice_get};
 ghost use Rattle.aes3_bits.specs.Bits.{number};
+ghost use Rattle.aes3_frame.specs.Ones.{ones_in};
 ghost use Rattle.aes3_frame.specs.Statuses.{bits_at, bits_of_bytes, bytes_in, place_of, status_len};
 ghost use Rattle.aes3_frame.specs.Statuses.{first_slot_of, validity_of, user_of, with_bits_at};
 ghost use Rattle.aes3_frame.specs.Statuses.{with_validity, with_user, status_of, with_status};
@@ -162,4 +163,24 @@ fn bit_of(bytes: &[u8; STATUS_LEN], i: usize) -> bool
     ensures { slice_get (bits_of_bytes bytes.now) i ≡ Some result }
 {
     bytes[i / 8] >> (i % 8) & 1 == 1
+}
+
+/// How many bits of a byte are 1.
+#[tactic(auto, using(std::proofs::lemmas::Nat::ones_le_self))]
+fn ones(byte: u8) -> u64
+    ensures ones { result ≡ count_ones byte }
+    ensures few { result ≤ 255 }
+{
+    u64::from(byte.count_ones())
+}
+
+/// How many bits of bytes are 1: of those of a channel's frames in a block, in how many frames.
+pub fn ones_in(bytes: &[u8; STATUS_LEN]) -> u64
+    ensures { result ≡ ones_in bytes.now }
+{
+    let mut found = 0;
+    for byte in bytes {
+        found += ones(*byte);
+    }
+    found
 }

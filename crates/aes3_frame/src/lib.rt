@@ -4,7 +4,8 @@
 
 /// A block: the words of its 384 subframes, also made of samples.
 mod block;
-/// The validity, user and channel status bits of a channel, read and set as 24 bytes.
+/// The validity, user and channel status bits of a channel, read and set as 24 bytes, and how many
+/// of them are 1.
 mod carried;
 /// The cells of a block, made four subframes at a time.
 mod cells;
@@ -28,6 +29,7 @@ mod word;
 
 pub use aes3_slot::mark_of;
 pub use block::{BLOCK_BYTES, BLOCK_CELLS, Block, SLOTS, zero_words};
+pub use carried::ones_in;
 pub use cells::fill_block_cells;
 pub use fill::Fill;
 pub use frame::Frame;

@@ -14,7 +14,7 @@ use Rattle.aes3_lock.specs.declared.report.Report.TheVariants.{Whole, Marked, Fa
 use Rattle.aes3_lock.specs.Reports.{reports, wholes}
 use Rattle.aes3_lock_gaps.specs.Gaps.{Entry, reported, lost, cut, account}
 use Rattle.aes3_watch.specs.Sums.{is_biphase as by_biphase, is_preamble as by_preamble, is_unclosed as by_unclosed}
-use Rattle.aes3_text_lines.specs.Ones.{ones_in}
+use Rattle.aes3_frame.specs.Ones.{ones_in}
 use Rattle.aes3_info.specs.declared.reports.ReportFacts.{ReportFacts}
 use Rattle.aes3_info.specs.declared.gaps.GapFacts.{GapFacts}
 use Rattle.aes3_info.specs.declared.channel.ChannelFacts.{ChannelFacts}

@@ -10,7 +10,7 @@ ghost use Rattle.aes3_info.specs.Facts.{more_energy, square, with_block};
 use crate::more::{more, more_energy};
 use crate::samples::{FRAMES, magnitude_at, square};
 use aes3_block::{Block, Channel, SLOTS};
-use aes3_text_lines::ones_in;
+use aes3_frame::ones_in;
 
 /// What is counted of a channel of whole blocks.
 #[derive(Clone, Copy)]

@@ -1,5 +1,4 @@
 pub mod MarkLines
-pub mod Ones
 pub mod StatusLines
 pub mod Gathering
 pub mod Events

@@ -6,7 +6,7 @@ use Rattle.aes3_frame.specs.Statuses.{status_of, user_of, validity_of}
 use Rattle.aes3_status_text.specs.declared.detail.Detail.{Detail}
 use Rattle.aes3_status_text.specs.declared.detail.Detail.TheVariants.{Plain, Place, Carried, Names}
 use Rattle.aes3_status_text.specs.StatusTexts.{names_text, status_text}
-use Rattle.aes3_text_lines.specs.Ones.{ones_in}
+use Rattle.aes3_frame.specs.Ones.{ones_in}
 
 abbrev pub channel_digit : Channel → List ℕ
 channel_digit First = codes "1"

@@ -12,8 +12,6 @@ mod gathered;
 mod mark;
 /// The words of codes that a line of channel status has as numbers.
 mod names;
-/// Bits that are 1.
-mod ones;
 /// The line of a channel status.
 mod status;
 /// Sums of a line that is watched, and their lines.
@@ -28,7 +26,6 @@ pub use aes3_status_text::{
 pub use event::{Event, Marking, line_of_event};
 pub use gathered::{GATHERED_LEN, GatheredLines};
 pub use mark::{MARK_LEN, line_of_mark};
-pub use ones::ones_in;
 pub use status::{line_of_status, line_of_status_with, text_of_detail};
 pub use sum::{Figures, Sum, line_of_sum};
 pub use tail::{TAIL_LEN, Tail};

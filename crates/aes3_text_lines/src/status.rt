@@ -7,10 +7,9 @@ ghost use Rattle.aes3_text_lines.specs.StatusLines.{status_line_with};
 
 use crate::ending::end_line;
 use crate::names::put_names;
-use crate::ones::ones_in;
 use crate::tail::Tail;
 use aes3_cell::{Fault, Sink};
-use aes3_frame::{Block, Channel};
+use aes3_frame::{Block, Channel, ones_in};
 use aes3_status_text::{Detail, Line, put_status};
 
 /// How many bytes the beginning of a line has at most.

@@ -22,7 +22,7 @@ use Rattle.aes3_frame.specs.Subframes.{audio_len}
 use Rattle.aes3_frame.specs.Statuses.{bits_at, bytes_in, status_len, status_of, status_place, validity_of}
 use Rattle.aes3_frame.specs.Statuses.{validity_place}
 use Rattle.aes3_lock.specs.Outcomes.{payloads_of}
-use Rattle.aes3_text_lines.specs.Ones.{ones_in}
+use Rattle.aes3_frame.specs.Ones.{ones_in}
 use Rattle.aes3_watch.specs.Signals.{last_cells, signals_of}
 use Rattle.aes3_watch.specs.declared.signals.Signals.{Signals}
 use Rattle.aes3_watch.specs.Watching.{SaysSo}

@@ -9,7 +9,7 @@ use Rattle.aes3_text_lines.specs.declared.event.Event.{Event}
 use Rattle.aes3_text_lines.specs.declared.event.Event.TheVariants.{Status, Validity}
 use Rattle.aes3_text_lines.specs.declared.event.Marking.{Marking}
 use Rattle.aes3_text_lines.specs.declared.event.Marking.TheVariants.{Clear, Set, Mixed}
-use Rattle.aes3_text_lines.specs.Ones.{ones_in}
+use Rattle.aes3_frame.specs.Ones.{ones_in}
 use Rattle.aes3_watch.specs.declared.signals.Signals.{Signals}
 use Rattle.aes3_watch.specs.declared.signals.ChannelSignals.{ChannelSignals}
 

@@ -11,7 +11,8 @@ ghost use Rattle.aes3_watch.specs.Signals.{same_marking, signals_of, status_even
 ghost use Rattle.aes3_watch.specs.Signals.{validity_events};
 
 use aes3_block::{Block, Channel, SLOTS};
-use aes3_text_lines::{Event, Marking, ones_in};
+use aes3_frame::ones_in;
+use aes3_text_lines::{Event, Marking};
 use arrayvec::ArrayVec;
 use std::simd::prelude::*;
 

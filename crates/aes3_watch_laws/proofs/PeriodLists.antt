@@ -11,7 +11,7 @@ use Rattle.aes3_frame.specs.Statuses.{validity_of}
 use Rattle.aes3_frame.specs.declared.status.Channel.TheVariants.{First, Second}
 use Rattle.aes3_text_lines.specs.declared.event.Event.{Event}
 use Rattle.aes3_text_lines.specs.declared.sum.Figures.{Figures}
-use Rattle.aes3_text_lines.specs.Ones.{ones_in}
+use Rattle.aes3_frame.specs.Ones.{ones_in}
 use Rattle.aes3_lock_gaps.specs.Gaps.{Entry}
 use Rattle.aes3_watch.specs.Sums.{Notice, event, sum, events, change_of, is_biphase, is_preamble, is_unclosed, more}
 use Rattle.aes3_watch.specs.Sums.{no_figures}

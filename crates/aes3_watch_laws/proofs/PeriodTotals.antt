@@ -18,7 +18,7 @@ use Rattle.aes3_lock.specs.Remains.{place_of}
 use Rattle.aes3_lock.specs.Reports.{blocks, reports, wholes}
 use Rattle.aes3_text_lines.specs.declared.event.Event.{Event}
 use Rattle.aes3_text_lines.specs.declared.event.Event.TheVariants.{End}
-use Rattle.aes3_text_lines.specs.Ones.{ones_in}
+use Rattle.aes3_frame.specs.Ones.{ones_in}
 use Rattle.aes3_lock_gaps.specs.Gaps.{Entry, reported, lost, cut, account, account_from, behind_full, behind_report}
 use Rattle.aes3_lock_gaps.specs.Gaps.{full_count, full_gaps, gaps, reached_from, rest_gap}
 use Rattle.aes3_watch.specs.Kept.{Watched}

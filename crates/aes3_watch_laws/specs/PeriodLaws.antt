@@ -15,7 +15,7 @@ use Rattle.aes3_text_lines.specs.declared.event.Event.{Event}
 use Rattle.aes3_text_lines.specs.declared.event.Event.TheVariants.{Locked, Lost, Back, Slipped, Status, Validity, End}
 use Rattle.aes3_text_lines.specs.declared.sum.Figures.{Figures}
 use Rattle.aes3_text_lines.specs.declared.sum.Sum.{Sum}
-use Rattle.aes3_text_lines.specs.Ones.{ones_in}
+use Rattle.aes3_frame.specs.Ones.{ones_in}
 use Rattle.aes3_lock_gaps.specs.Gaps.{Entry, reported, lost, cut, account}
 use Rattle.aes3_watch.specs.Sums.{Notice, event, sum, events, change_of, is_biphase, is_preamble, is_unclosed}
 use Rattle.aes3_watch.specs.Sums.{notices}

@@ -1,8 +1,8 @@
 use Rattle.std.proofs.Common.{refl, sym, ap₂, ◌∙◌, ◌+◌, arith}
 use Rattle.std.specs.Prelude.{count_ones}
 use Rattle.std.proofs.lemmas.List.Sums.{sum_by_more}
-use Rattle.aes3_text_lines.specs.Ones.{ones_in}
-use Rattle.aes3_text_lines.proofs.ones.ones_in.Goals as goal
+use Rattle.aes3_frame.specs.Ones.{ones_in}
+use Rattle.aes3_frame.proofs.carried.ones_in.Goals as goal
 
 pub loop-byte-init : goal.loop-byte-init
 unfolding ones_in

@@ -1,6 +1,6 @@
 use Rattle.std.proofs.Common.{◌≡◌, ◌≤◌, ◌*◌, take}
-use Rattle.aes3_text_lines.specs.Ones.{ones_in}
-use Rattle.aes3_text_lines.proofs.ones.ones_in.Given as goal
+use Rattle.aes3_frame.specs.Ones.{ones_in}
+use Rattle.aes3_frame.proofs.carried.ones_in.Given as goal
 
 abbrev pub invariant-loop-byte : goal.invariant-loop-byte
 invariant-loop-byte l = record {
