@@ -4,8 +4,6 @@
 
 /// The options and values that the program takes.
 mod argument;
-/// A job on the file or standard input.
-mod capture;
 /// The lines that say what was found.
 mod figures;
 /// What the program says of itself.
@@ -16,7 +14,7 @@ mod line;
 mod look;
 /// What to do with a file that is no capture.
 mod other_file;
-/// A job between its streams, and what is said of it.
+/// A job on the file or standard input or between any ends, and what is said of it.
 mod run;
 /// The bit in which the line lies, where none is asked for.
 mod search;
@@ -25,7 +23,6 @@ mod value;
 /// What is wrong with the values of options.
 mod wrong;
 
-pub use capture::run_capture;
 pub use line::{Job, job_of_words};
 pub use look::Look;
-pub use run::{report_fault, report_unread, run_job};
+pub use run::{report_fault, report_unread, run_capture, run_job};

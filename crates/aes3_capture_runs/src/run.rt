@@ -1,4 +1,4 @@
-//! Everything but the machine's own streams.
+//! Runs of jobs: on the file or standard input of a machine, and between any ends.
 
 ghost use Rattle.std.specs.Prelude.{◌≡◌, ◌<◌, ◌≤◌, ◌+◌, ◌^◌, ◌⊎◌, IfErr, IfOk, IsTrue, List, None, OnErr, ℕ};
 ghost use Rattle.aes3_cell.specs.Ends.{Grew};
@@ -12,14 +12,93 @@ ghost use Rattle.aes3_capture_runs.specs.Runs.{memory_text, refusal_text};
 use crate::figures::{figures_line, found_text, no_line_text};
 use crate::line::{Job, unit_of_job};
 use crate::look::Look;
+use crate::other_file::{FIRST_LEN, advice_on_other};
+use crate::search::line_bit;
 use aes3_capture_recovery::{Figures, Progress, Recovery, Refusal, Unit, recover};
-use aes3_cell::{Fault, Sink, Source, write_all};
+use aes3_cell::{BufferedSink, Fault, Sink, Source, StdSink, StdSource, write_all};
 use aes3_cli::{DONE, LineFault, REFUSED, USAGE, Unread, put_text};
+use aes3_cli_progress::{Clearing, Course, Progress as Followed, Unit as Counted};
+use aes3_files::{Input, Preview};
 use itoa::Buffer;
 use std::alloc::{AllocError, Global};
+use std::cell::Cell;
+use std::io::{self, IsTerminal};
 
 /// The exit status where no line was found.
 pub const NO_LINE: u8 = 1;
+
+/// Runs the job on what it reads, if that can be a capture, and answers the exit status. Whether a line
+/// of progress stands on standard error is in `shown`.
+///
+/// # Errors
+/// Memory was refused.
+pub fn run_capture<E: Sink>(
+    rt: &HostRuntime,
+    shown: &Cell<bool>,
+    messages: &mut E,
+    job: &Job<'_>,
+) -> Result<u8, Unread>
+    requires { E.failed messages.old + 5 < 2 ^ 64 }
+    ensures { IfErr result (λ _. E.failed messages.new ≤ E.failed messages.old + 1) }
+{
+    let trouble = Cell::new(None);
+    let input = Input::new(rt, job.file, &trouble);
+    let course = course_of(rt, &input);
+    let mut input = Preview::new(rt.alloc(), input);
+    if let Some(advice) = advice_on_other(input.first(FIRST_LEN)?, unit_of_job(job, None)) {
+        let text = format!(in rt.alloc(); "aes3-cells: {advice}\n")?;
+        say(&text, messages);
+        return Ok(NO_LINE);
+    }
+    let found = match job.bit {
+        Some(_) => None,
+        None => line_bit(rt.alloc(), &mut input, job.octets, job.period)?,
+    };
+    let unit = unit_of_job(job, found);
+    let look = Look::of(rt.alloc(), input.first(0)?, unit, found.is_none());
+    let told = StdSink::new(rt.stderr());
+    let input = StdSource::new(input);
+    let mut source = Followed::new(rt.alloc(), rt, input, told, shown, course);
+    let told = StdSink::new(rt.stderr());
+    let is_shown = rt.stdout().is_terminal();
+    let output = Clearing::new(StdSink::new(rt.stdout().lock()), told, shown, is_shown);
+    let mut sink = BufferedSink::new(rt.alloc(), output)?;
+    let status = run_job(
+        rt.alloc(),
+        job,
+        found,
+        &look,
+        &mut source,
+        &mut sink,
+        messages,
+    );
+    say_trouble(rt, job.file, trouble.get(), messages);
+    Ok(status)
+}
+
+/// How far the input has been read, from now on, where there is a person to tell and it is a file.
+fn course_of(rt: &HostRuntime, input: &Input<'_>) -> Option<Course> {
+    if !rt.stderr().is_terminal() {
+        return None;
+    }
+    Course::new(rt, input.len(rt)?, Counted::Samples)
+}
+
+/// Says why the system did not read on in the file, if there is one and it did not.
+fn say_trouble<E: Sink>(
+    rt: &HostRuntime,
+    file: Option<&str>,
+    trouble: Option<io::Error>,
+    messages: &mut E,
+)
+    requires { E.failed messages.old + 1 < 2 ^ 64 }
+{
+    if let (Some(name), Some(error)) = (file, trouble)
+        && let Ok(text) = format!(in rt.alloc(); "aes3-cells: {name}: {error}\n")
+    {
+        say(&text, messages);
+    }
+}
 
 /// Says a text among the messages, which are flushed then and whose own faults change nothing.
 pub fn say<E: Sink>(text: &str, messages: &mut E)

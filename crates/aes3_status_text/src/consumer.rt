@@ -8,9 +8,8 @@ ghost use Rattle.aes3_status_text.specs.Consumer.{con_name, con_text, consumer_t
 ghost use Rattle.aes3_status_text.specs.Consumer.{length_fields, length_words};
 ghost use Rattle.aes3_status_text.specs.Consumer.{rate_fields, signal_fields, source_fields};
 
-use crate::fields::{FIELD_LEN, NAME_LEN};
+use crate::fields::{FIELD_LEN, NAME_LEN, PAYLOAD, UP_TO_20, UP_TO_24, WORD_LEN};
 use crate::line::{LINE_LEN, Line};
-use crate::words::{PAYLOAD, UP_TO_20, UP_TO_24, WORD_LEN};
 use aes3_status::{Con, ConField};
 
 /// Copyright (byte 0 bit 2).

@@ -7,9 +7,9 @@
 mod choices;
 /// The fields of a status for consumer use.
 mod consumer;
-/// What stands behind a line of channel status.
+/// What follows a line of channel status.
 mod detail;
-/// A field of a status: its name and its text.
+/// The fields of a status: their names, and the words that their codes are printed as.
 mod fields;
 /// Laws of what is printed of channel status.
 pub mod laws;
@@ -35,12 +35,10 @@ mod typed;
 mod untaken;
 /// The fields that have four whole bytes, by their names.
 mod wide;
-/// The words that the codes of a field are printed as.
-mod words;
 
 pub use choices::add_choices;
 pub use detail::Detail;
-pub use fields::NAME_LEN;
+pub use fields::{NAME_LEN, WORD_LEN, word_of};
 pub use line::{DIGITS, LINE_LEN, Line};
 pub use lines::Lines;
 pub use listed::{SettingsFault, TEXTS, settings_of_texts};
@@ -50,4 +48,3 @@ pub use status::{STATUS_LEN, put_status};
 pub use style::{Notation, Style};
 pub use typed::TypedSettings;
 pub use untaken::untaken_remedy;
-pub use words::{WORD_LEN, word_of};

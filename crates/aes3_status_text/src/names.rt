@@ -11,10 +11,9 @@ ghost use Rattle.aes3_status_text.specs.Names.{category_names, code_names, name_
 ghost use Rattle.aes3_status_text.specs.Names.{original_names};
 
 use crate::consumer::consumer_name;
-use crate::fields::{FIELD_LEN, NAME_LEN};
+use crate::fields::{FIELD_LEN, NAME_LEN, WORD_LEN, word_of};
 use crate::line::{LINE_LEN, Line};
 use crate::professional::professional_name;
-use crate::words::{WORD_LEN, word_of};
 use aes3_status::{ConField, Field, ProField};
 
 /// Channel modes of professional use (byte 1 bits 0 to 3; `IEC958_AES1_PRO_MODE`).

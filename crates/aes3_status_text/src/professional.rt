@@ -9,9 +9,8 @@ ghost use Rattle.aes3_status_text.specs.Fields.{field_text};
 ghost use Rattle.aes3_status_text.specs.Professional.{is_in_line, mode_fields, name_fields, pro_name};
 ghost use Rattle.aes3_status_text.specs.Professional.{pro_text, pro_word, professional_text, signal_fields};
 
-use crate::fields::{FIELD_LEN, NAME_LEN};
+use crate::fields::{FIELD_LEN, NAME_LEN, PAYLOAD, UP_TO_20, UP_TO_24, UP_TO_ANY, WORD_LEN};
 use crate::line::{LINE_LEN, Line};
-use crate::words::{PAYLOAD, UP_TO_20, UP_TO_24, UP_TO_ANY, WORD_LEN};
 use aes3_status::{Check, Pro, ProField};
 
 /// Pre-emphasis (byte 0 bits 2 to 4).

@@ -1,6 +1,6 @@
 use Rattle.std.proofs.Common.{sym, ◌∙◌, arith, length, nat_le, leb-true, rules}
 use Rattle.aes3_status_text.proofs.Tables.{word_of-here, word_of-behind, word_of-end, test-get_or}
-use Rattle.aes3_status_text.proofs.words.word_of.Goals as goal
+use Rattle.aes3_status_text.proofs.fields.word_of.Goals as goal
 
 pub loop-named-preserved : goal.loop-named-preserved
 loop-named-preserved c =
