@@ -362,10 +362,7 @@ pub fn flag<'a>(alloc: Global, name: &'a str, help: &'a str) -> Arg<'a>
 pub fn text_option<'a>(alloc: Global, name: &'a str, value: &'a str, help: &'a str) -> Arg<'a>
     ensures { IsOption (text_option name.now) result }
 {
-    Arg::new(alloc, name)
-        .long(name)
-        .value_name(value)
-        .help(help)
+    named_text(alloc, name, name, value, help)
 }
 
 /// The option `--name` with a text, as help calls it, whose values are found by `id`.
@@ -385,11 +382,7 @@ fn named_text<'a>(
 pub fn repeated_option<'a>(alloc: Global, name: &'a str, value: &'a str, help: &'a str) -> Arg<'a>
     ensures { IsOption (settings_option name.now) result }
 {
-    Arg::new(alloc, name)
-        .long(name)
-        .value_name(value)
-        .action(ArgAction::Append)
-        .help(help)
+    text_option(alloc, name, value, help).action(ArgAction::Append)
 }
 
 /// A number from `least` to `most` that has to stand at its place among the words.
