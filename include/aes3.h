@@ -23,8 +23,7 @@
  * - A place is the number of a cell, counted from 0 at the lock's first cell.
  * - A block has 384 words, as in a block file: one for each subframe, channel 1 first. Bit n of a word is time slot n: bits 0
  *   to 3 are zero, 4 to 27 the audio sample, 28 V, 29 U, 30 C, and 31 P.
- * - A word of a block is valid, or lawful, if two things hold: bits 0 to 3 are zero, and the number of ones in bits 4 to 31 is
- *   even.
+ * - A word of a block is valid if two things hold: bits 0 to 3 are zero, and the number of ones in bits 4 to 31 is even.
  *
  * Stack in bytes that a call used (examples/c/stack.c, x86-64):
  *

@@ -64,8 +64,8 @@ impl Block {
     pub fn samples(&self) -> Result<[i32; BLOCK_WORDS], Error> {
         let mut samples = [0; BLOCK_WORDS];
         // SAFETY: both point to 384 items that don't overlap.
-        let lawful = unsafe { sys::aes3_block_samples(self.words.as_ptr(), samples.as_mut_ptr()) };
-        lawful_or(lawful, samples)
+        let answer = unsafe { sys::aes3_block_samples(self.words.as_ptr(), samples.as_mut_ptr()) };
+        valid_or(answer, samples)
     }
 
     /// The sample of a channel in a frame, 0 to 191, in the highest 24 bits of an `i32`.
@@ -77,61 +77,61 @@ impl Block {
     pub fn encode(&self, before: bool) -> Result<[u64; BLOCK_WORDS], Error> {
         let mut cells = [0; BLOCK_WORDS];
         // SAFETY: both point to 384 words that don't overlap.
-        let lawful = unsafe { sys::aes3_encode_block(self.words.as_ptr(), before.into(), cells.as_mut_ptr()) };
-        lawful_or(lawful, cells)
+        let answer = unsafe { sys::aes3_encode_block(self.words.as_ptr(), before.into(), cells.as_mut_ptr()) };
+        valid_or(answer, cells)
     }
 
     /// The channel status of a channel.
     pub fn status(&self, channel: Channel) -> Result<Status, Error> {
         let mut bytes = [0; STATUS_BYTES];
         // SAFETY: the words are 384, the bytes 24, and they don't overlap.
-        let lawful = unsafe { sys::aes3_block_status(self.words.as_ptr(), channel as u8, bytes.as_mut_ptr()) };
-        lawful_or(lawful, Status { bytes })
+        let answer = unsafe { sys::aes3_block_status(self.words.as_ptr(), channel as u8, bytes.as_mut_ptr()) };
+        valid_or(answer, Status { bytes })
     }
 
     /// The V bits of a channel: bit `i % 8` of byte `i / 8` is that of frame `i`.
     pub fn validity(&self, channel: Channel) -> Result<[u8; STATUS_BYTES], Error> {
         let mut bits = [0; STATUS_BYTES];
         // SAFETY: the words are 384, the bytes 24, and they don't overlap.
-        let lawful = unsafe { sys::aes3_block_validity(self.words.as_ptr(), channel as u8, bits.as_mut_ptr()) };
-        lawful_or(lawful, bits)
+        let answer = unsafe { sys::aes3_block_validity(self.words.as_ptr(), channel as u8, bits.as_mut_ptr()) };
+        valid_or(answer, bits)
     }
 
     /// The U bits of a channel, likewise.
     pub fn user(&self, channel: Channel) -> Result<[u8; STATUS_BYTES], Error> {
         let mut bits = [0; STATUS_BYTES];
         // SAFETY: the words are 384, the bytes 24, and they don't overlap.
-        let lawful = unsafe { sys::aes3_block_user(self.words.as_ptr(), channel as u8, bits.as_mut_ptr()) };
-        lawful_or(lawful, bits)
+        let answer = unsafe { sys::aes3_block_user(self.words.as_ptr(), channel as u8, bits.as_mut_ptr()) };
+        valid_or(answer, bits)
     }
 
     /// Sets the channel status of a channel, and the parity bits that follow.
     pub fn set_status(&mut self, channel: Channel, status: &Status) -> Result<(), Error> {
         // SAFETY: the words are 384, the bytes 24, and they don't overlap.
-        let lawful =
+        let answer =
             unsafe { sys::aes3_block_set_status(self.words.as_mut_ptr(), channel as u8, status.bytes.as_ptr()) };
-        lawful_or(lawful, ())
+        valid_or(answer, ())
     }
 
     /// Sets the V bits of a channel, and the parity bits that follow.
     pub fn set_validity(&mut self, channel: Channel, bits: &[u8; STATUS_BYTES]) -> Result<(), Error> {
         // SAFETY: the words are 384, the bytes 24, and they don't overlap.
-        let lawful = unsafe { sys::aes3_block_set_validity(self.words.as_mut_ptr(), channel as u8, bits.as_ptr()) };
-        lawful_or(lawful, ())
+        let answer = unsafe { sys::aes3_block_set_validity(self.words.as_mut_ptr(), channel as u8, bits.as_ptr()) };
+        valid_or(answer, ())
     }
 
     /// Sets the U bits of a channel, and the parity bits that follow.
     pub fn set_user(&mut self, channel: Channel, bits: &[u8; STATUS_BYTES]) -> Result<(), Error> {
         // SAFETY: the words are 384, the bytes 24, and they don't overlap.
-        let lawful = unsafe { sys::aes3_block_set_user(self.words.as_mut_ptr(), channel as u8, bits.as_ptr()) };
-        lawful_or(lawful, ())
+        let answer = unsafe { sys::aes3_block_set_user(self.words.as_mut_ptr(), channel as u8, bits.as_ptr()) };
+        valid_or(answer, ())
     }
 }
 
 /// What a call made, if it found 384 valid words.
-fn lawful_or<T>(lawful: u32, made: T) -> Result<T, Error> {
-    match lawful as usize {
+fn valid_or<T>(answer: u32, made: T) -> Result<T, Error> {
+    match answer as usize {
         BLOCK_WORDS => Ok(made),
-        word => Err(Error::Unlawful { word }),
+        word => Err(Error::BadWord { word }),
     }
 }

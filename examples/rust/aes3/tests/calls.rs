@@ -95,12 +95,12 @@ fn the_end_of_the_cells_cuts_a_block() {
 }
 
 #[test]
-fn a_word_of_wrong_parity_is_unlawful_and_its_cells_are_marked() {
+fn a_word_of_wrong_parity_is_not_valid_and_its_cells_are_marked() {
     let (mut block, _) = block();
     let mut cells = block.encode(false).unwrap();
     block.words[7] ^= 1 << 31;
-    assert_eq!(block.encode(false), Err(Error::Unlawful { word: 7 }));
-    assert_eq!(block.status(Channel::One), Err(Error::Unlawful { word: 7 }));
+    assert_eq!(block.encode(false), Err(Error::BadWord { word: 7 }));
+    assert_eq!(block.status(Channel::One), Err(Error::BadWord { word: 7 }));
     // The last slot of subframe 7, and all levels behind it the other way.
     let last = BLOCK_WORDS - 1;
     cells[last] ^= 1 << 63;
@@ -155,7 +155,7 @@ fn bits_beside_the_audio() {
     other.set_status(Channel::Two, &status).unwrap();
     assert_eq!(other.status(Channel::Two), Ok(status));
     other.words[9] ^= 1;
-    assert_eq!(other.set_user(Channel::One, &[0; 24]), Err(Error::Unlawful { word: 9 }));
+    assert_eq!(other.set_user(Channel::One, &[0; 24]), Err(Error::BadWord { word: 9 }));
 }
 
 #[test]
