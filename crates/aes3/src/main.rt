@@ -2,7 +2,7 @@
 //! standard output.
 #![tactic(auto)]
 
-/// Standard output, or the file that is written in its place.
+/// Standard output, or the file that is written instead.
 mod output;
 
 ghost use Rattle.std.specs.Prelude.{◌+◌, ◌<◌, ◌^◌, ◌≡◌, IfErr};
@@ -21,12 +21,12 @@ use std::cell::Cell;
 use std::io::Error;
 use std::process::ExitCode;
 
-/// What is noted of the streams while they are lent.
+/// What is noted about the streams while they are lent.
 #[derive(Drop)]
 struct Noted {
     /// Whether a line of progress is on standard error.
     shown: Cell<bool>,
-    /// Why the system did not take the output.
+    /// Why the system did not accept the output.
     unwritten: Cell<Option<Error>>,
 }
 
@@ -44,7 +44,7 @@ fn main(rt: HostRuntime) -> ExitCode {
     ExitCode::from(status)
 }
 
-/// Runs the command line, or tells why it can't be read, and answers the exit status.
+/// Runs the command line, or reports why it can't be read, and returns the exit status.
 fn run_program<E: Sink, H: Sink + Drop>(
     rt: &HostRuntime,
     terminals: Terminals,
@@ -123,14 +123,14 @@ fn run_buffered<E: Sink, H: Sink + Drop>(
     }
 }
 
-/// Says what the system said of a file, if it did.
+/// Prints the system's message about a file, if there is one.
 fn say_trouble(rt: &HostRuntime, name: Option<&str>, error: Option<Error>) {
     if let (Some(name), Some(error)) = (name, error) {
         eprintln!(rt; "aes3: {name}: {error}").unwrap_or(());
     }
 }
 
-/// The depth of the WAV file that a line writes; none where it writes none.
+/// The depth of the WAV file that a line writes; `None` if it writes none.
 fn depth_of_line(line: &Result<CommandLine<'_>, LineFault>) -> Option<Depth> {
     let Ok(line) = line else {
         return None;

@@ -1,4 +1,4 @@
-//! Standard output, or the file that a command line names in its place.
+//! Standard output, or the file that a command line names instead.
 
 use aes3_cell::StdSource;
 use aes3_wave::{Depth, header_of};
@@ -8,17 +8,17 @@ use std::cell::Cell;
 use std::fs::{self, File, OpenOptions};
 use std::io::{self, Error, ErrorKind, StdoutLock, Write};
 
-/// How many octets a header has at most that the program writes.
+/// How many octets a header that the program writes has at most.
 const HEADER_MOST: u64 = 4096;
 
 /// The file that a command line names for its output.
 #[derive(Drop)]
 pub struct OutputFile {
     name: String,
-    /// The name that it has until it is whole; none where the name is that of something else than a file,
-    /// such as a pipe or a device.
+    /// The name that the file has until it is complete. `None` if the name is that of something
+    /// else than a file, such as a pipe or a device.
     part: Option<String>,
-    /// Whether this run has made the file of that name, so that it may remove it.
+    /// Whether this run has created the file of that name, so that it may remove it.
     is_made: Cell<bool>,
 }
 
@@ -26,7 +26,7 @@ impl OutputFile {
     /// The file of this name.
     ///
     /// # Errors
-    /// Memory was refused.
+    /// `AllocError` if there is no memory.
     pub fn new(rt: &HostRuntime, name: &str) -> Result<Self, AllocError> {
         let is_file = match fs::symlink_metadata(rt, name) {
             Ok(kept) => kept.is_file(),
@@ -44,10 +44,10 @@ impl OutputFile {
         })
     }
 
-    /// The same where a name is given.
+    /// The file of this name, if a name is given.
     ///
     /// # Errors
-    /// Memory was refused.
+    /// `AllocError` if there is no memory.
     pub fn named(rt: &HostRuntime, name: Option<&str>) -> Result<Option<Self>, AllocError> {
         match name {
             Some(name) => match OutputFile::new(rt, name) {
@@ -58,8 +58,8 @@ impl OutputFile {
         }
     }
 
-    /// Makes the file. One that already has the other name stays, and so does one that the name is a link
-    /// to: either may be the input.
+    /// Creates the file. A file that already has the final name is not touched, nor is one that the
+    /// name is a link to: either may be the input.
     fn make(&self, rt: &HostRuntime) -> io::Result<File> {
         let Some(part) = &self.part else {
             if fs::metadata(rt, self.name.as_str())?.is_file() {
@@ -72,12 +72,13 @@ impl OutputFile {
         Ok(file)
     }
 
-    /// Gives the file its name where the run is done, by its exit status, and removes it where the run was
-    /// refused. The header of a WAV file of this depth first gets the lengths.
+    /// Gives the file its final name if the run succeeded by its exit status, and removes it if the
+    /// run ended with an error. In a WAV file of this depth it first writes the lengths into the
+    /// header.
     ///
     /// # Errors
-    /// What the system says. Then the file is removed.
-    // Not inlined, so that the stack of a run has no room for the header that is read here.
+    /// The system's error. Then the file is removed.
+    // Not inlined, so that the stack of a run has no space for the header that is read here.
     #[inline(never)]
     pub fn finish(&self, rt: &HostRuntime, status: u8, depth: Option<Depth>) -> io::Result<()> {
         let Some(part) = &self.part else {
@@ -98,7 +99,7 @@ impl OutputFile {
         kept
     }
 
-    /// Gives the file its name, with the lengths in the header of a WAV file.
+    /// Gives the file its final name, with the lengths in the header of a WAV file.
     fn keep(&self, rt: &HostRuntime, part: &str, depth: Option<Depth>) -> io::Result<()> {
         if let Some(depth) = depth {
             put_lengths(rt, part, depth)?;
@@ -107,7 +108,7 @@ impl OutputFile {
     }
 }
 
-/// A text with an end.
+/// A text with another appended.
 fn joined(rt: &HostRuntime, text: &str, end: &str) -> Result<String, AllocError> {
     let mut joined = String::new(rt.alloc());
     joined.push_str(text)?;
@@ -133,24 +134,24 @@ fn put_lengths(rt: &HostRuntime, name: &str, depth: Depth) -> io::Result<()> {
 #[derive(Drop)]
 pub struct Output<'a> {
     to: Place,
-    /// Why the system did not write on, or did not make the file.
+    /// Why the system did not continue writing, or did not create the file.
     trouble: &'a Cell<Option<Error>>,
 }
 
-/// Where it writes to.
+/// Where the output is written to.
 #[derive(Drop)]
 enum Place {
     /// Standard output.
     Standard(StdoutLock<'static>),
     /// The file that the command line names.
     File(File),
-    /// It names one that can't be made.
+    /// A file that can't be created.
     Unmade(Error),
 }
 
 impl<'a> Output<'a> {
-    /// The file, made, or standard output where there is none. What the system says of a failure is put
-    /// into `trouble`.
+    /// The file, created, or standard output if there is none. The system's message for a failure
+    /// is put into `trouble`.
     pub fn new(
         rt: &HostRuntime,
         file: Option<&OutputFile>,

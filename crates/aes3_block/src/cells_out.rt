@@ -1,4 +1,4 @@
-//! The cells of a block, written.
+//! Writing the cells of a block.
 
 ghost use Rattle.std.specs.Prelude.{◌≡◌, ◌<◌, ◌+◌, ◌^◌};
 ghost use Rattle.aes3_cell.specs.Writes.{Wrote};
@@ -9,7 +9,7 @@ ghost use Rattle.aes3_frame.specs.Blocks.{block_cells};
 use aes3_cell::{Fault, Form, Level, Sink, put_words};
 use aes3_frame::{Block, SLOTS, fill_block_cells};
 
-/// Writes the cells of a block after the level `before`: the form's bytes but for its ending.
+/// Writes the cells of a block after the level `before`: the bytes of the form without its ending.
 ///
 /// # Errors
 /// The sink's fault; then it has taken a front of the bytes.

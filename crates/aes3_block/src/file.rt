@@ -1,4 +1,4 @@
-//! Block files as they are read.
+//! Reading block files.
 use aes3_cell::RunError;
 use aes3_frame::{BLOCK_BYTES, Block, SLOTS, has_right_code, has_right_parity, zero_words};
 use arrayvec::ArrayVec;
@@ -6,7 +6,7 @@ use std::fmt::{self, Debug, Display, Formatter, Write};
 use std::marker::Model;
 use thiserror::Error;
 
-/// What a block file can't have. Words are counted from 0 over the whole file.
+/// Why bytes are not a block file. Words are counted from 0 over the whole file.
 #[derive(Clone, Copy, PartialEq, Eq, Error)]
 pub enum FileFault {
     /// The file ends inside a block; `left` bytes, 1 to 1,535, follow the last whole block.
@@ -46,8 +46,8 @@ impl Debug for FileFault {
 
 /// Reads a block file byte by byte.
 ///
-/// A contract sees how many bytes it has taken, the words of the block that is begun, the bytes of
-/// the word that is begun, and what it refused.
+/// A contract sees how many bytes it has taken, the words of the current block, the bytes of the
+/// current word, and the fault that it has found.
 #[derive(Drop)]
 pub struct BlockFile {
     words: ArrayVec<u32, SLOTS>,
@@ -83,7 +83,7 @@ ghost use Rattle.aes3_frame.specs.Files.{is_lawful, low_bytes, payload_of, word_
 ghost use Rattle.aes3_block.specs.Readers.{FileReader, TakesBlock, TakesQuietly, answer_with};
 ghost use Rattle.aes3_block.specs.Readers.{end_answer, next_with, word_fault};
 
-/// The fault of word `at`, its code judged before its parity.
+/// The fault of word `at`. Its code is checked before its parity.
 fn fault_of_word(word: u32, at: u64) -> Option<FileFault>
     ensures { result ≡ word_fault at word }
 {
@@ -96,7 +96,7 @@ fn fault_of_word(word: u32, at: u64) -> Option<FileFault>
     }
 }
 
-/// The word that is begun, of `len` bytes, with one more byte.
+/// The current word, of `len` bytes, with one more byte.
 fn word_with_byte(word: u32, len: u32, byte: u8) -> u32
     requires few { len < 4 }
     requires bound { word < 2 ^ (8 * len) }
@@ -106,7 +106,7 @@ fn word_with_byte(word: u32, len: u32, byte: u8) -> u32
     word | u32::from(byte) << (8 * len)
 }
 
-/// The block of the words where they are so many; then none are left.
+/// The block of the words, if they fill one; then no words are left.
 fn take_block(words: &mut ArrayVec<u32, SLOTS>) -> Option<Block>
     requires { (i : ℕ) → i < length words.old.items
         → is_lawful (get_or words.old.items i 0) ≡ true }
@@ -137,8 +137,8 @@ fn words_of_block(bytes: &[u8; BLOCK_BYTES]) -> [u32; SLOTS]
     words
 }
 
-/// Whether all words are lawful: none has a bit in slots 0 to 3, and none an odd number of ones.
-/// It judges them together, so that the compiler takes several at once.
+/// Whether all words are valid: none has a bit in slots 0 to 3, and none an odd number of ones. It
+/// checks them together, so that the compiler takes several at once.
 fn are_lawful(words: &[u32; SLOTS]) -> bool
     ensures each { result ≡ true → (i : ℕ) → i < block_slots
         → is_lawful (get_or words.now i 0) ≡ true }
@@ -178,11 +178,11 @@ impl BlockFile {
         self.seen
     }
 
-    /// Takes one more byte, and answers the block that it ends.
+    /// Takes one more byte, and returns the block that it ends.
     ///
     /// # Errors
     /// The fault of the word that the byte ends. Then the byte isn't taken, and each later call
-    /// answers the same.
+    /// returns the same fault.
     pub fn feed_byte(&mut self, byte: u8) -> Result<Option<Block>, FileFault>
         requires { self.old.seen < 2 ^ 40 }
         ensures answer { result ≡ answer_with self.old byte }
@@ -208,8 +208,8 @@ impl BlockFile {
         Ok(block)
     }
 
-    /// Takes the four bytes of a word where none is begun, and it is lawful and ends no block, and
-    /// says whether it did; else it changes nothing.
+    /// Takes the four bytes of a word if no word is begun, and the word is valid and ends no block.
+    /// Returns whether it took them; if not, nothing changes.
     ///
     /// It is `feed_byte` for almost every word of a file.
     pub fn feed_word(&mut self, bytes: &[u8; 4]) -> bool
@@ -232,8 +232,8 @@ impl BlockFile {
         true
     }
 
-    /// Takes the bytes of a whole block where none is begun and all its words are lawful, and
-    /// answers it; else it changes nothing.
+    /// Takes the bytes of a whole block if no block is begun and all its words are valid, and
+    /// returns the block. If not, nothing changes.
     ///
     /// It is `feed_byte` for almost every block of a file.
     pub fn feed_block(&mut self, bytes: &[u8; BLOCK_BYTES]) -> Option<Block>
@@ -255,10 +255,10 @@ impl BlockFile {
         Some(Block::of_words(words))
     }
 
-    /// Says whether the file may end here.
+    /// Checks whether the file may end here.
     ///
     /// # Errors
-    /// The fault that was refused before; else `BadLength` where a block is begun.
+    /// The fault that was found before, else `BadLength` if a block is begun.
     pub fn end(&self) -> Result<(), FileFault>
         ensures { result ≡ end_answer self.now }
     {

@@ -1,4 +1,4 @@
-//! Block files as they are written.
+//! Writing block files.
 
 ghost use Rattle.std.specs.Prelude.{◌≡◌, ◌<◌, ◌+◌, ◌^◌, ℕ, get_or, length};
 ghost use Rattle.std.specs.List.{flat_map};
@@ -33,7 +33,7 @@ pub fn bytes_of_block(block: &Block) -> [u8; BLOCK_BYTES]
     bytes_of_words(block.words())
 }
 
-/// Writes a block as 1,536 bytes, handed on as one buffer.
+/// Writes a block as 1,536 bytes, in one buffer.
 ///
 /// # Errors
 /// The sink's fault; then it has taken a front of the bytes.

@@ -1,11 +1,11 @@
 //! Blocks of 192 frames, their cells and their file form (AES3-2, AES3-3, IEC 60958-1).
 #![tactic(auto)]
 
-/// The cells of a block, written.
+/// Writing the cells of a block.
 mod cells_out;
-/// Block files as they are read, byte by byte or a block at a time.
+/// Reading block files, byte by byte or a block at a time.
 mod file;
-/// Block files as they are written.
+/// Writing block files.
 mod file_out;
 /// Laws over all blocks, their files and their channel status.
 pub mod laws;

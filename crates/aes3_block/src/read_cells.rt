@@ -15,20 +15,21 @@ use aes3_cell::{Fault, Form, Level, Sink, put_words};
 use aes3_frame::{GatheredCells, PAYLOAD_LIMIT, SLOTS, wrong_in};
 use aes3_slot::{Mark, mark_of, slot_bits, subframe_cells};
 
-/// A subframe's cells, or all of them inverted.
+/// A subframe's cells, inverted if `inverted` is true.
 fn turned(inverted: bool, cells: u64) -> u64
     ensures { read_word result ≡ read_word cells }
 {
     if inverted { !cells } else { cells }
 }
 
-/// Whether a subframe's cells are inverted, so that the first does not turn the level `before`.
+/// Whether a subframe's cells are inverted, so that the first one does not differ from the level
+/// `before`.
 fn is_inverted(before: Level, cells: u64) -> bool {
     (cells % 2 == 1) != (before == Level::Low)
 }
 
-/// The cells of the subframe with this preamble after the level `before` whose payload these cells
-/// carry.
+/// The cells of the subframe with this preamble after the level `before`, with the payload that
+/// these cells carry.
 fn renewed(before: Level, mark: Mark, cells: u64) -> u64
     ensures { word_cells result ≡ line before (subframe_runs mark
         (take payload_len (read_word cells))) }
@@ -40,8 +41,8 @@ fn renewed(before: Level, mark: Mark, cells: u64) -> u64
     subframe_cells(before, mark, slot_bits(cells) % PAYLOAD_LIMIT)
 }
 
-/// Puts the cells of the block whose payloads these subframes carry into `cells`, after the level
-/// `before`, each anew where it has to be.
+/// Puts the cells of the block of these subframes into `cells`, after the level `before`. It makes
+/// new cells for a subframe where needed.
 fn renew_each(before: Level, words: &[u64; SLOTS], cells: &mut [u64; SLOTS])
     ensures { flat_map word_cells cells.new ≡ block_cells before
         (map (take payload_len) (read_words words.now)) }
@@ -51,8 +52,8 @@ fn renew_each(before: Level, words: &[u64; SLOTS], cells: &mut [u64; SLOTS])
     }
 }
 
-/// Puts the cells of the subframes into `cells`, all of them inverted where the first are, and says
-/// whether they are then the block whose payloads they carry, after the level `before`.
+/// Puts the cells of the subframes into `cells`, all inverted if the first are. Returns whether
+/// they are then the cells of their block after the level `before`.
 fn turn_all(before: Level, words: &[u64; SLOTS], cells: &mut [u64; SLOTS]) -> bool
     ensures { result ≡ true → flat_map word_cells cells.new
         ≡ block_cells before (map (take payload_len) (read_words words.now)) }
@@ -67,8 +68,7 @@ fn turn_all(before: Level, words: &[u64; SLOTS], cells: &mut [u64; SLOTS]) -> bo
     wrong == 0
 }
 
-/// Puts the cells of the block whose payloads these subframes carry into `cells`, after the level
-/// `before`.
+/// Puts the cells of the block of these subframes into `cells`, after the level `before`.
 fn fill_read_cells(before: Level, words: &[u64; SLOTS], cells: &mut [u64; SLOTS])
     ensures { flat_map word_cells cells.new ≡ block_cells before
         (map (take payload_len) (read_words words.now)) }
@@ -78,7 +78,7 @@ fn fill_read_cells(before: Level, words: &[u64; SLOTS], cells: &mut [u64; SLOTS]
     }
 }
 
-/// Writes the cells of the block whose payloads these subframes carry, after the level `before`.
+/// Writes the cells of the block of these subframes, after the level `before`.
 fn put_renewed<T: Sink>(
     form: Form,
     before: Level,
@@ -102,14 +102,14 @@ fn are_same(first: Level, second: Level) -> bool
     first == second
 }
 
-/// The cells of a word, each at the other level.
+/// The cells of a word, inverted.
 fn inverted(cells: u64) -> u64
     ensures { word_cells result ≡ map other (word_cells cells) }
 {
     !cells
 }
 
-/// Puts the words into `cells`, each cell at the other level.
+/// Puts the words into `cells`, with all cells inverted.
 fn invert_all(words: &[u64; SLOTS], cells: &mut [u64; SLOTS])
     ensures { flat_map word_cells cells.new ≡ map other (flat_map word_cells words.now) }
 {
@@ -118,7 +118,7 @@ fn invert_all(words: &[u64; SLOTS], cells: &mut [u64; SLOTS])
     }
 }
 
-/// Writes words of cells, each cell at the other level.
+/// Writes words of cells, with all cells inverted.
 fn put_inverted<T: Sink>(form: Form, words: &[u64; SLOTS], sink: &mut T) -> Result<(), Fault>
     requires room { T.failed sink.old + 1 < 2 ^ 64 }
     ensures { Wrote T.taken T.failed sink.old sink.new
@@ -130,9 +130,11 @@ fn put_inverted<T: Sink>(form: Form, words: &[u64; SLOTS], sink: &mut T) -> Resu
 }
 
 /// Writes the cells of the block whose payloads these subframes carry after the level `before`: the
-/// form's bytes but for its ending. It is `put_block` of `Block::of_cells`, gathers no bits of a
-/// subframe that is right in either polarity, and writes the cells as they came, or all of them
-/// inverted, where they are known to be right.
+/// bytes of the form without its ending.
+///
+/// It is `put_block` of `Block::of_cells`. But it gathers no bits of a subframe that is right in
+/// either polarity. If the cells are known to be right, it writes them as they came, or all
+/// inverted.
 ///
 /// # Errors
 /// The sink's fault; then it has taken a front of the bytes.

@@ -1,4 +1,4 @@
-//! Samples as they are written for sound programs.
+//! Writing samples for sound programs.
 
 ghost use Rattle.std.specs.Prelude.{◌≡◌, map};
 ghost use Rattle.std.specs.List.{flat_map};
@@ -27,7 +27,7 @@ fn bytes_of_samples(words: &[u32; SLOTS]) -> [u8; BLOCK_BYTES]
 }
 
 /// The samples of a block, channel 1 and then channel 2 of each frame: 384 words of 32 bits, lowest
-/// byte first, each with the 24 audio bits of its subframe in the highest ones (AES3-1, IEC
+/// byte first. The highest 24 bits of each are the audio bits of its subframe (AES3-1, IEC
 /// 60958-1).
 pub fn samples_of_block(block: &Block) -> [u8; BLOCK_BYTES]
     ensures { result ≡ block_samples block.now }

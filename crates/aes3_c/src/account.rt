@@ -16,8 +16,8 @@ use crate::report::{Aes3Report, why_of_byte};
 use aes3_lock::Ending;
 use aes3_lock_gaps::{Account, Gap};
 
-/// What has been told of a lock's cells, by its reports and the gaps between them. Its fields are
-/// nobody's but the functions' here.
+/// Which reports of a lock's cells and gaps between them were given. Only the functions here use
+/// its fields.
 #[repr(C)]
 #[derive(Drop)]
 pub struct Aes3Account {
@@ -25,7 +25,7 @@ pub struct Aes3Account {
     pub found: u8,
 }
 
-// The header keeps two words of 64 bits for it.
+// The header reserves two words of 64 bits for it.
 const _: () = prove!(size_of::<Aes3Account>() == 16);
 
 const _: () = prove!(align_of::<Aes3Account>() == 8);
@@ -36,9 +36,9 @@ const _: () = prove!(align_of::<Aes3Account>() == 8);
 pub struct Aes3Gap {
     /// The place of its first cell.
     pub at: u64,
-    /// How many cells it has, 24,576 at most.
+    /// How many cells it has, at most 24,576.
     pub cells: u64,
-    /// 1 where it counts among the faults, 0 where the input is cut there.
+    /// 1 if it counts as a fault, 0 if the input is cut there.
     pub counts: u8,
 }
 
@@ -72,7 +72,7 @@ fn put_gap(told: Gap, gap: &mut Aes3Gap)
     gap.counts = if told.counts { 1 } else { 0 };
 }
 
-/// What became of a block, where a report tells it.
+/// The ending of a block that a report gives, if it gives one.
 fn ending_of(report: &Aes3Report) -> Option<Ending>
     ensures { (block : List (List Bool)) → told_of block report.now
         ≡ option_map (report_with block) result }
@@ -101,7 +101,7 @@ fn ending_of(report: &Aes3Report) -> Option<Ending>
     }
 }
 
-/// Makes an account of which nothing is told.
+/// Makes an account for a lock that has seen no cell.
 #[unsafe(no_mangle)]
 pub extern "C" fn aes3_account_init(account: &mut Aes3Account)
     ensures { (c : List Level) → length c ≤ 2 ^ 43 → Tells (account_in account.new) c [] }
@@ -109,8 +109,8 @@ pub extern "C" fn aes3_account_init(account: &mut Aes3Account)
     keep_account(Account::new(), account);
 }
 
-/// Puts the next gap before a report and answers true; or, where none is left or there is no report,
-/// takes the report for told and answers false.
+/// Puts the next gap before a report, and returns true. If no gap is left or there is no report,
+/// counts the report as given and returns false.
 #[unsafe(no_mangle)]
 pub extern "C" fn aes3_account_before(
     account: &mut Aes3Account,
@@ -145,8 +145,8 @@ pub extern "C" fn aes3_account_before(
     }
 }
 
-/// Puts the next gap that stands whatever cells follow the first `seen`, all of whose reports are
-/// told, and answers true; or false where none is left.
+/// Puts the next gap that no later cell changes after the first `seen`, all of whose reports were
+/// given, and returns true. If no gap is left, returns false.
 #[unsafe(no_mangle)]
 pub extern "C" fn aes3_account_passed(
     account: &mut Aes3Account,
@@ -175,8 +175,8 @@ pub extern "C" fn aes3_account_passed(
     }
 }
 
-/// Puts the next gap at the end of the `seen` cells, all of whose reports are told, and answers
-/// true; or false where none is left, and all is told.
+/// Puts the next gap at the end of the `seen` cells, all of whose reports were given, and returns
+/// true. If no gap is left, returns false: everything was given.
 #[unsafe(no_mangle)]
 pub extern "C" fn aes3_account_end(account: &mut Aes3Account, seen: u64, gap: &mut Aes3Gap) -> bool
     ensures gap { result ≡ true → (c : List Level) (e : List Entry)

@@ -1,4 +1,4 @@
-//! The bits that the subframes of a block carry beside their audio: V, U and channel status.
+//! The bits that the subframes of a block carry besides their audio: V, U and channel status.
 
 ghost use Rattle.std.specs.Prelude.{◌≡◌, ◌≢◌, ◌<◌, ◌≤◌, ℕ, true, false, get_or, map};
 ghost use Rattle.aes3_frame.specs.Files.{is_lawful, payload_of};
@@ -9,9 +9,9 @@ ghost use Rattle.aes3_c.specs.Codes.{channel_of, is_channel};
 use crate::block::{NO_CHANNEL, channel_of_number, is_channel};
 use aes3_block::Block;
 
-/// Puts the validity bits of a channel, of the block of these words, into `bits`: bit `i % 8` of byte
-/// `i / 8` is the V bit of frame `i`. Answers 384, the number of the first word that no
-/// block file may have, or 385 where the channel is neither 1 nor 2; in both cases no byte is put.
+/// Puts the validity bits of a channel, of the block of these words, into `bits`: bit `i % 8` of
+/// byte `i / 8` is the V bit of frame `i`. Returns 384, or the number of the first word that is not
+/// valid, or 385 if the channel is neither 1 nor 2. In both other cases `bits` is unchanged.
 #[unsafe(no_mangle)]
 #[tactic(auto, unfolding(aes3_frame::specs::Blocks::block_slots))]
 pub extern "C" fn aes3_block_validity(words: &[u32; 384], channel: u8, bits: &mut [u8; 24]) -> u32
@@ -36,9 +36,9 @@ pub extern "C" fn aes3_block_validity(words: &[u32; 384], channel: u8, bits: &mu
     }
 }
 
-/// Puts the user data bits of a channel, of the block of these words, into `bits`: bit `i % 8` of byte
-/// `i / 8` is the U bit of frame `i`. Answers 384, the number of the first word that no
-/// block file may have, or 385 where the channel is neither 1 nor 2; in both cases no byte is put.
+/// Puts the user data bits of a channel, of the block of these words, into `bits`: bit `i % 8` of
+/// byte `i / 8` is the U bit of frame `i`. Returns 384, or the number of the first word that is not
+/// valid, or 385 if the channel is neither 1 nor 2. In both other cases `bits` is unchanged.
 #[unsafe(no_mangle)]
 #[tactic(auto, unfolding(aes3_frame::specs::Blocks::block_slots))]
 pub extern "C" fn aes3_block_user(words: &[u32; 384], channel: u8, bits: &mut [u8; 24]) -> u32
@@ -63,9 +63,9 @@ pub extern "C" fn aes3_block_user(words: &[u32; 384], channel: u8, bits: &mut [u
     }
 }
 
-/// Sets the channel status of a channel in the block of these words, and nothing else but the
-/// parity bits that follow. Answers 384, the number of the first word that no block file may
-/// have, or 385 where the channel is neither 1 nor 2; in both cases no word is changed.
+/// Sets the channel status of a channel in the block of these words, and the parity bits; nothing
+/// else changes. Returns 384, or the number of the first word that is not valid, or 385 if the
+/// channel is neither 1 nor 2. In both other cases `words` is unchanged.
 #[unsafe(no_mangle)]
 #[tactic(auto, unfolding(aes3_frame::specs::Blocks::block_slots))]
 pub extern "C" fn aes3_block_set_status(words: &mut [u32; 384], channel: u8, bits: &[u8; 24]) -> u32
@@ -93,9 +93,9 @@ pub extern "C" fn aes3_block_set_status(words: &mut [u32; 384], channel: u8, bit
     }
 }
 
-/// Sets the validity bits of a channel in the block of these words, and nothing else but the
-/// parity bits that follow. Answers 384, the number of the first word that no block file may
-/// have, or 385 where the channel is neither 1 nor 2; in both cases no word is changed.
+/// Sets the validity bits of a channel in the block of these words, and the parity bits; nothing
+/// else changes. Returns 384, or the number of the first word that is not valid, or 385 if the
+/// channel is neither 1 nor 2. In both other cases `words` is unchanged.
 #[unsafe(no_mangle)]
 #[tactic(auto, unfolding(aes3_frame::specs::Blocks::block_slots))]
 pub extern "C" fn aes3_block_set_validity(
@@ -127,9 +127,9 @@ pub extern "C" fn aes3_block_set_validity(
     }
 }
 
-/// Sets the user data bits of a channel in the block of these words, and nothing else but the
-/// parity bits that follow. Answers 384, the number of the first word that no block file may
-/// have, or 385 where the channel is neither 1 nor 2; in both cases no word is changed.
+/// Sets the user data bits of a channel in the block of these words, and the parity bits; nothing
+/// else changes. Returns 384, or the number of the first word that is not valid, or 385 if the
+/// channel is neither 1 nor 2. In both other cases `words` is unchanged.
 #[unsafe(no_mangle)]
 #[tactic(auto, unfolding(aes3_frame::specs::Blocks::block_slots))]
 pub extern "C" fn aes3_block_set_user(words: &mut [u32; 384], channel: u8, bits: &[u8; 24]) -> u32

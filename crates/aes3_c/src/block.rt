@@ -11,9 +11,9 @@ ghost use Rattle.aes3_c.specs.Codes.{channel_of, is_channel};
 use crate::level::level_of_byte;
 use aes3_block::{Block, Channel, fill_block_cells};
 
-/// Puts the cells of the block of these words, behind a cell of the level `before`, into `cells`, a
-/// word a subframe. Answers 384, or the number of the first word that no block file may have; then
-/// no cell is put.
+/// Puts the cells of the block of these words, after a cell of the level `before`, into `cells`, a
+/// word for each subframe. Returns 384, or the number of the first word that is not valid; then
+/// `cells` is unchanged.
 #[unsafe(no_mangle)]
 #[tactic(auto, unfolding(aes3_frame::specs::Blocks::block_slots))]
 pub extern "C" fn aes3_encode_block(words: &[u32; 384], before: u8, cells: &mut [u64; 384]) -> u32
@@ -33,7 +33,7 @@ pub extern "C" fn aes3_encode_block(words: &[u32; 384], before: u8, cells: &mut 
     }
 }
 
-/// What a call answers of a number that is no channel's.
+/// The return value of calls for a number that is no channel's.
 pub(crate) const NO_CHANNEL: u32 = 385;
 
 /// Whether the number is that of a channel, 1 or 2.
@@ -54,9 +54,9 @@ pub(crate) fn channel_of_number(number: u8) -> Channel
     }
 }
 
-/// Puts the 24 bytes of a channel's status, of the block of these words, into `status`. Answers
-/// 384, the number of the first word that no block file may have, or 385 where the channel is neither
-/// 1 nor 2; in both cases no byte is put.
+/// Puts the 24 bytes of a channel's status, of the block of these words, into `status`. Returns
+/// 384, or the number of the first word that is not valid, or 385 if the channel is neither 1 nor
+/// 2. In both other cases `status` is unchanged.
 #[unsafe(no_mangle)]
 #[tactic(auto, unfolding(aes3_frame::specs::Blocks::block_slots))]
 pub extern "C" fn aes3_block_status(words: &[u32; 384], channel: u8, status: &mut [u8; 24]) -> u32

@@ -11,35 +11,36 @@ use crate::recovering::recover_into;
 pub struct Aes3Capture {
     /// How many octets of packed cells were put.
     pub octets: u64,
-    /// How many samples there were, and how many cells were recovered of them.
+    /// How many samples there were, and how many cells were recovered from them.
     pub samples: u64,
     pub cells: u64,
-    /// How long a cell was last, in 65,536ths of a sample; 0 where none was given or found.
+    /// The latest length of a cell, in 65,536ths of a sample; 0 if none was given or found.
     pub period: u64,
-    /// How many edges were followed, the greatest distance of one from its place, and the sum of
-    /// the squares of these, in 256ths of a sample.
+    /// How many edges were followed, the greatest distance of an edge from its place, and the sum
+    /// of the squares of these distances, in 256ths of a sample.
     pub edges: u64,
     pub greatest: u64,
     pub squares: u64,
-    /// How many stretches were dead, where the latest began, in samples, and how often the line was
-    /// measured.
+    /// How many stretches had no signal, where the latest began, in samples, and how often the line
+    /// was measured.
     pub dead: u64,
     pub dead_at: u64,
     pub measured: u64,
 }
 
-// As the header has it.
+// As in the header.
 const _: () = prove!(size_of::<Aes3Capture>() == 80);
 
 const _: () = prove!(align_of::<Aes3Capture>() == 8);
 
-/// Recovers the cells of a line from all samples of a capture, of `unit` octets each, 1 or 2, the
-/// lower first, in whose bit `bit` the line is. Any other `unit` than 2 is 1, and of a `bit` past the
-/// last its remainder by 8 or 16 counts. A cell is `period` 65,536ths of a sample, or is measured
-/// where that is 0. Puts the packed cells, and what was found. Answers whether there was room for all
-/// of them; else a front of them stands there, and what was found is that of all samples. Where no
-/// line was found there are no cells, or with a period those of that alone, which no measurement
-/// confirmed.
+/// Recovers the cells of a line from all samples of a capture. A sample has `unit` octets, 1 or 2,
+/// the lower first, and the line is in its bit `bit`. Any other `unit` than 2 is 1, and a `bit`
+/// past the last is replaced by its remainder by 8 or 16. A cell has a length of `period` 65,536ths
+/// of a sample; if that is 0, it is measured. Puts the packed cells, and what was found.
+///
+/// Returns whether there was room for all of them. If not, the first of them are put, and what was
+/// found is that of all samples. If no line was found, there are no cells. With a period they are
+/// then those counted by it alone, which no measurement confirmed.
 #[unsafe(no_mangle)]
 pub extern "C" fn aes3_capture_cells(
     samples: &[u8],

@@ -7,8 +7,8 @@ ghost use Rattle.aes3_cell.specs.Packed.{cells_of_octets, octets_of};
 
 use aes3_cell::{line_of_word, octets_of_word, word_of_octets, word_of_text};
 
-/// Puts the cells of 64 characters, each `0` or `1`, into `word`, the first in bit 0, and answers
-/// whether they are such; else it changes nothing.
+/// Puts the cells of 64 characters, each `0` or `1`, into `word`, the first in bit 0, and returns
+/// true. If a character is another one, returns false and changes nothing.
 #[unsafe(no_mangle)]
 pub extern "C" fn aes3_word_of_text(text: &[u8; 64], word: &mut u64) -> bool
     ensures cells { result ≡ true → text.now ≡ map byte_of (word_cells word.new) }

@@ -28,7 +28,7 @@ pub struct Aes3Consumer {
     pub rest: [u8; 19],
 }
 
-// As the header has it.
+// As in the header.
 const _: () = prove!(size_of::<Aes3Consumer>() == 33);
 
 const _: () = prove!(align_of::<Aes3Consumer>() == 1);
@@ -55,8 +55,8 @@ fn fields_of(status: &Con) -> Aes3Consumer
     }
 }
 
-/// Puts the fields of a channel status for consumer use, and answers whether it is one; else it
-/// changes nothing.
+/// Puts the fields of a channel status for consumer use, and returns true. If it is not for
+/// consumer use, returns false and changes nothing.
 #[unsafe(no_mangle)]
 pub extern "C" fn aes3_status_consumer(status: &[u8; 24], fields: &mut Aes3Consumer) -> bool
     ensures consumer { result ≡ not (is_professional status.now) }
@@ -91,7 +91,7 @@ fn fits(fields: &Aes3Consumer) -> bool
         && fields.original < 16
 }
 
-/// The first bytes of these fields, those before `rest`.
+/// The first bytes of a status with these fields, those before `rest`.
 fn first_bytes(fields: &Aes3Consumer) -> [u8; 5]
     requires { ConsumerFits fields.now }
     ensures { result ≡ first_bytes fields.now }
@@ -106,7 +106,7 @@ fn first_bytes(fields: &Aes3Consumer) -> [u8; 5]
     ]
 }
 
-/// The bytes of these fields.
+/// The bytes of a status with these fields.
 fn bytes_of(fields: &Aes3Consumer) -> [u8; 24]
     requires { ConsumerFits fields.now }
     ensures { result ≡ consumer_bytes fields.now }
@@ -117,8 +117,8 @@ fn bytes_of(fields: &Aes3Consumer) -> [u8; 24]
     bytes
 }
 
-/// Puts the channel status for consumer use that has these fields, and answers whether each field
-/// has bits for its code; else it changes nothing (IEC 60958-3).
+/// Puts the channel status for consumer use that has these fields (IEC 60958-3), and returns true.
+/// If a code has more bits than its field, returns false and changes nothing.
 #[unsafe(no_mangle)]
 pub extern "C" fn aes3_status_of_consumer(fields: &Aes3Consumer, status: &mut [u8; 24]) -> bool
     ensures fits { result ≡ true ↔ ConsumerFits fields.now }

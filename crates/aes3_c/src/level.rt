@@ -5,7 +5,7 @@ ghost use Rattle.aes3_level.specs.Words.{bit_of, level_of};
 
 use aes3_cell::Level;
 
-/// The level of a byte: low where it is 0, else high.
+/// The level of a byte: low if it is 0, else high.
 pub(crate) fn level_of_byte(byte: u8) -> Level
     ensures { result ≡ level_of byte }
 {

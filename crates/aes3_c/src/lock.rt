@@ -17,7 +17,7 @@ use crate::report::{Aes3Report, put_block, put_ending, put_report};
 use crate::taking::{Took, take_first};
 use aes3_lock::{Candidate, Ending, Lock, LockParts};
 
-/// A lock as plain numbers. Its fields are nobody's but the functions' here.
+/// A lock as plain numbers. Only the functions here use its fields.
 #[repr(C)]
 #[derive(Drop)]
 pub struct Aes3Lock {
@@ -31,7 +31,7 @@ pub struct Aes3Lock {
     pub level: u8,
 }
 
-// The header keeps 388 words of 64 bits for it.
+// The header reserves 388 words of 64 bits for it.
 const _: () = prove!(size_of::<Aes3Lock>() == 3104);
 
 const _: () = prove!(align_of::<Aes3Lock>() <= 8);
@@ -99,7 +99,7 @@ pub extern "C" fn aes3_lock_seen(lock: &Aes3Lock) -> u64
     lock.seen
 }
 
-/// How many cells of a word a lock that has seen so many takes at most.
+/// How many cells of a word a lock takes at most after `seen` cells.
 fn most_of(seen: u64, count: u32) -> u32
     ensures count { result ≤ count }
     ensures word { result ≤ 64 }
@@ -112,8 +112,8 @@ fn most_of(seen: u64, count: u32) -> u32
     u64::from(count.min(64)).min(MOST - seen) as u32
 }
 
-/// `Lock::take` of a lock that is kept.
-// A call of its own, so that the lock is off the stack where a block is put. So is `end_of`.
+/// `Lock::take` for a lock that is kept by its caller.
+// A call of its own, so that the lock is off the stack when a block is put. So is `end_of`.
 #[inline(never)]
 pub(crate) fn take_cells(lock: &mut Aes3Lock, words: &[u64], first: usize, len: usize) -> Took
     requires within { first + len ≤ 64 * length words.now }
@@ -127,9 +127,9 @@ pub(crate) fn take_cells(lock: &mut Aes3Lock, words: &[u64], first: usize, len: 
     taken
 }
 
-/// Takes the first cells of a word, the earliest in bit 0, up to the first that decides a report
-/// and with it, and at most `count` and 64, and puts that report, if any. Answers how many it took;
-/// no lock takes more than 2^43 cells.
+/// Takes at most `count` cells from the front of a word, and at most 64, the earliest in bit 0. It
+/// stops after the first cell that decides a report, and puts that report, if any. Returns how many
+/// it took; no lock takes more than 2^43 cells.
 #[unsafe(no_mangle)]
 pub extern "C" fn aes3_lock_push(
     lock: &mut Aes3Lock,
@@ -163,16 +163,16 @@ pub extern "C" fn aes3_lock_push(
     taken.cells as u32
 }
 
-/// How many words of 64 cells a lock that has seen so many takes at most.
+/// How many words of 64 cells a lock takes at most after `seen` cells.
 fn most_words(seen: u64, len: usize) -> usize
     ensures { result ≡ min len ((2 ^ 43 - seen) / 64) }
 {
     (len as u64).min(MOST.saturating_sub(seen) / 64) as usize
 }
 
-/// Takes words of 64 cells, the earliest in bit 0, as far as none decides a report and no block
-/// begins in one while the lock holds none. Answers how many it took; no lock takes more than 2^43
-/// cells.
+/// Takes words of 64 cells, the earliest in bit 0. It stops before a word that decides a report, or
+/// that ends the preamble of a block while no block is begun. Returns how many it took; no lock
+/// takes more than 2^43 cells.
 #[unsafe(no_mangle)]
 pub extern "C" fn aes3_lock_take_words(lock: &mut Aes3Lock, words: &[u64]) -> usize
     ensures within { result ≤ length words.now }
@@ -194,7 +194,7 @@ pub extern "C" fn aes3_lock_take_words(lock: &mut Aes3Lock, words: &[u64]) -> us
     taken
 }
 
-/// `Lock::end` of a lock that is kept.
+/// `Lock::end` for a lock that is kept by its caller.
 #[inline(never)]
 fn end_of(lock: &Aes3Lock) -> Option<Ending>
     ensures { (cells : List Level) → Follows (state_of lock.now) cells
@@ -215,8 +215,9 @@ pub extern "C" fn aes3_lock_finish(lock: &Aes3Lock, report: &mut Aes3Report)
     put_report(&lock.words, end_of(lock), report);
 }
 
-/// Puts the words of the block of which the lock told last that it is whole or marked, as a block
-/// file has them, until it takes more cells; of a marked block with parity bits that are right.
+/// Puts the words of the block of the lock's last report, as in a block file, until the lock takes
+/// more cells. That report is of a whole or a marked block; the words of a marked block get right
+/// parity bits.
 #[unsafe(no_mangle)]
 pub extern "C" fn aes3_lock_block(lock: &Aes3Lock, words: &mut [u32; 384])
     ensures words { words.new ≡ map word_of (block_in (state_of lock.now)) }

@@ -11,7 +11,7 @@ pub(crate) struct Given<'a> {
     pub octets: &'a [u8],
 }
 
-/// All octets that it was given. A clause reads them as `octets`.
+/// All octets that the log was given. A clause reads them as `octets`.
 #[derive(Drop)]
 pub(crate) struct Log {
     pub ghost octets: { List ℕ },
@@ -22,14 +22,14 @@ impl Model for Log {
 }
 
 impl Log {
-    /// A log that was given none.
+    /// A log that was given no octets.
     pub(crate) fn new() -> Log
         ensures { result.octets ≡ [] }
     {
         Log {}
     }
 
-    /// A log that was given these too.
+    /// A log that was given these octets too.
     #[inline(always)]
     pub(crate) fn and(&self, _more: &Given<'_>) -> Log
         ensures { result.octets ≡ self.now.octets ++ _more.now.octets.now }

@@ -17,11 +17,11 @@ use crate::taking::{Took, take_first};
 use aes3_cell::{word_of_octets, words_of_octets};
 use aes3_lock::Lock;
 
-/// How many words are made of octets at once: so few that they take little of the stack, and so
-/// many that the calls for them cost little.
+/// How many words are made from octets at once: so few that they take little of the stack, and so
+/// many that the cost of the calls is small.
 const WORDS: usize = 64;
 
-/// How many cells of octets, from cell `first` on, a lock that has seen so many takes at most.
+/// How many cells of octets, from cell `first` on, a lock takes at most after `seen` cells.
 fn most_cells(seen: u64, octets: usize, first: usize) -> usize
     ensures { result ≡ min (8 * octets - first) (2 ^ 43 - seen) }
 {
@@ -46,8 +46,8 @@ fn word_from(octets: &[u8], at: usize) -> u64
     word_of_octets(&eight) >> (at % 8)
 }
 
-/// Takes the cells of octets by whole words, or as far as the first that decides a report, and that
-/// one too.
+/// Takes the cells of octets by whole words, up to and including the first that decides a report,
+/// if any does.
 fn take_words_of(state: &mut Lock, octets: &[u8]) -> Took
     requires whole { length octets.now % 8 ≡ 0 }
     requires few { length octets.now ≤ 8 * WORDS }
@@ -61,8 +61,8 @@ fn take_words_of(state: &mut Lock, octets: &[u8]) -> Took
     take_first(state, words, 0, 8 * octets.len())
 }
 
-/// Takes some of `len` cells of octets from cell `at` on, up to the first that decides a report and
-/// with it.
+/// Takes some of `len` cells of octets from cell `at` on, up to and including the first that
+/// decides a report.
 fn take_some(state: &mut Lock, octets: &[u8], at: usize, len: usize) -> Took
     requires some { 0 < len }
     requires within { at + len ≤ 8 * length octets.now }
@@ -81,8 +81,8 @@ fn take_some(state: &mut Lock, octets: &[u8], at: usize, len: usize) -> Took
     take_first(state, &[word_from(octets, at)], 0, most)
 }
 
-/// Takes `len` cells of octets from cell `first` on, or as far as the first that decides a report,
-/// and that one too.
+/// Takes `len` cells of octets from cell `first` on, up to and including the first that decides a
+/// report, if any does.
 fn take_cells(state: &mut Lock, octets: &[u8], first: usize, len: usize) -> Took
     requires within { first + len ≤ 8 * length octets.now }
     requires fits { first + len < 2 ^ 64 }
@@ -106,9 +106,9 @@ fn take_cells(state: &mut Lock, octets: &[u8], first: usize, len: usize) -> Took
     }
 }
 
-/// Takes the cells of octets, eight an octet, the first in its highest bit, from cell `first` of
-/// all on, up to the first that decides a report and with it, and puts that report, if any, but no
-/// words: `aes3_lock_block` puts these. Answers how many cells it took; no lock takes more than
+/// Takes the cells of octets from cell `first` of all on, eight in each octet, the first in its
+/// highest bit. It stops after the first cell that decides a report. Puts that report, if any, but
+/// no words: `aes3_lock_block` puts these. Returns how many cells it took; no lock takes more than
 /// 2^43.
 #[unsafe(no_mangle)]
 pub extern "C" fn aes3_lock_take_octets(

@@ -33,7 +33,7 @@ pub struct Aes3Professional {
     pub b22low: u8,
 }
 
-// As the header has it.
+// As in the header.
 const _: () = prove!(size_of::<Aes3Professional>() == 32);
 
 const _: () = prove!(align_of::<Aes3Professional>() == 4);
@@ -63,8 +63,8 @@ fn fields_of(status: &Pro) -> Aes3Professional
     }
 }
 
-/// Puts the fields of a channel status for professional use, and answers whether it is one; else it
-/// changes nothing.
+/// Puts the fields of a channel status for professional use, and returns true. If it is not for
+/// professional use, returns false and changes nothing.
 #[unsafe(no_mangle)]
 pub extern "C" fn aes3_status_professional(status: &[u8; 24], fields: &mut Aes3Professional) -> bool
     ensures professional { result ≡ is_professional status.now }
@@ -96,7 +96,7 @@ fn fits(fields: &Aes3Professional) -> bool
         && fields.b22low < 16
 }
 
-/// The bytes of these fields, and 0 in the place of the check byte.
+/// The bytes of a status with these fields, with 0 as the check byte.
 fn bytes_of(fields: &Aes3Professional) -> [u8; 24]
     requires { ProfessionalFits fields.now }
     ensures bytes { result ≡ professional_bytes fields.now 0 }
@@ -136,8 +136,9 @@ fn bytes_of(fields: &Aes3Professional) -> [u8; 24]
     ]
 }
 
-/// Puts the channel status for professional use that has these fields and their check byte, and
-/// answers whether each field has bits for its code; else it changes nothing (AES3-2).
+/// Puts the channel status for professional use that has these fields, with its check byte
+/// (AES3-2), and returns true. If a code has more bits than its field, returns false and changes
+/// nothing.
 #[unsafe(no_mangle)]
 pub extern "C" fn aes3_status_of_professional(
     fields: &Aes3Professional,

@@ -73,7 +73,8 @@ fn recover_all<T: Sink>(
     recovery.finish(sink)
 }
 
-/// Recovers the cells of a line, and gives them to a sink that was given none, which has the same memory then. Puts what was found.
+/// Recovers the cells of a line for a sink that was given nothing before, and puts what was found.
+/// The sink still refers to the same memory.
 fn recover_to(
     sink: &mut RoomSink<'_>,
     samples: &[u8],
@@ -93,7 +94,7 @@ fn recover_to(
     put_found(&recovery, sink.count, found);
 }
 
-/// Recovers the cells of a line, and puts them and what was found. Answers whether there was room.
+/// Recovers the cells of a line, and puts them and what was found. Returns whether there was room.
 pub(crate) fn recover_into(
     samples: &[u8],
     unit: u8,

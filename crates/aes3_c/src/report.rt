@@ -19,20 +19,21 @@ use aes3_lock::{Ending, Why};
 pub struct Aes3Report {
     /// The place of the block's first cell.
     pub at: u64,
-    /// Of a fault the cell that refutes the block, of a begun block how many cells of it there are.
+    /// For a fault the cell that refutes the block, for a begun block how many of its cells there
+    /// are.
     pub cell: u64,
-    /// Of a whole block its words, as a block file has them.
+    /// For a whole block its words, as in a block file.
     pub words: [u32; 384],
-    /// Of a marked block how many subframes have a wrong parity bit.
+    /// For a marked block how many subframes have a wrong parity bit.
     pub wrong: u16,
     pub kind: u8,
-    /// Of a whole or a marked block the level before its first cell.
+    /// For a whole or a marked block the level before its first cell.
     pub before: u8,
-    /// Of a fault 0 for a preamble, 1 for biphase, 2 for a block that isn't closed.
+    /// For a fault 0 for a preamble, 1 for biphase, 2 for a block that isn't closed.
     pub why: u8,
 }
 
-// As the header has it.
+// As in the header.
 const _: () = prove!(size_of::<Aes3Report>() == 1560);
 
 const _: () = prove!(align_of::<Aes3Report>() == 8);
@@ -59,18 +60,18 @@ pub(crate) fn why_of_byte(byte: u8) -> Why
     }
 }
 
-/// Puts the same words once more.
-// In the place itself: an array that is answered would be one more on the stack.
+/// Puts a copy of the words.
+// In place: an array that is returned would be one more on the stack.
 fn put_words(words: &[u32; 384], out: &mut [u32; 384])
     ensures same { out.new ≡ words.now }
     ensures fits { (i : ℕ) → i < 384 → get_or words.now i 0 < 2 ^ 32 }
 {
-    // A word that is counted tells a proof that each is of 32 bits.
+    // Counting the ones of a word gives a proof the fact that each word has 32 bits.
     prove!(words[0].count_ones() <= 32);
     *out = *words;
 }
 
-/// Puts the words of a block, as a block file has them.
+/// Puts the words of a block, as in a block file.
 fn put_words_of(block: &Block, out: &mut [u32; 384])
     ensures words { out.new ≡ map word_of block.now }
     ensures payloads { map payload_of out.new ≡ block.now }
@@ -86,7 +87,7 @@ pub(crate) fn put_block(cells: &[u64; 384], words: &mut [u32; 384])
     put_words_of(&Block::of_cells(cells), words);
 }
 
-/// Puts what became of a block that was begun, if anything did, and leaves the words.
+/// Puts the ending of a block that was begun, if there is one, and leaves the words unchanged.
 pub(crate) fn put_ending(ending: Option<Ending>, out: &mut Aes3Report)
     ensures told { (slots : List (List Bool)) → told_of (payloads_of slots) out.new
         ≡ option_map (ending_report slots) ending }
@@ -121,8 +122,8 @@ pub(crate) fn put_ending(ending: Option<Ending>, out: &mut Aes3Report)
     }
 }
 
-/// Puts what became of a block that was begun, if anything did, and where it is whole the words of
-/// the one whose subframes have these cells.
+/// Puts the ending of a block that was begun, if there is one. If the block is whole, also puts its
+/// words, given the cells of its subframes.
 pub(crate) fn put_report(cells: &[u64; 384], ending: Option<Ending>, out: &mut Aes3Report)
     ensures told { told_in out.new ≡ option_map (ending_report (read_words cells.now)) ending }
     ensures codes { Coded (option_map (ending_report (read_words cells.now)) ending) out.new }

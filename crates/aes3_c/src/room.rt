@@ -6,14 +6,14 @@ ghost use Rattle.aes3_c.specs.Putting.{IsPut};
 use crate::log::{Given, Log};
 use aes3_cell::{Fault, Sink};
 
-/// Puts octets into memory as long as there is room, and leaves the others out. It never fails.
+/// Puts octets into memory as long as there is room, and drops the others. It never fails.
 #[derive(Drop)]
 pub(crate) struct RoomSink<'a> {
     pub memory: &'a mut [u8],
     /// How many octets were put, and whether these are all that it was given.
     pub count: usize,
     pub fits: bool,
-    /// What stood in the memory, and all octets that it was given.
+    /// The former contents of the memory, and all octets that it was given.
     pub was: Log,
     pub given: Log,
     pub ghost put: { IsPut was.octets given.octets memory.now count fits },

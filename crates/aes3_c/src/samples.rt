@@ -1,4 +1,4 @@
-//! The samples of blocks, as sound programs have them.
+//! The samples of blocks, in the form of sound programs.
 
 ghost use Rattle.std.specs.Prelude.{◌≡◌, ◌≢◌, ◌<◌, ◌≤◌, ℕ, true, false, get_or, map};
 ghost use Rattle.std.specs.List.{flat_map};
@@ -25,10 +25,10 @@ fn put_samples(words: &[u32; 384], samples: &mut [u32; 384])
     }
 }
 
-/// Puts the samples of the block of these words, channel 1 and then channel 2 of each frame: words
-/// of 32 bits in two's complement, each with the 24 audio bits of its subframe in the highest ones
-/// and 0 in the lowest 8 (AES3-1, IEC 60958-1). Answers 384, or the number of the first word that
-/// no block file may have; then no sample is put.
+/// Puts the samples of the block of these words, channel 1 and then channel 2 of each frame. They
+/// are words of 32 bits in two's complement: the 24 audio bits in the highest ones, and 0 in the
+/// lowest 8 (AES3-1, IEC 60958-1). Returns 384, or the number of the first word that is not valid;
+/// then `samples` is unchanged.
 #[unsafe(no_mangle)]
 #[tactic(auto, unfolding(aes3_frame::specs::Blocks::block_slots))]
 pub extern "C" fn aes3_block_samples(words: &[u32; 384], samples: &mut [u32; 384]) -> u32
@@ -62,9 +62,9 @@ fn octets_of_samples(samples: &[u32; 384]) -> [u8; BLOCK_BYTES]
     octets
 }
 
-/// Puts the words of the block of these samples, channel 1 and then channel 2 of each frame: the
-/// audio of a subframe is the highest 24 bits of its sample, the lowest 8 don't count, and V, U and
-/// C are 0 (AES3-1, IEC 60958-1).
+/// Puts the words of the block of these samples, channel 1 and then channel 2 of each frame. The
+/// audio of a subframe is the highest 24 bits of its sample (AES3-1, IEC 60958-1). The lowest 8
+/// bits are ignored, and V, U and C are 0.
 #[unsafe(no_mangle)]
 #[tactic(auto, unfolding(aes3_frame::specs::Blocks::block_slots))]
 pub extern "C" fn aes3_block_of_samples(samples: &[u32; 384], words: &mut [u32; 384])

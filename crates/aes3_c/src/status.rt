@@ -16,8 +16,8 @@ pub extern "C" fn aes3_status_check_byte(status: &[u8; 24]) -> u8
     check_byte(status)
 }
 
-/// How a professional channel status stands to its check byte: 0 where it holds, 1 where it does
-/// not and byte 23 is zero, else 2.
+/// The state of the check byte of a professional channel status: 0 if it holds, 1 if it does not
+/// and byte 23 is zero, else 2.
 #[unsafe(no_mangle)]
 pub extern "C" fn aes3_status_check_state(status: &[u8; 24]) -> u8
     ensures { result ≡ check_code (check_state_of status.now) }

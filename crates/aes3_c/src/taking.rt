@@ -13,7 +13,7 @@ use aes3_lock::{Ending, Lock};
 pub(crate) struct Took {
     /// How many.
     pub(crate) cells: usize,
-    /// What the last of them made of the candidate that it ended, if it ended one.
+    /// How the last of them ended a candidate, if it ended one.
     pub(crate) ending: Option<Ending>,
 }
 

@@ -6,7 +6,7 @@ ghost use Rattle.aes3_status_text.specs.StatusTexts.{status_text};
 use aes3_status_text::{Line, STATUS_LEN, put_status};
 
 /// Puts the use and the fields of a channel status as `aes3 show` prints them (AES3-2, IEC
-/// 60958-3), each with a space before it. Answers how many bytes they are.
+/// 60958-3), each with a space before it. Returns how many bytes it put.
 #[unsafe(no_mangle)]
 pub extern "C" fn aes3_status_text(status: &[u8; 24], text: &mut [u8; STATUS_LEN]) -> u32
     ensures within { result ≤ STATUS_LEN }

@@ -25,7 +25,7 @@ pub struct Aes3Wav {
     /// How many frames a second has, and how many channels a frame.
     pub rate: u32,
     pub channels: u16,
-    /// How many octets a sample has, and how many of its bits count.
+    /// How many octets a sample has, and how many of its bits are valid.
     pub octets: u8,
     pub bits: u8,
 }
@@ -35,10 +35,10 @@ const _: () = prove!(size_of::<Aes3Wav>() == 24);
 
 const _: () = prove!(align_of::<Aes3Wav>() == 8);
 
-/// The answer if the header is whole.
+/// The return value if the header is whole.
 const WHOLE: u8 = 1;
 
-/// The answer if more octets are needed.
+/// The return value if more octets are needed.
 const MORE: u8 = 0;
 
 /// Why a header is rejected, as a number.
@@ -69,7 +69,7 @@ fn len_code(len: Option<u64>) -> u64
     }
 }
 
-/// How many bits of a sample count.
+/// How many bits of a sample are valid.
 fn width_bits(width: Width) -> u8
     ensures { result ≡ width_bits width }
 {
@@ -96,7 +96,7 @@ fn wav_of(header: &WaveHeader) -> Aes3Wav
     }
 }
 
-/// What octets say of the header that they begin, by a reader that has taken none.
+/// What octets say of the header that they begin, with a reader that has taken nothing.
 ///
 /// # Errors
 /// Why it is rejected.
@@ -109,10 +109,10 @@ fn judge(reader: &mut HeaderReader, octets: &[u8]) -> Result<Option<WaveHeader>,
     Ok(reader.header())
 }
 
-/// Judges the first octets of a WAV file. If its header is whole, puts what it says, and answers 1. If
-/// more octets are needed, puts how many of the file at least, and answers 0. If the header is rejected,
-/// puts the octet that is wrong, and answers the cause: 2 or more. Then it is rejected whatever octets
-/// follow.
+/// Judges the first octets of a WAV file. If its header is whole, puts what it says, and returns 1.
+/// If more octets are needed, puts the least number of octets of the file that are needed, and
+/// returns 0. If the header is rejected, puts the octet that is wrong, and returns the cause: 2 or
+/// more. Then it is rejected whatever octets follow.
 #[unsafe(no_mangle)]
 pub extern "C" fn aes3_wav_read(octets: &[u8], wav: &mut Aes3Wav, at: &mut u64) -> u8
     ensures code { result ≡ answer_code (judged octets.now) }
@@ -144,10 +144,10 @@ pub extern "C" fn aes3_wav_read(octets: &[u8], wav: &mut Aes3Wav, at: &mut u64) 
     }
 }
 
-/// How many octets a header has at most that is written.
+/// How many octets a written header has at most.
 const MOST_LEN: usize = 104;
 
-/// The samples of so many bits.
+/// The depth of samples with this number of bits.
 fn depth_of(bits: u8) -> Option<Depth>
     ensures { result ≡ depth_of bits }
 {
@@ -159,7 +159,7 @@ fn depth_of(bits: u8) -> Option<Depth>
     }
 }
 
-/// How many octets frames of two channels have, if it is known how many there are.
+/// How many octets `frames` frames of two channels have, if their number is known.
 fn frames_len(depth: Depth, frames: u64) -> Option<u64>
     ensures len { result ≡ frames_len depth frames }
     ensures few { ForSome result (λ n. n < 2 ^ 63) }
@@ -174,9 +174,9 @@ fn frames_len(depth: Depth, frames: u64) -> Option<u64>
     })
 }
 
-/// Puts the header of a WAV file with samples of two channels, of 16, 24 or 32 bits each, as `aes3 to-wav
-/// -o` writes it. From 2^60 on, `frames` stands for a number that is not known: the header is that of
-/// `to-wav` without `-o` then. Answers how many octets it put; 0 for other bits.
+/// Puts the header of a WAV file with samples of two channels, of 16, 24 or 32 bits each, as `aes3
+/// to-wav -o` writes it. If `frames` is 2^60 or more, their number is not known: the header is that
+/// of `to-wav` without `-o`. Returns how many octets it put; 0 for other bits.
 #[unsafe(no_mangle)]
 pub extern "C" fn aes3_wav_write(
     bits: u8,

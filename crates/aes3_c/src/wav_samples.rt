@@ -10,7 +10,7 @@ ghost use Rattle.aes3_c.specs.Wav.{has_channels, width_in};
 use crate::wav::Aes3Wav;
 use aes3_wave::{Channels, Container, WaveFormat, Width};
 
-/// How many octets a sample has, by their number.
+/// The container of a sample with this number of octets.
 fn container_in(octets: u8) -> Container
     ensures { result ≡ container_in octets }
 {
@@ -22,7 +22,7 @@ fn container_in(octets: u8) -> Container
     }
 }
 
-/// How many of its bits count, by their number.
+/// The width with this number of valid bits.
 fn width_in(bits: u8) -> Width
     ensures { result ≡ width_in bits }
 {
@@ -47,7 +47,7 @@ fn format_in(wav: &Aes3Wav) -> WaveFormat
     }
 }
 
-/// Two channels by their numbers, from 1 on; a second one of 0 is none.
+/// Two channels by their numbers, from 1 on; 0 means that there is no second one.
 fn channels_of(first: u16, second: u16) -> Channels
     ensures { result ≡ channels_of first second }
 {
@@ -57,7 +57,7 @@ fn channels_of(first: u16, second: u16) -> Channels
     }
 }
 
-/// Whether a frame has both.
+/// Whether a frame has both channels.
 fn has_channels(wav: &Aes3Wav, first: u16, second: u16) -> bool
     ensures { result ≡ has_channels wav.now first second }
 {
@@ -103,11 +103,12 @@ fn put_pairs(
     }
 }
 
-/// Puts the samples of two channels of the frames in these octets: for each frame a sample of channel
-/// `first` and one of channel `second`, as words of 32 bits in two's complement. The highest bit of a
-/// sample is the highest of its word; the bits that don't count are 0. Puts the whole frames, as far as
-/// there is room for two samples of each. Channels are counted from 1; if `second` is 0, its samples are
-/// zero. Answers how many frames it put: none if the file has no such channels.
+/// Puts the samples of two channels of the frames in these octets: for each frame a sample of
+/// channel `first` and one of channel `second`, as words of 32 bits in two's complement. The
+/// highest bit of a sample is the highest of its word; bits that are not valid are 0. Takes whole
+/// frames, as long as there is room for two samples of each. Channels are counted from 1; if
+/// `second` is 0, its samples are zero. Returns how many frames it took: none if the file has no
+/// such channels.
 #[unsafe(no_mangle)]
 pub extern "C" fn aes3_wav_samples(
     wav: &Aes3Wav,

@@ -14,8 +14,9 @@ use crate::lock::{Aes3Lock, MOST, take_cells};
 use crate::report::{Aes3Report, put_ending};
 use aes3_cell::words_of_octets;
 
-/// Puts the words of octets, eight octets a word, the first cell in the highest bit of the first,
-/// as long as there are eight more and room for a word. Answers how many words it put.
+/// Puts the words of octets, eight octets for each word, the first cell in the highest bit of the
+/// first. It goes on as long as there are eight more octets and room for a word. Returns how many
+/// words it put.
 #[unsafe(no_mangle)]
 pub extern "C" fn aes3_words_of_octets(octets: &[u8], words: &mut [u64]) -> usize
     ensures count { result ≡ min (length octets.now / 8) (length words.old) }
@@ -28,7 +29,7 @@ pub extern "C" fn aes3_words_of_octets(octets: &[u8], words: &mut [u64]) -> usiz
     count
 }
 
-/// How many cells of words, from cell `first` on, a lock that has seen so many takes at most.
+/// How many cells of words, from cell `first` on, a lock takes at most after `seen` cells.
 fn most_cells(seen: u64, words: usize, first: usize) -> usize
     ensures { result ≡ min (64 * words - first) (2 ^ 43 - seen) }
 {
@@ -40,9 +41,9 @@ fn most_cells(seen: u64, words: usize, first: usize) -> usize
     (64 * few - first % 64).min(MOST.saturating_sub(seen) as usize)
 }
 
-/// Takes the cells of words, 64 a word, the earliest in bit 0, from cell `first` of all on, up to
-/// the first that decides a report and with it, and puts that report, if any, but no words of a
-/// block: `aes3_lock_block` puts these. Answers how many cells it took; no lock takes more than
+/// Takes the cells of words from cell `first` of all on, 64 in each word, the earliest in bit 0. It
+/// stops after the first cell that decides a report. Puts that report, if any, but no words of a
+/// block: `aes3_lock_block` puts these. Returns how many cells it took; no lock takes more than
 /// 2^43.
 #[unsafe(no_mangle)]
 pub extern "C" fn aes3_lock_take_cells(

@@ -1,12 +1,12 @@
-//! How long a cell may be.
+//! The possible length of a cell.
 
 ghost use Rattle.std.specs.Prelude.{◌≡◌, ◌+◌, ◌*◌, ◌^◌, ◌≤◌};
 
 /// How many parts a sample has.
 pub const PARTS: u64 = 65_536;
 
-/// How long the cells of a line may be, in parts of a sample: at least two samples, at most 8192,
-/// and the longest at most twice the shortest.
+/// The possible length of the cells of a line, in parts of a sample: at least two samples, at most
+/// 8192, and the longest at most twice the shortest.
 #[derive(Clone, Copy)]
 pub struct Bounds {
     pub low: u64,

@@ -8,13 +8,15 @@ ghost use Rattle.aes3_capture.specs.Following.{Follows};
 use crate::bounds::Bounds;
 use crate::follower::Follower;
 
-/// Counts the cells between the edges of a capture, from how many samples lie between them.
+/// Counts the cells between the edges of a capture, from the numbers of samples between them.
 ///
-/// They are the line's as long as each edge is less than half a cell, less a margin, from the mean
-/// of the displacements of those of its direction before it; so they are where no edge is displaced
-/// by half a cell less that margin against another, whatever form the jitter has. So the jitter that
-/// AES3 asks a receiver to bear at high frequencies, a quarter of a unit interval from peak to peak
-/// (AES3, tolerance of a receiver), is borne from the numbers of samples a cell on that `IsEnough` has.
+/// They are the line's if each edge is displaced by less than half a cell, less a margin, from the
+/// mean of the edges of its direction before it. This holds if no edge is displaced against another
+/// by half a cell less that margin, whatever form the jitter has.
+///
+/// AES3 asks a receiver to tolerate jitter at high frequencies of a quarter of a unit interval,
+/// peak to peak (AES3, tolerance of a receiver). It is tolerated from the numbers of samples in a
+/// cell on that `IsEnough` has.
 pub fn count_cells(bounds: Bounds, period: u64, runs: &[u32], cells: &mut [u64])
     requires longest { period ≤ bounds.high }
     requires shortest { bounds.low ≤ period }
@@ -29,12 +31,12 @@ pub fn count_cells(bounds: Bounds, period: u64, runs: &[u32], cells: &mut [u64])
     count_cells_behind(Follower::new(bounds, period), runs, cells)
 }
 
-/// Counts the cells between the edges of a capture, from an edge on whose place a follower knows on
-/// the grids of both directions, as `Follower::at` begins.
+/// Counts the cells between the edges of a capture, from an edge on. A follower knows the position
+/// of that edge on the grids of both directions, as `Follower::at` begins.
 ///
-/// They are the line's also where all edges of one direction come late by any constant, in which
-/// the two directions lie apart by less than a cell, less a margin: this takes nothing from the
-/// jitter that each direction may have.
+/// They are the line's also if all edges of one direction are late by any constant. The two
+/// directions must be apart by less than a cell, less a margin. This reduces in no way the jitter
+/// that each direction may have.
 pub fn count_cells_behind(follower: Follower, runs: &[u32], cells: &mut [u64])
     requires room { length runs.now ≡ length cells.old }
     ensures mean { (counts : List ℕ) (same other displaced : ℕ)

@@ -7,17 +7,17 @@ ghost use Rattle.aes3_capture.specs.Leaps.{IsBounded, IsStep};
 use crate::bounds::{Bounds, PARTS};
 use std::simd::prelude::*;
 
-/// Follows the edges of a line: how long a cell is, and where its grid lies. Rising and falling
-/// edges have a grid of their own, as a line may be later in one direction; both have one period.
+/// Follows the edges of a line: the length of a cell, and the position of its grid. Rising and
+/// falling edges have a grid each, as a line may be later in one direction; both have one period.
 #[derive(Clone, Copy)]
 pub struct Follower {
     bounds: Bounds,
-    /// How long a cell is.
+    /// The length of a cell.
     period: u64,
-    /// What passed since the latest edge, less the cells that were told.
+    /// The time since the latest edge, less the cells that were counted.
     elapsed: u64,
-    /// How far behind its place on the grid of its direction the latest edge lies, and one and a
-    /// half of the shortest cell.
+    /// The position of the latest edge relative to its place on the grid of its direction, plus one
+    /// and a half of the shortest cell.
     same: u64,
     /// The same on the grid of the other direction.
     other: u64,
@@ -31,10 +31,10 @@ pub struct Follower {
 /// The longest period, in parts of a sample, whose multiples fit 32 bits.
 const SHORT: u64 = 1 << 26;
 
-/// How much of an edge's distance its grid goes on with: a sixteenth.
+/// The part of an edge's distance by which its grid moves: a sixteenth.
 const GRID_SHIFT: u32 = 4;
 
-/// How much of an edge's distance the period changes by.
+/// The part of an edge's distance by which the period changes.
 const PERIOD_SHIFT: u32 = 13;
 
 impl Follower {
@@ -54,8 +54,8 @@ impl Follower {
         Follower::at(bounds, period, middle, middle)
     }
 
-    /// A follower at an edge of a line whose place is known on the grid of its direction and on the
-    /// other, each behind one and a half of the shortest cell.
+    /// A follower at an edge of a line whose position is known on the grid of its direction and on
+    /// the other grid, plus one and a half of the shortest cell each.
     pub fn at(bounds: Bounds, period: u64, same: u64, other: u64) -> Self
         requires longest { period ≤ bounds.high }
         requires shortest { bounds.low ≤ period }
@@ -77,7 +77,8 @@ impl Follower {
         }
     }
 
-    /// The follower at its latest edge of the same samples in reverse: what lay after a place lies before it. Its period is given.
+    /// The follower at its latest edge for the same samples in reverse: what was after a place is
+    /// before it. Its period is given.
     pub fn turned(&self, period: u64) -> Self
         requires longest { period ≤ self.now.bounds.high }
         requires shortest { self.now.bounds.low ≤ period }
@@ -90,14 +91,14 @@ impl Follower {
         Follower::at(self.bounds, period, same, turn.saturating_sub(self.other))
     }
 
-    /// How long a cell may be.
+    /// The possible length of a cell.
     pub fn bounds(&self) -> Bounds
         ensures { result ≡ self.now.bounds }
     {
         self.bounds
     }
 
-    /// Whether the grids of both directions lie more than half a cell apart.
+    /// Whether the grids of the two directions are more than half a cell apart.
     pub fn has_slipped(&self) -> bool
         ensures { IsTrue result ↔ (self.now.bounds.low / 2
             < (self.now.same - self.now.other) + (self.now.other - self.now.same)) }
@@ -105,14 +106,14 @@ impl Follower {
         self.same.abs_diff(self.other) > self.bounds.low / 2
     }
 
-    /// How long a cell is, in parts of a sample.
+    /// The length of a cell, in parts of a sample.
     pub fn period(&self) -> u64
         ensures { result ≡ self.now.period }
     {
         self.period
     }
 
-    /// How far the latest edge lies from its place on the grid of its direction, in parts of a
+    /// How far the latest edge is from its place on the grid of its direction, in parts of a
     /// sample.
     pub fn distance(&self) -> u64
         ensures { result ≡ (self.now.same - middle_of self.now.bounds)
@@ -121,7 +122,7 @@ impl Follower {
         self.same.abs_diff(self.bounds.low + self.bounds.low / 2)
     }
 
-    /// How many cells pass for certain with these samples, behind which no edge has come yet.
+    /// How many cells certainly pass with these samples, if no edge follows them yet.
     #[inline(always)]
     pub fn pass(&mut self, samples: u32) -> u64
         ensures bounds { self.new.bounds ≡ self.old.bounds }
@@ -157,8 +158,8 @@ impl Follower {
         more
     }
 
-    /// How many cells end at an edge that comes behind these samples: the time that passed over the
-    /// period, less its fraction or one more.
+    /// How many cells end at an edge after these samples: the time that passed divided by the
+    /// period, rounded down, or one more.
     #[inline(always)]
     pub fn run(&mut self, samples: u32) -> u64
         ensures bounds { self.new.bounds ≡ self.old.bounds }
@@ -171,10 +172,12 @@ impl Follower {
         told + u64::from(self.edge())
     }
 
-    /// Counts the cells of runs as `run` does, as long as each has as many as is told of it and its edge is near its place,
-    /// 32 runs at most; answers how many runs were counted, and writes where on its grid each edge lies.
+    /// Counts the cells of at most 32 runs as `run` does, as long as each run has the number of
+    /// cells in `cells` and its edge is near its place. Returns how many runs were counted, and
+    /// writes the position of each edge on its grid.
     ///
-    /// It takes a fraction of the time of `run`: it compares where `run` divides and clamps, and takes most runs 16 at a time.
+    /// It takes a fraction of the time of `run`: it compares where `run` divides and clamps, and
+    /// takes most runs 16 at a time.
     pub fn track(
         &mut self,
         runs: &[u32],
@@ -211,8 +214,9 @@ impl Follower {
         count
     }
 
-    /// The follower after 16 runs, if each has the given number of cells and its edge is near its place. Then `sames` of the
-    /// leap has the place of each edge on its grid, after that of the latest edge before them.
+    /// The follower after 16 runs, if each has the given number of cells and its edge is near its
+    /// place. Then `sames` of the leap has the position of each edge on its grid, after that of the
+    /// latest edge before them.
     #[inline(always)]
     fn leap(&self, leap: &mut Leap, runs: &[u32], cells: &[u32]) -> Option<Follower>
         requires runs_long { length runs.now ≡ 16 }
@@ -238,17 +242,19 @@ impl Follower {
         })
     }
 
-    /// How many cells a sample has, a cell as 2^20.
+    /// How many cells a sample has, with 2^20 for a cell.
     pub fn frequency(&self) -> u32 {
         ((1u64 << 36) / self.period) as u32
     }
 
-    /// How many cells most likely lie between each of these places of edges and the next, in samples, where the first is that
-    /// of the latest edge. The frequency may be that of an earlier edge. `track` compares, so nothing hangs on their being right.
+    /// The most likely numbers of cells between each of these places of edges and the next, in
+    /// samples; the first place is that of the latest edge. The frequency may be that of an earlier
+    /// edge. `track` compares, so nothing depends on these numbers being right.
     pub fn guess(&self, places: &[u32], frequency: u32) -> [u32; TRACKED]
         requires { length places.now ≡ 33 }
     {
-        // Places in cells, a cell as 2^20, after the last cell that ends before the latest edge.
+        // Places in cells, with 2^20 for a cell, after the last cell that ends before the latest
+        // edge.
         let other = cells_of(self.other.saturating_sub(self.bounds.low), frequency);
         let same = cells_of(self.same.saturating_sub(self.bounds.low), frequency);
         let grids = u32x8::from_array([other, same, other, same, other, same, other, same]);
@@ -272,8 +278,9 @@ impl Follower {
         cells
     }
 
-    /// The follower behind an edge that comes behind these samples, where so many cells end there and the edge is near its
-    /// place: less than half of the shortest cell from it, and the time less than the shortest cell from that of the cells.
+    /// The follower after an edge that follows these samples, if `cells` cells end there and the
+    /// edge is near its place. It is near if it is less than half of the shortest cell from its
+    /// place, and the time less than the shortest cell from that of the cells.
     #[inline(always)]
     fn near(&self, samples: u32, cells: u32) -> Option<Follower>
         ensures { IfSome result (IsNear self.now samples cells) }
@@ -283,7 +290,7 @@ impl Follower {
         }
         let low = self.bounds.low;
         let middle = low + low / 2;
-        // From here on times and places count from the shortest cell before the cells told.
+        // From here on times and places count from the shortest cell before the given cells.
         let time = u64::from(samples) * PARTS + low;
         let told = u64::from(cells) * self.period;
         if time < told || time - told >= 2 * low {
@@ -315,15 +322,16 @@ impl Follower {
 /// How many runs a leap counts.
 const LEAP: usize = 16;
 
-/// The longest run, in samples, whose time fits 32 bits beside the others.
+/// The longest run, in samples, whose time fits 32 bits together with the others.
 const LONGEST_RUN: u32 = (1 << 13) - 1;
 
-/// The edges of a leap, and a follower's numbers at each, in 32 bits. They count only if `is_right` says so.
+/// The edges of a leap, and a follower's numbers at each, in 32 bits. They count only if `is_right`
+/// returns true.
 #[derive(Drop)]
 pub(crate) struct Leap {
     /// The place of each edge on the grid of its direction.
     places: [u32; LEAP],
-    /// What the follower's numbers are before each edge, and behind the last.
+    /// The follower's numbers before each edge, and after the last.
     pub(crate) sames: [u32; LEAP + 1],
     pub(crate) others: [u32; LEAP + 1],
     pub(crate) periods: [u32; LEAP + 1],
@@ -334,7 +342,7 @@ pub(crate) struct Leap {
 }
 
 impl Leap {
-    /// No leap.
+    /// An empty leap.
     pub(crate) fn new() -> Leap {
         Leap {
             places: [0; LEAP],
@@ -344,8 +352,9 @@ impl Leap {
         }
     }
 
-    /// Follows one edge after the other from these numbers of a follower, and takes each run to have the given number of cells.
-    /// Nothing branches on where an edge lies, so a step takes only as long as its product and three sums.
+    /// Follows one edge after the other from these numbers of a follower, taking each run to have
+    /// the given number of cells. Nothing branches on the place of an edge, so a step takes only as
+    /// long as its product and three sums.
     #[inline(always)]
     pub(crate) fn make(
         &mut self,
@@ -384,9 +393,10 @@ impl Leap {
         }
     }
 
-    /// Whether these numbers are right: each edge is less than half of the shortest cell from its place, and the time less than
-    /// the shortest cell from that of the cells; behind it the grids lie half of one apart at most, and the period is at
-    /// most `range` longer than the shortest cell.
+    /// Whether these numbers are right. Each edge must be less than half of the shortest cell from
+    /// its place, and the time less than the shortest cell from that of the cells. After the edge
+    /// the grids are at most half of a shortest cell apart, and the period is at most `range`
+    /// longer than the shortest cell.
     #[inline(always)]
     pub(crate) fn is_right(&self, low: u32, range: u32, runs: &[u32], cells: &[u32]) -> bool
         requires runs_long { length runs.now ≡ 16 }
@@ -428,7 +438,7 @@ impl Leap {
     }
 }
 
-/// Whether a number is one of so many from the first on, by one comparison.
+/// Whether a number is one of `count` numbers from `first` on, by one comparison.
 #[inline(always)]
 fn is_within(number: u64, first: u64, count: u64) -> bool
     requires number_bound { number < 2 ^ 62 }
@@ -442,10 +452,10 @@ fn is_within(number: u64, first: u64, count: u64) -> bool
 /// How many runs are counted at once.
 pub const TRACKED: usize = 32;
 
-/// In places that are told in cells, a cell is 2 to this power.
+/// In places that are given in cells, a cell is 2 to this power.
 const CELL_SHIFT: u32 = 20;
 
-/// So many parts of a sample, in cells of which a sample has this many.
+/// A number of parts of a sample, in cells, given the number of cells in a sample.
 #[inline(always)]
 fn cells_of(parts: u64, frequency: u32) -> u32
     requires { parts < 2 ^ 32 }
@@ -453,8 +463,9 @@ fn cells_of(parts: u64, frequency: u32) -> u32
     (parts * u64::from(frequency) >> 16).min(1 << 31) as u32
 }
 
-/// How many whole periods have passed, and what is left of the time. Between two edges of a line lie one to three cells:
-/// comparisons tell them sooner than the division does that they stand for, and a longer time is divided.
+/// How many whole periods have passed, and what is left of the time. Between two edges of a line
+/// there are one to three cells: comparisons find these faster than a division. For a longer time
+/// it divides.
 #[inline(always)]
 fn periods_in(time: u64, period: u64) -> (u64, u64)
     requires some { 0 < period }
@@ -469,8 +480,8 @@ fn periods_in(time: u64, period: u64) -> (u64, u64)
     (count, time - count * period)
 }
 
-/// How many whole periods have passed, where these are three at most. No jump depends on how many, since that can't be
-/// foreseen.
+/// How many whole periods have passed, if these are at most three. No jump depends on the number,
+/// since it can't be predicted.
 #[inline(always)]
 fn few_periods_in(time: u64, period: u64) -> u64
     requires bound { period ≤ 2 ^ 30 }
@@ -481,7 +492,7 @@ fn few_periods_in(time: u64, period: u64) -> u64
     one_if_passed(time, period) + one_if_passed(time, 2 * period) + one_if_passed(time, 3 * period)
 }
 
-/// 1 where so much time has passed, else 0.
+/// 1 if this much time has passed, else 0.
 #[inline(always)]
 fn one_if_passed(time: u64, least: u64) -> u64
     ensures { ((result ≡ 1) × (least ≤ time)) ⊎ ((result ≡ 0) × (time < least)) }
@@ -489,7 +500,7 @@ fn one_if_passed(time: u64, least: u64) -> u64
     if time >= least { 1 } else { 0 }
 }
 
-/// The place of an edge on its grid, once the grid has gone a part of the way to it.
+/// The place of an edge on its grid, after the grid has moved a part of the way to it.
 #[inline(always)]
 fn place_nearer(bounds: Bounds, place: u64) -> u64
     requires { place ≤ 3 * bounds.low }
@@ -499,7 +510,7 @@ fn place_nearer(bounds: Bounds, place: u64) -> u64
     place - (place >> GRID_SHIFT) + ((bounds.low + bounds.low / 2) >> GRID_SHIFT)
 }
 
-/// The period, once it has gone a small part of the way to an edge's place.
+/// The period, after it has moved a small part of the way to an edge's place.
 #[inline(always)]
 fn period_nearer(bounds: Bounds, period: u64, place: u64) -> u64
     requires place { place ≤ 3 * bounds.low }

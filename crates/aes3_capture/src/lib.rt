@@ -1,8 +1,8 @@
-//! From samples of a line to its cells: a follower of edges that bears jitter, within bounds that
-//! are proved.
+//! From samples of a line to its cells: a follower of edges that tolerates jitter, within bounds
+//! that are proved.
 #![tactic(auto)]
 
-/// How long a cell may be.
+/// The possible length of a cell.
 mod bounds;
 /// The cells of a whole capture.
 mod count;

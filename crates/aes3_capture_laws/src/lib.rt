@@ -9,15 +9,16 @@ ghost use Rattle.aes3_capture_laws.specs.RunLaws.{AreOfBlocks, RunsAreOfSubframe
 use aes3_capture::Follower;
 use aes3_capture_recovery::follower_of_runs;
 
-/// Any 256 runs in a row of a line of whole blocks are runs of subframes, in the form that the measuring of a line needs. Preambles
-/// begin at numbers of one side, at least one among any 64 runs, 32 to 60 runs apart. Among all runs only the first two of an X
-/// preamble have six cells together, and there are such two.
+/// Any 256 runs in a row of a line of whole blocks are runs of subframes, in the form that the
+/// measuring of a line needs. All preambles begin at run numbers that are all even or all odd; at
+/// least one of any 64 runs begins one, and they are 32 to 60 runs apart. Among all runs, only the
+/// first two of an X preamble have six cells together, and there are such two.
 pub fn runs_are_of_subframes()
     ensures { RunsAreOfSubframes }
 {}
 
-/// The follower of the line of whole blocks that a capture has, found in the first 256 runs of samples from any of its edges on. All
-/// cells that it counts, to the end of the capture, are the line's.
+/// The follower of the line of whole blocks in a capture, found in the first 256 runs of samples
+/// from any of its edges on. All cells that it counts, to the end of the capture, are the line's.
 pub fn follower_of_blocks(runs: &[u32]) -> Option<Follower>
     ensures { (narrow : Bounds) (spread late later displaced : ℕ) (bs : List (List (List Bool))) (line all : List ℕ)
         → AreOfBlocks narrow spread late later displaced bs line all → runs.now ≡ take 256 all

@@ -1,26 +1,27 @@
-//! How far edges lie from their places.
+//! How far edges are from their expected positions.
 
 ghost use Rattle.std.specs.Prelude.{◌≡◌, ◌≤◌, ◌+◌, ◌^◌, map, take};
 ghost use Rattle.aes3_capture_recovery.specs.Distances.{AreDistances, distance_at, greatest, spread_after, squares, total};
 
 use aes3_capture::TRACKED;
 
-/// How far some edges lie from their places, in 256ths of a sample.
+/// How far some edges are from their expected positions, in 256ths of a sample.
 #[derive(Clone, Copy)]
 pub struct Distances {
-    /// Each of them.
+    /// Each distance.
     pub each: [u32; TRACKED],
-    /// The greatest.
+    /// The greatest distance.
     pub greatest: u32,
-    /// Their sum, and that of their squares.
+    /// The sum of the distances, and that of their squares.
     pub sum: u32,
     pub squares: u64,
 }
 
-/// Distances that are no greater are summed up in 32 bits.
+/// Distances up to this one are summed up in 32 bits.
 const SMALL: u32 = (1 << 13) - 1;
 
-/// How far so many edges lie from the middle of their grid, where the grid has gone a sixteenth of the way to each.
+/// How far `count` edges are from the middle of their grid, which has moved a sixteenth of the way
+/// to each.
 pub fn distances_of(places: &[u32; TRACKED], count: usize, middle: u32) -> Distances
     requires few { count ≤ 32 }
     ensures each { take count result.each ≡ map (distance_at middle) (take count places.now) }
@@ -34,7 +35,7 @@ pub fn distances_of(places: &[u32; TRACKED], count: usize, middle: u32) -> Dista
             return all;
         }
     }
-    // They are numbers of their own until the end, so that LLVM takes several edges at once.
+    // Separate numbers until the end, so that LLVM takes several edges at once.
     let mut each = [0; TRACKED];
     let mut greatest = 0;
     let mut sum = 0;
@@ -55,7 +56,8 @@ pub fn distances_of(places: &[u32; TRACKED], count: usize, middle: u32) -> Dista
     }
 }
 
-/// How far all 32 edges lie from the middle of their grid, as `distances_of` tells it, if no distance is greater than `SMALL`.
+/// How far all 32 edges are from the middle of their grid, as `distances_of` computes it, if no
+/// distance is greater than `SMALL`.
 ///
 /// It uses 32 bits and a fixed number of edges, so that LLVM takes several of them at once.
 #[inline(always)]
@@ -69,7 +71,7 @@ fn small_distances(places: &[u32; TRACKED], middle: u32) -> Distances
     let mut squares = 0u32;
     for i in 0..TRACKED {
         let left = places[i].abs_diff(middle) >> 8;
-        // A fifteenth more.
+        // Add a fifteenth.
         let distance = left + (left.wrapping_mul(34_953) >> 19);
         each[i] = distance;
         greatest = distance.max(greatest);
@@ -84,7 +86,7 @@ fn small_distances(places: &[u32; TRACKED], middle: u32) -> Distances
     }
 }
 
-/// The mean distance behind so many of these, of which each weighs a 256th.
+/// The mean distance after `count` of these, with a weight of 1/256 for each.
 #[inline(always)]
 pub fn spread_behind(spread: u64, distances: &Distances, count: usize) -> u64
     requires few { count ≤ 32 }

@@ -28,7 +28,7 @@ impl Piece {
     }
 }
 
-/// The level of a line, and how many samples of it came behind its latest edge and wait to be told.
+/// The level of a line, and how many samples since its latest edge are still waiting.
 #[derive(Clone, Copy)]
 pub struct Edges {
     high: bool,
@@ -39,7 +39,7 @@ impl Edges {
     ghost use Rattle.std.specs.Prelude.{IfSome, IfNone};
     ghost use Rattle.aes3_capture_recovery.specs.Runs.{EdgeCame, NoEdgeCame};
 
-    /// A line of this level of which no sample came.
+    /// A line of this level before the first sample.
     pub fn new(high: bool) -> Self
         ensures high { result.high ≡ high }
         ensures none { result.run ≡ 0 }
@@ -47,7 +47,7 @@ impl Edges {
         Edges { high, run: 0 }
     }
 
-    /// A line of this level, of which so many samples came behind the latest edge and wait to be told.
+    /// A line of this level, with `run` samples since the latest edge that are still waiting.
     pub(crate) fn standing(high: bool, run: u32) -> Self
         ensures high { result.high ≡ high }
         ensures run { result.run ≡ run }
@@ -62,14 +62,14 @@ impl Edges {
         self.high
     }
 
-    /// How many samples of its level came behind the latest edge and wait to be told.
+    /// How many samples of its level since the latest edge are still waiting.
     pub(crate) fn waiting(&self) -> u32
         ensures { result ≡ self.now.run }
     {
         self.run
     }
 
-    /// Takes the samples that wait, behind which no edge has come yet.
+    /// Takes the waiting samples, which no edge follows yet.
     pub fn take_waiting(&mut self) -> u32
         ensures all { result ≡ self.old.run }
         ensures none { self.new.run ≡ 0 }
@@ -80,9 +80,9 @@ impl Edges {
         run
     }
 
-    /// Goes on to the next edge of a piece, and answers how many samples waited in front of it; the
-    /// sample behind it then waits. None where the piece has no further edge, whose samples then wait
-    /// too.
+    /// Advances to the next edge of a piece, and returns how many samples waited before it. The
+    /// sample after the edge then waits. `None` if the piece has no further edge; then its samples
+    /// wait too.
     #[inline(always)]
     pub fn next_edge(&mut self, piece: &mut Piece) -> Option<u32>
         ensures edge { IfSome result (λ run. EdgeCame self.old piece.old run self.new piece.new) }
@@ -102,7 +102,7 @@ impl Edges {
     }
 }
 
-/// With how many levels like this one a word begins.
+/// The number of levels equal to this one at the beginning of a word.
 #[inline(always)]
 fn same_levels(levels: u64, high: bool) -> u32
     ensures most { result ≤ 64 }

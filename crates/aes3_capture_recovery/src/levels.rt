@@ -1,4 +1,4 @@
-//! The levels of a line among samples of many.
+//! The levels of a line among samples of several lines.
 
 ghost use Rattle.std.specs.Prelude.{ℕ, ◌+◌, ◌*◌, ◌<◌, ◌≤◌, ◌≡◌, ◌^◌, get_or};
 ghost use Rattle.std.specs.Int.{bit_at};
@@ -8,8 +8,8 @@ use crate::places::WORDS;
 use aes3_level::even_bits;
 use std::simd::prelude::*;
 
-/// How the samples lie: octets of eight lines, or pairs of octets of sixteen, the lower lines first;
-/// and which line of them it is.
+/// The layout of the samples: octets of eight lines, or pairs of octets of sixteen lines, the lower
+/// lines first. It also says which line of them it is.
 #[derive(Clone, Copy)]
 pub enum Unit {
     /// Samples of one octet, and the line in this bit.
@@ -39,14 +39,13 @@ fn bits_of(octets: &[u8; 64], bit: u8) -> u64
     ensures { (i : ℕ) → i < 64 → bit_at result i ≡ bit_at (get_or octets.now i 0) bit }
 {
     let mask = u8x64::splat(1 << bit);
-    // Where zeros are compared with, each mask has to be inverted.
+    // If it compared with zero, each mask would have to be inverted.
     (u8x64::from_array(*octets) & mask)
         .simd_eq(mask)
         .to_bitmask()
 }
 
-/// The levels of the samples that 64 octets are, the first in the lowest bit, and how many samples
-/// these are.
+/// The levels of the samples in 64 octets, the first in the lowest bit, and the number of samples.
 #[inline(always)]
 pub fn levels_of(unit: Unit, octets: &[u8; 64]) -> (u64, u32)
     ensures few { result.1 ≤ 64 }
@@ -65,8 +64,8 @@ pub fn levels_of(unit: Unit, octets: &[u8; 64]) -> (u64, u32)
 /// How many octets are searched for edges at once.
 pub(crate) const BLOCK: usize = 4096;
 
-/// The levels of the samples that a block of octets is, as words of 64 of them, the first in the lowest bit; and how many words
-/// these are.
+/// The levels of the samples in a block of octets, as words of 64 of them, the first in the lowest
+/// bit, and the number of words.
 pub fn words_of(unit: Unit, block: &[u8; BLOCK]) -> ([u64; WORDS], usize)
     ensures few { result.1 ≤ 64 }
     ensures levels { AreWords unit block.now result.0 result.1 }
@@ -79,7 +78,7 @@ pub fn words_of(unit: Unit, block: &[u8; BLOCK]) -> ([u64; WORDS], usize)
     (words, count)
 }
 
-/// The levels of the 64 samples of a block that are word number `i`.
+/// The levels of the 64 samples of a block that make word number `i`.
 #[inline(always)]
 fn word_at(unit: Unit, block: &[u8; BLOCK], i: usize) -> u64
     requires { bits_of_sample unit * (i + 1) ≤ 512 }
@@ -91,7 +90,7 @@ fn word_at(unit: Unit, block: &[u8; BLOCK], i: usize) -> u64
     }
 }
 
-/// This bit of 64 octets of a block, from one on, that of the first in the lowest bit.
+/// This bit of 64 octets of a block from octet `at` on, that of the first in the lowest bit.
 #[inline(always)]
 fn levels_at(block: &[u8; BLOCK], at: usize, bit: u8) -> u64
     requires within { at + 64 ≤ 4096 }
@@ -103,7 +102,8 @@ fn levels_at(block: &[u8; BLOCK], at: usize, bit: u8) -> u64
     bits_of(&octets, bit)
 }
 
-/// This bit of 64 pairs of octets of a block, from one on, each with the lower octet first, that of the first in the lowest bit.
+/// This bit of 64 pairs of octets of a block from octet `at` on, each with the lower octet first,
+/// that of the first in the lowest bit.
 #[inline(always)]
 fn levels_of_pairs_at(block: &[u8; BLOCK], at: usize, bit: u8) -> u64
     requires within { at + 128 ≤ 4096 }

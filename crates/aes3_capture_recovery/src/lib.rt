@@ -2,19 +2,19 @@
 //! from samples to cells.
 #![tactic(auto)]
 
-/// How far edges lie from their places.
+/// How far edges are from their expected positions.
 mod distances;
 /// The edges of a line among the levels of its samples.
 mod edges;
-/// The levels of a line among samples of many.
+/// The levels of a line among samples of several lines.
 mod levels;
 /// A line followed from an edge on, from the levels of its samples to its cells.
 mod line_follower;
-/// How long a cell is and where the grid of a line lies, measured from the samples between edges.
+/// The length of a cell and the position of a line's grid, measured from the samples between edges.
 mod measure;
 /// The places of edges among the levels of many samples, found before the edges are followed.
 mod places;
-/// Cells on their way to a sink.
+/// A queue of cells for a sink.
 mod queue;
 /// Cells recovered from the levels of samples.
 mod recovery;

@@ -19,7 +19,7 @@ use aes3_cell::{Fault, Form, Sink};
 /// After so many cells without an edge, those that are certain are told.
 const LONG: u64 = 64;
 
-/// The cells of so many runs are given at once.
+/// The cells of this many runs are given at once.
 const TOGETHER: usize = 16;
 
 /// Follows a line from an edge on, and gives its cells.
@@ -95,7 +95,7 @@ impl LineFollower {
         self.rest(sink)
     }
 
-    /// Begins at a sample of this level, as if no other had come before it.
+    /// Begins at a sample of this level, as if no sample had come before it.
     pub(crate) fn start(&mut self, high: bool)
         ensures high { self.new.edges.high ≡ high }
         ensures none { self.new.edges.run ≡ 0 }
@@ -105,7 +105,8 @@ impl LineFollower {
         self.edges = Edges::new(high);
     }
 
-    /// Stands at this level, with so many samples behind the latest edge that wait to be told.
+    /// Continues at this level, with this many samples since the latest edge that are still
+    /// waiting.
     pub(crate) fn stand(&mut self, high: bool, waiting: u32)
         ensures high { self.new.edges.high ≡ high }
         ensures run { self.new.edges.run ≡ waiting }
@@ -115,7 +116,7 @@ impl LineFollower {
         self.edges = Edges::standing(high, waiting);
     }
 
-    /// Goes on to the next edge of a piece, as `Edges::next_edge`.
+    /// Advances to the next edge of a piece, as `Edges::next_edge`.
     #[inline(always)]
     pub(crate) fn next_edge(&mut self, piece: &mut Piece) -> Option<u32>
         ensures edge { IfSome result (λ run.
@@ -135,7 +136,7 @@ impl LineFollower {
         self.edges.is_high()
     }
 
-    /// How many samples came behind the latest edge and wait to be told.
+    /// How many samples since the latest edge are still waiting.
     #[inline(always)]
     pub(crate) fn waiting(&self) -> u32
         ensures { result ≡ self.now.edges.run }
@@ -143,7 +144,7 @@ impl LineFollower {
         self.edges.waiting()
     }
 
-    /// Takes the samples that wait, and tells no cells of them.
+    /// Takes the waiting samples, and gives no cells for them.
     pub(crate) fn take_waiting(&mut self) -> u32
         ensures all { result ≡ self.old.edges.run }
         ensures none { self.new.edges.run ≡ 0 }
@@ -154,7 +155,7 @@ impl LineFollower {
         self.edges.take_waiting()
     }
 
-    /// The follower at the latest edge that was told.
+    /// The follower at the latest edge whose run was given.
     #[inline(always)]
     pub(crate) fn follower(&self) -> Follower
         ensures { result ≡ self.now.follower }
@@ -169,7 +170,7 @@ impl LineFollower {
         self.cells
     }
 
-    /// Goes on with another follower.
+    /// Continues with another follower.
     pub(crate) fn follow(&mut self, follower: Follower)
         ensures follower { self.new.follower ≡ follower }
         ensures edges { self.new.edges ≡ self.old.edges }
@@ -178,7 +179,7 @@ impl LineFollower {
         self.follower = follower;
     }
 
-    /// Tells the cells of a run that an edge ended.
+    /// Gives the cells of a run that an edge ended.
     ///
     /// # Errors
     /// The sink's fault.
@@ -194,7 +195,7 @@ impl LineFollower {
         self.put(sink, high, cells)
     }
 
-    /// Tells the cells that are certain of the samples that wait, where these are many.
+    /// Gives the certain cells of the waiting samples, if there are many.
     #[inline(always)]
     fn rest<T: Sink>(&mut self, sink: &mut T) -> Result<(), Fault>
         requires room { T.failed sink.old + 1 < 2 ^ 64 }
@@ -208,7 +209,7 @@ impl LineFollower {
         self.pass(sink)
     }
 
-    /// Tells the cells that are certain of the samples that wait.
+    /// Gives the certain cells of the waiting samples.
     ///
     /// # Errors
     /// The sink's fault.
@@ -225,7 +226,7 @@ impl LineFollower {
         self.put(sink, high, cells)
     }
 
-    /// Gives so many cells of one level.
+    /// Gives this many cells of one level.
     ///
     /// # Errors
     /// The sink's fault.
@@ -243,7 +244,7 @@ impl LineFollower {
         self.queue.put(sink, high, cells)
     }
 
-    /// Gives the cells of some runs, the first of this level, each of three cells at most.
+    /// Gives the cells of some runs, the first of this level, each of at most three cells.
     ///
     /// # Errors
     /// The sink's fault.
@@ -270,7 +271,7 @@ impl LineFollower {
         self.put_some(sink, high, &runs[at..])
     }
 
-    /// Gives the cells of sixteen runs at most.
+    /// Gives the cells of at most sixteen runs.
     ///
     /// # Errors
     /// The sink's fault.

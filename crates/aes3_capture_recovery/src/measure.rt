@@ -1,4 +1,4 @@
-//! Finds a line by its preambles: how long a cell is, and where its edges lie.
+//! Finds a line by its preambles: the length of a cell, and the positions of the edges.
 
 ghost use Rattle.std.specs.Prelude.{ℕ, ◌^◌, ◌+◌, ◌<◌, ◌≤◌, ◌≡◌, ◌&&◌, if◌then◌else◌, nat_eq, nat_le, nat_lt, get_or, length, take};
 ghost use Rattle.std.specs.Prelude.{IsTrue, IfSome, IsSomeAnd, List, ◌-◌, ◌*◌, ◌/◌, ◌%◌, max};
@@ -17,27 +17,27 @@ use aes3_capture::{Bounds, Follower, PARTS};
 /// How many runs of samples are measured at once.
 pub(crate) const RUNS: usize = 256;
 
-/// A subframe has at most 60 runs, so 64 in a row have the first run of a preamble.
+/// A subframe has at most 60 runs, so any 64 in a row include the first run of a preamble.
 const GROUP: usize = 64;
 
-/// How many groups the runs are at most.
+/// The greatest number of groups of runs.
 const GROUPS: usize = RUNS / GROUP;
 
-/// How many edges at each end of the runs give the period: as many rising as falling ones.
+/// How many edges at each end of the runs determine the period, the same number rising and falling.
 const ENDS: usize = 16;
 
-/// How many samples the longest pair, of six cells, has at least and at most.
+/// The least and the greatest number of samples of the longest pair, which has six cells.
 const SHORTEST_PAIR: u32 = 12;
 
 const LONGEST_PAIR: u32 = 1 << 16;
 
-/// The shortest and the longest period that a line may have, in parts of a sample: 2 samples and a
-/// 64th, and 8,000.
+/// The shortest and the longest period of a line, in parts of a sample: 2 samples and a 64th, and
+/// 8,000.
 pub const SHORTEST_PERIOD: u64 = 2 * PARTS + PARTS / 64;
 
 pub const LONGEST_PERIOD: u64 = 8000 * PARTS;
 
-/// Two runs in a row: how many samples they have, and the number of the first.
+/// Two runs in a row: their number of samples, and the number of the first run.
 #[derive(Clone, Copy)]
 struct Pair {
     samples: u32,
@@ -47,13 +47,13 @@ struct Pair {
 /// Which runs can be the first of a preamble.
 #[derive(Clone, Copy, PartialEq, Eq)]
 enum Side {
-    /// Those of one direction: every second run, the first or the second of all included.
+    /// Those of one direction: every second run, from the first or the second on.
     Of(usize),
     /// All.
     Both,
 }
 
-/// The first run of a preamble: its number, and how many samples and subframes lie before it.
+/// The first run of a preamble: its number, and the numbers of samples and subframes before it.
 #[derive(Clone, Copy, Default)]
 struct Anchor {
     run: usize,
@@ -61,7 +61,7 @@ struct Anchor {
     subframes: u64,
 }
 
-/// How many samples a run has; 0 where there is none.
+/// How many samples a run has; 0 if there is no such run.
 fn run_at(runs: &[u32], i: usize) -> u64
     ensures bound { result < 2 ^ 32 }
     ensures value { result ≡ get_or runs.now i 0 }
@@ -72,7 +72,7 @@ fn run_at(runs: &[u32], i: usize) -> u64
     }
 }
 
-/// The longest pair of those whose first run is one of these.
+/// The longest of the pairs whose first run is in this range.
 fn longest_pair(runs: &[u32], from: usize, to: usize) -> Pair
     requires within { to < length runs.now }
     requires ordered { from ≤ to }
@@ -92,7 +92,7 @@ fn longest_pair(runs: &[u32], from: usize, to: usize) -> Pair
     longest
 }
 
-/// The longest pair of the first half and that of the second, the longer first.
+/// The longest pair of the first half and that of the second half, the longer one first.
 fn longest_pairs(runs: &[u32]) -> (Pair, Pair)
     requires some { 2 ≤ length runs.now }
 
@@ -111,10 +111,12 @@ fn longest_pairs(runs: &[u32]) -> (Pair, Pair)
     }
 }
 
-/// Whether pairs are like those of a line whose longest pair has six cells. Seven in eight have at least a quarter of that, since
-/// none has less than two cells; and seven in eight have at most four fifths, since few have more than four.
+/// Whether pairs are like those of a line whose longest pair has six cells. Seven in eight have at
+/// least a quarter of that, since no pair has less than two cells. Seven in eight have at most four
+/// fifths, since few have more than four cells.
 fn are_likely(runs: &[u32], longest: u32) -> bool
-    // They are if no pair is too short, and none too long but those of five and six cells of a line, which are few.
+    // They are if no pair is too short, and only the few pairs of five and six cells of a line are
+    // longer.
     ensures found { (line : List ℕ) → ((i : ℕ) → i + 1 < length runs.now → longest ≤ 4 * pair_at runs.now i)
         → ((i : ℕ) → i + 1 < length runs.now → get_or line i 0 + get_or line (i + 1) 0 ≤ 4
         → pair_at runs.now i ≤ longest - longest / 5)
@@ -133,9 +135,10 @@ fn are_likely(runs: &[u32], longest: u32) -> bool
     short <= few && long <= few
 }
 
-/// How likely a run is the first of a preamble whose longest pair has so many samples. Of runs of one direction it is the longest. Of
-/// all it is the one with the largest sum of twice itself, the next and the third after it, in which a direction that is
-/// late makes no difference. A run of more than four cells belongs to no preamble.
+/// A score of how likely a run is the first of a preamble, whose longest pair has this number of
+/// samples. Among runs of one direction, the likeliest is the longest. Among all runs, it is the
+/// one with the largest sum of twice itself, the next run and the third after it; in this sum a
+/// late direction makes no difference. A run of more than four cells belongs to no preamble.
 fn score(runs: &[u32], i: usize, longest: u64, side: Side) -> u64
     requires few { i < 2 ^ 32 }
     requires short { longest < 2 ^ 32 }
@@ -153,7 +156,7 @@ fn score(runs: &[u32], i: usize, longest: u64, side: Side) -> u64
     }
 }
 
-/// How many samples lie before a run.
+/// How many samples there are before a run.
 fn samples_before(runs: &[u32], run: usize) -> u64
     requires few { length runs.now ≤ 256 }
     requires within { run ≤ length runs.now }
@@ -174,7 +177,7 @@ fn likeliest(runs: &[u32], begin: usize, longest: u64, side: Side) -> usize
     requires short { longest < 2 ^ 32 }
     ensures within { result < length runs.now }
 
-    // Of one side it is the longest of those that are not too long, if there is one.
+    // For one side it is the longest of those that are not too long, if there is one.
     ensures longest { (s i : ℕ) → side ≡ Of s → begin ≤ i → i < begin + 64 → i % 2 ≡ s → 0 < get_or runs.now i 0
         → 3 * get_or runs.now i 0 ≤ 2 * longest
         → (begin ≤ result) × (result < begin + 64) × (result % 2 ≡ s) × (get_or runs.now i 0 ≤ get_or runs.now result 0) }
@@ -191,7 +194,8 @@ fn likeliest(runs: &[u32], begin: usize, longest: u64, side: Side) -> usize
     found
 }
 
-/// How many subframes most likely lie between two preambles that are so many samples apart: 64 cells are 32/3 of the longest pair.
+/// The most likely number of subframes between two preambles with this number of samples between
+/// them: 64 cells are 32/3 of the longest pair.
 fn subframes_in(samples: u64, longest: u64) -> u64
     requires samples { samples < 2 ^ 40 }
     requires some { 0 < longest }
@@ -202,7 +206,8 @@ fn subframes_in(samples: u64, longest: u64) -> u64
     (12 * samples + 64 * longest) / (128 * longest)
 }
 
-/// The preambles that seem to begin in each group of runs, of which the last ends with the runs; and how many groups there are.
+/// The likely preamble in each group of runs, the last group ending with the runs, and the number
+/// of groups.
 fn anchors(runs: &[u32], longest: u64, side: Side) -> ([Anchor; GROUPS], usize)
     requires few { length runs.now ≤ 256 }
     requires some { 128 ≤ length runs.now }
@@ -211,7 +216,8 @@ fn anchors(runs: &[u32], longest: u64, side: Side) -> ([Anchor; GROUPS], usize)
     ensures count { result.1 ≤ 4 }
     ensures within { (i : ℕ) (other : Anchor) → i < result.1 → (get_or result.0 i other).run < length runs.now }
 
-    // The first and the last of these of a capture are first runs of preambles, with as many subframes between them as their cells are.
+    // If the runs are a capture, the first and the last of these are first runs of preambles, with
+    // the right number of subframes between them.
     ensures found { (narrow : Bounds) (spread late later place s : ℕ) (places line : List ℕ) (other : Anchor)
         → AreCapturedRuns narrow spread late later place s places line runs.now → IsSix narrow spread longest → side ≡ Of s
         → (result.1 ≡ 4) × AreEnds place line runs.now (get_or result.0 0 other) (get_or result.0 3 other) }
@@ -240,7 +246,7 @@ fn anchors(runs: &[u32], longest: u64, side: Side) -> ([Anchor; GROUPS], usize)
     (found, count)
 }
 
-/// The bounds of cells of about this period, which may change by so small a part.
+/// The bounds of cells of about this period, which may change by one part in `part`.
 fn bounds_within(period: u64, part: u64) -> Option<Bounds>
     requires part { 512 ≤ part }
     ensures longest { IfSome result (λ bounds. period ≤ bounds.high) }
@@ -267,8 +273,9 @@ pub(crate) fn bounds_around(period: u64) -> Option<Bounds>
     bounds_within(period, 1024)
 }
 
-/// Whether a preamble may begin with a run, if a cell is so long: its four runs have eight cells within one, and the first has
-/// more than one cell more than the third. One that the end cuts may.
+/// Whether a preamble may begin with a run, if this is the length of a cell. Its four runs have
+/// eight cells, to within one, and the first run is more than one cell longer than the third. A
+/// preamble that the end cuts off may begin.
 fn may_begin(runs: &[u32], run: usize, period: u64) -> bool
     requires few { run < 2 ^ 32 }
     requires short { period < 2 ^ 60 }
@@ -283,8 +290,8 @@ fn may_begin(runs: &[u32], run: usize, period: u64) -> bool
     (four * PARTS).abs_diff(8 * period) <= period && first.saturating_sub(third) * PARTS > period
 }
 
-/// The follower at the first edge, found from the end of an anchor, whose first run has three cells, by following the runs before
-/// it in reverse.
+/// The follower at the first edge, found by following the runs before an anchor in reverse. It
+/// starts at the end of the anchor, whose first run has three cells.
 fn at_first(runs: &[u32], anchor: usize, bounds: Bounds, measured: u64) -> Follower
     requires within { anchor < length runs.now }
     ensures bounds { result.bounds ≡ bounds }
@@ -313,13 +320,14 @@ fn is_preamble(first: u32, second: u32, third: u32, fourth: u32) -> bool
     first == 3 && third == 1 && 1 <= second && second <= 3 && fourth == 4 - second
 }
 
-/// Counts the cells of runs by a follower of their line; answers whether seven runs in eight have one to three, as a line has.
+/// Counts the cells of runs with a follower of their line. Returns whether seven in eight runs have
+/// one to three cells, as on a line.
 fn count_runs(follower: Follower, runs: &[u32], cells: &mut [u32; RUNS]) -> bool
     requires few { length runs.now ≤ 256 }
     requires quiet { follower.elapsed ≡ 0 }
     ensures steady { IsTrue result → (steady : IsSteady follower runs.now) × (steady.cells ≡ take (length runs.now) cells.new) }
 
-    // If the follower follows the line whose runs these are, these are its cells.
+    // If the follower follows the line of these runs, these are its cells.
     ensures found { (narrow : Bounds) (spread late later : ℕ) (places line : List ℕ)
         → AreOfALine narrow follower.bounds spread late later places line runs.now → IsAt follower spread late later places 0
         → IsTrue result × (take (length runs.now) cells.new ≡ line) }
@@ -336,7 +344,7 @@ fn count_runs(follower: Follower, runs: &[u32], cells: &mut [u32; RUNS]) -> bool
     steady >= runs.len() - runs.len() / 8
 }
 
-/// How many cells these runs have, less whole subframes.
+/// How many cells there are before a run, less whole subframes.
 fn cells_before(cells: &[u32; RUNS], run: usize) -> u64
     requires within { run ≤ 256 }
     ensures bound { result < 64 }
@@ -349,7 +357,7 @@ fn cells_before(cells: &[u32; RUNS], run: usize) -> u64
     place
 }
 
-/// 1 if a preamble begins with these four runs at a place that is a whole subframe, else 0.
+/// 1 if a preamble begins with these four runs at a multiple of a subframe, else 0.
 fn preamble_at(place: u64, first: u32, second: u32, third: u32, fourth: u32) -> u32
     ensures { result ≡ (if nat_eq place 0 && are_preamble first second third fourth then 1 else 0) }
 {
@@ -360,8 +368,8 @@ fn preamble_at(place: u64, first: u32, second: u32, third: u32, fourth: u32) -> 
     }
 }
 
-/// How many places that are whole subframes lie at the beginning of a run of cells and inside of it, where none but the first
-/// cells count.
+/// How many multiples of a subframe are at the beginning of a run of cells and inside it, of which
+/// only the first cells count.
 fn places_at(place: u64, cells: u32) -> u32
     requires within { place < 64 }
     ensures { result ≡ (if nat_eq place 0 && nat_le 1 cells then 1 else 0) + (if nat_lt 64 (place + cells) then 1 else 0) }
@@ -371,14 +379,15 @@ fn places_at(place: u64, cells: u32) -> u32
     begins + inside
 }
 
-/// Whether preambles begin at three in four of the places that are whole subframes from the beginning of a run, and at enough of them.
+/// Whether preambles begin at three in four of the multiples of a subframe from the beginning of a
+/// run, and at enough of them.
 fn have_preambles(cells: &[u32; RUNS], count: usize, run: usize) -> bool
     requires few { count ≤ 256 }
     requires many { 128 ≤ count }
     requires within { run < 256 }
     ensures some { IsTrue result → HavePreambles (take count cells.now) }
 
-    // They do on a line, if one begins with that run.
+    // On a line they do, if a preamble begins with that run.
     ensures found { (place : ℕ) → AreOfSubframes place (take count cells.now) → place_at place (take count cells.now) run ≡ 0
         → run < count → IsTrue result }
 {
@@ -396,7 +405,7 @@ fn have_preambles(cells: &[u32; RUNS], count: usize, run: usize) -> bool
     4 * found >= 3 * due
 }
 
-/// The period, from the mean places of the first and of the last edges.
+/// The period, from the mean positions of the first and of the last edges.
 fn period_of(runs: &[u32], cells: &[u32; RUNS]) -> u64
     requires few { length runs.now ≤ 256 }
     requires many { 128 ≤ length runs.now }
@@ -424,7 +433,8 @@ fn period_of(runs: &[u32], cells: &[u32; RUNS]) -> u64
     late.saturating_sub(early) * PARTS / late_cells.saturating_sub(early_cells).max(1)
 }
 
-/// The follower at the first edge whose cells are so long, if it counts those of a line; writes these.
+/// The follower at the first edge for cells of this length, if it counts the cells of a line.
+/// Writes these cells.
 fn start(
     runs: &[u32],
     anchor: usize,
@@ -437,7 +447,8 @@ fn start(
     requires within { anchor < length runs.now }
     ensures line { IfSome result (IsLine bounds runs.now) }
 
-    // It is found if these are the runs of a line, and the anchor the first of a preamble; then its cells are written.
+    // It is found if these are the runs of a line, and the anchor is the first of a preamble. Then
+    // the line's cells are written.
     ensures found { (narrow : Bounds) (spread late later place : ℕ) (places line : List ℕ)
         → AreOfALine narrow bounds spread late later places line runs.now → AreOfSubframes place line
         → get_or line anchor 0 ≡ 3 → place_at place line anchor ≡ 0
@@ -451,7 +462,8 @@ fn start(
     }
 }
 
-/// A follower from the first edge on, by the first runs of two preambles; none if the cells that it counts are not those of a line.
+/// A follower from the first edge on, by the first runs of two preambles; `None` if the cells that
+/// it counts are not those of a line.
 fn by_anchors(runs: &[u32], known: Option<u64>, first: Anchor, last: Anchor) -> Option<Follower>
     requires few { length runs.now ≤ 256 }
     requires many { 128 ≤ length runs.now }
@@ -473,7 +485,7 @@ fn by_anchors(runs: &[u32], known: Option<u64>, first: Anchor, last: Anchor) -> 
     if !may_begin(runs, first.run, measured) || !may_begin(runs, last.run, measured) {
         return None;
     }
-    // Jitter moves the period of few subframes further than that of many.
+    // With few subframes jitter changes the measured period more than with many.
     let part = match known {
         Some(_) => 1024,
         None => (128 * (subframes + 3)).min(1024),
@@ -485,7 +497,7 @@ fn by_anchors(runs: &[u32], known: Option<u64>, first: Anchor, last: Anchor) -> 
     if start(runs, last.run, bounds, measured, &mut cells).is_none() {
         return None;
     }
-    // The same once more, with the period of all these cells.
+    // Repeated, with the period of all these cells.
     let measured = period_of(runs, &cells);
     let Some(bounds) = bounds_around(known.unwrap_or(measured)) else {
         return None;
@@ -493,7 +505,8 @@ fn by_anchors(runs: &[u32], known: Option<u64>, first: Anchor, last: Anchor) -> 
     start(runs, last.run, bounds, measured, &mut cells)
 }
 
-/// A follower by the length of the longest pair: six cells, the first three of which begin a preamble.
+/// A follower by the length of the longest pair: six cells, the first three of which begin a
+/// preamble.
 fn by_pair(runs: &[u32], known: Option<u64>, longest: u32, side: Side) -> Option<Follower>
     requires few { length runs.now ≤ 256 }
     requires many { 128 ≤ length runs.now }
@@ -519,8 +532,8 @@ fn by_pair(runs: &[u32], known: Option<u64>, longest: u32, side: Side) -> Option
     None
 }
 
-/// A follower by the longest pair, if pairs are like those of a line. On a clean line its first run begins a preamble. The other
-/// two tries are for lines of wrong parity and for damage.
+/// A follower by the longest pair, if pairs are like those of a line. On a clean line its first run
+/// begins a preamble. The other two attempts are for lines with wrong parity and for damage.
 fn by_longest(runs: &[u32], known: Option<u64>, longest: Pair) -> Option<Follower>
     requires few { length runs.now ≤ 256 }
     requires many { 128 ≤ length runs.now }
@@ -551,23 +564,26 @@ fn by_longest(runs: &[u32], known: Option<u64>, longest: Pair) -> Option<Followe
     by_pair(runs, known, longest.samples, Side::Both)
 }
 
-/// A follower of the line with these runs, 128 to 256 of them, from the edge before them on; none if they are not those of a line.
-/// `known` is its period, where that is given, in parts of a sample.
+/// A follower of the line with these runs, 128 to 256 of them, from the edge before them on; `None`
+/// if they are not those of a line. `known` is its period in parts of a sample, if it is given.
 pub fn follower_of_runs(runs: &[u32], known: Option<u64>) -> Option<Follower>
     ensures measured { IfSome result (λ follower. IsMeasured known runs.now follower) }
 
-    // It is found if these are 256 runs of a line in which it can be, and follows that line from its first edge on.
+    // It is found if these are 256 runs of a line in which it can be found, and it follows that
+    // line from its first edge on.
     ensures found { (narrow : Bounds) (spread late later place side : ℕ) (places line : List ℕ)
         → AreCapturedRuns narrow spread late later place side places line runs.now → AllowsCells known narrow
         → IsFound known narrow spread late later places result }
 
-    // So it is where edges lie near their places and cells are of one length but for one part in 32,768.
+    // This holds if edges are near their places and cells have one length, to within one part in
+    // 32,768.
     ensures tolerance { (narrow : Bounds) (cell spread late later place side : ℕ) (places line : List ℕ)
         → AreDisplaced narrow spread late later places line runs.now → AreOfManySubframes place side line
         → IsAbout narrow cell 65536 → IsTolerable cell spread late later → AllowsCells known narrow
         → IsFound known narrow spread late later places result }
 
-    // All cells that it counts are those of the line, of these runs and of as many more as there are.
+    // All cells that it counts are those of the line, in these runs and in any number of later
+    // ones.
     ensures cells { (narrow : Bounds) (spread late later place side displaced : ℕ) (line all : List ℕ)
         → IsACapture narrow spread late later place side displaced line all → runs.now ≡ take 256 all → AllowsCells known narrow
         → IsSomeAnd result (CountsLine line all) }
@@ -577,7 +593,7 @@ pub fn follower_of_runs(runs: &[u32], known: Option<u64>) -> Option<Follower>
     }
     let (longer, other) = longest_pairs(runs);
     let found = by_longest(runs, known, longer);
-    // One half may have a run that is none of the line's.
+    // One half may have a run that is not the line's.
     if found.is_some() || longer.samples - longer.samples / 9 <= other.samples {
         return found;
     }

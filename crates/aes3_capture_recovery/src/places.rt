@@ -11,18 +11,18 @@ use aes3_capture::TRACKED;
 /// How many words of 64 levels are taken at once.
 pub const WORDS: usize = 64;
 
-/// How many edges lie among their levels at most.
+/// The greatest number of edges among their levels.
 const EDGES: usize = 64 * WORDS;
 
-/// Where the first word begins: places count from so far before it that the edge before it has a place too.
+/// The place of the first word. It leaves room for the place of the edge before it.
 pub(crate) const BEGIN: u32 = 128;
 
 /// The places of edges, in samples, and the runs of samples between them.
 #[derive(Drop)]
 pub struct Places {
-    /// The first is that of the edge before the words; behind the last stand others that count for nothing.
+    /// The first is that of the edge before the words. Those after the last are meaningless.
     places: [u32; EDGES + 65],
-    /// How many samples lie between each place and the next.
+    /// How many samples there are between each place and the next.
     runs: [u32; EDGES],
     ghost many: { length runs ≡ 4096 },
 }
@@ -36,8 +36,9 @@ impl Places {
         }
     }
 
-    /// Finds the edges of words, where the line has this level before them and an edge lies so many samples before the
-    /// first; answers how many there are. `sparse` says that few words have more than two, which costs less then.
+    /// Finds the edges of words, with this level before them and an edge `waiting` samples before
+    /// the first. Returns how many there are. `sparse` says that few words have more than two; then
+    /// it costs less.
     pub fn find(&mut self, words: &[u64], high: bool, waiting: u32, sparse: bool) -> usize
         requires few { length words.now ≤ 64 }
         requires near { waiting ≤ 128 }
@@ -59,7 +60,8 @@ impl Places {
         count
     }
 
-    /// Tells how many samples lie between each of so many edges and the one before it; answers the longest of these runs.
+    /// Computes how many samples there are between each of `count` edges and the one before it.
+    /// Returns the longest of these runs.
     pub fn measure(&mut self, count: usize) -> u32
         requires few { count ≤ 4096 }
         ensures runs { (first : ℕ) (more : List ℕ) → take (count + 1) self.old.places ≡ first ∷ more
@@ -75,7 +77,7 @@ impl Places {
         longest
     }
 
-    /// How many samples of so many words lie behind the last of so many edges.
+    /// How many samples of `words` words follow the last of `count` edges.
     pub fn behind(&self, count: usize, words: usize) -> u32
         requires few { count ≤ 4096 }
         requires many { words ≤ 64 }
@@ -85,7 +87,7 @@ impl Places {
         (BEGIN + 64 * words as u32).saturating_sub(self.places[count])
     }
 
-    /// The run that edge number `at` ends.
+    /// The run that ends at edge number `at`.
     pub fn run(&self, at: usize) -> u32
         requires within { at < 4096 }
         ensures { take 1 (drop at self.now.runs) ≡ result ∷ [] }
@@ -111,10 +113,11 @@ impl Places {
     }
 }
 
-/// Puts the places of a word's bits that are set, the lowest first; answers how many places there are then.
+/// Puts the places of the bits of a word that are set, the lowest first. Returns how many places
+/// there are then.
 ///
-/// Four are put at once, or two of a sparse word, since how many there are can't be foreseen; what is put after the last counts for
-/// nothing.
+/// Four are put at once, or two for a sparse word, since the number of bits can't be predicted.
+/// What is put after the last is meaningless.
 #[inline(always)]
 fn put_places(places: &mut [u32], from: usize, base: u32, bits: u64, sparse: bool) -> usize
     requires room { from + 66 ≤ length places.old }
@@ -133,7 +136,8 @@ fn put_places(places: &mut [u32], from: usize, base: u32, bits: u64, sparse: boo
     from + count
 }
 
-/// Puts the places of the two or four lowest bits that are set; answers the others, and how many places it put.
+/// Puts the places of the two or four lowest bits that are set. Returns the other bits, and how
+/// many places it put.
 #[inline(always)]
 fn put_first(places: &mut [u32], at: usize, base: u32, bits: u64, sparse: bool) -> (u64, usize)
     requires room { at + 4 ≤ length places.old }
@@ -151,7 +155,7 @@ fn put_first(places: &mut [u32], at: usize, base: u32, bits: u64, sparse: bool) 
     }
 }
 
-/// Puts the places of so many of the lowest bits that are set, and answers the others.
+/// Puts the places of the `count` lowest bits that are set, and returns the other bits.
 #[inline(always)]
 fn put_some(places: &mut [u32], at: usize, base: u32, bits: u64, count: usize) -> u64
     requires room { at + count ≤ length places.old }

@@ -1,4 +1,4 @@
-//! Cells on their way to a sink.
+//! A queue of cells for a sink.
 
 ghost use Rattle.std.specs.Prelude.{ℕ, ◌+◌, ◌<◌, ◌≤◌, ◌^◌, ◌≡◌, ◌++◌, [], List, get_or, length, take, replicate};
 ghost use Rattle.std.specs.Prelude.{IfOk, OnErr};
@@ -34,7 +34,7 @@ pub struct CellQueue {
 impl CellQueue {
     ghost use Rattle.aes3_capture_recovery.specs.Queues.{Finishes, Puts, waiting};
 
-    /// A queue with no cell.
+    /// A queue without cells.
     pub fn new(form: Form) -> Self
         ensures none { waiting result ≡ [] }
         ensures form { result.form ≡ form }
@@ -48,7 +48,7 @@ impl CellQueue {
         }
     }
 
-    /// Takes some cells of one level, and writes the words that are whole, once they are many.
+    /// Takes some cells of one level, and writes the whole words once there are many.
     ///
     /// # Errors
     /// The sink's fault.
@@ -81,7 +81,7 @@ impl CellQueue {
         self.put_bits(sink, bits_of_cells(high, cells), cells)
     }
 
-    /// Takes the cells that so many bits are, the first in the lowest bit.
+    /// Takes cells from the lowest bits of a word, the first in the lowest bit.
     ///
     /// # Errors
     /// The sink's fault.
@@ -106,12 +106,12 @@ impl CellQueue {
             self.len = len;
             return Ok(());
         }
-        // What of them did not fit.
+        // The cells that did not fit.
         let rest = bits >> (64 - self.len);
         self.end_word(sink, word, rest, len - 64)
     }
 
-    /// Takes the word that is whole, and the cells that the next one begins with.
+    /// Takes a whole word, and the first cells of the next word.
     fn end_word<T: Sink>(
         &mut self,
         sink: &mut T,
@@ -156,7 +156,8 @@ impl CellQueue {
         put_words(self.form, &self.words[..count], sink)
     }
 
-    /// Writes the cells that are left, and in packed form how many of the last octet are unused.
+    /// Writes the cells that are left, and in packed form the last octet, the number of unused
+    /// cells.
     ///
     /// # Errors
     /// The sink's fault.
@@ -171,8 +172,8 @@ impl CellQueue {
     }
 }
 
-/// Writes the cells behind the last whole word, the first in the lowest bit, and in packed form how
-/// many of the last octet are unused.
+/// Writes the cells after the last whole word, the first in the lowest bit, and in packed form the
+/// last octet, the number of unused cells.
 ///
 /// # Errors
 /// The sink's fault; then it has taken a front of the bytes.
@@ -192,7 +193,7 @@ pub fn put_last<T: Sink>(form: Form, word: u64, len: u32, sink: &mut T) -> Resul
     }
 }
 
-/// The word whose lowest bits are so many cells of one level.
+/// The word whose lowest bits are `cells` cells of one level.
 #[inline(always)]
 pub fn bits_of_cells(high: bool, cells: u32) -> u64
     requires { cells ≤ 32 }
@@ -202,10 +203,11 @@ pub fn bits_of_cells(high: bool, cells: u32) -> u64
     if high { (1u64 << cells) - 1 } else { 0 }
 }
 
-/// The word whose lowest bits are the cells of sixteen runs at most, the first of this level and each of three cells at most,
-/// and how many cells these are.
+/// The cells of at most sixteen runs as the lowest bits of a word, and their number. The first run
+/// has this level, and each has at most three cells.
 ///
-/// It inverts all later cells at the end of each run, which takes fewer steps than placing the cells of each.
+/// It inverts all later cells at the end of each run, which takes fewer steps than placing the
+/// cells of each.
 #[inline(always)]
 pub fn bits_of_runs(high: bool, runs: &[u32]) -> (u64, u32)
     requires few { length runs.now ≤ 16 }
@@ -223,7 +225,7 @@ pub fn bits_of_runs(high: bool, runs: &[u32]) -> (u64, u32)
     (levels & ((1u64 << len) - 1), len)
 }
 
-/// The line of text of the cells left, in front.
+/// The line of text of the cells left, at the front.
 fn last_line_of(word: u64, len: u32) -> [u8; 65]
     requires few { len < 64 }
     ensures { take (len + 1) result ≡ line_text (low_cells len word) }
@@ -233,7 +235,7 @@ fn last_line_of(word: u64, len: u32) -> [u8; 65]
     line
 }
 
-/// The octets of the cells left, and how many of the last octet are unused, in front.
+/// The octets of the cells left and the last octet, at the front.
 fn last_octets(word: u64, len: u32) -> [u8; 9]
     requires few { len < 64 }
     requires no_more { word < 2 ^ len }

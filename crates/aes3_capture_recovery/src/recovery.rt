@@ -18,19 +18,19 @@ use aes3_cell::{Fault, Form, Sink};
 /// How many cells without an edge are a dead stretch.
 const DEAD: u64 = 64;
 
-/// How long a cell is taken to be for that before one was measured, in parts of a sample.
+/// The length that a cell is taken to have for that before one was measured, in parts of a sample.
 const ANY_PERIOD: u64 = 1 << 29;
 
-/// So few runs are not measured.
+/// Fewer runs than this are not measured.
 const FEW: usize = 128;
 
-/// Where the shortest cell is longer, edges are so rare that finding them first gains nothing.
+/// If the shortest cell is longer, edges are so rare that finding them first gains nothing.
 const SHORT: u64 = 42 * PARTS;
 
-/// Where the shortest cell is longer, 64 samples have two edges at most.
+/// If the shortest cell is longer, 64 samples have at most two edges.
 const SPARSE: u64 = 32 * PARTS;
 
-/// So many edges are taken alone behind one that is far from its place.
+/// This many edges are taken one by one after an edge that is far from its place.
 const ALONE: u32 = 8;
 
 /// What was found of a line.
@@ -39,15 +39,15 @@ pub struct Figures {
     /// How many samples there are, and how many cells were recovered.
     pub samples: u64,
     pub cells: u64,
-    /// How long a cell was last, in parts of a sample; 0 where none was given or found.
+    /// The latest length of a cell, in parts of a sample; 0 if none was given or found.
     pub period: u64,
-    /// How many edges were followed, the greatest distance of one from its place, and the sum of
-    /// the squares of these, in 256ths of a sample.
+    /// How many edges were followed, the greatest distance of an edge from its place, and the sum
+    /// of the squares of these distances, in 256ths of a sample.
     pub edges: u64,
     pub greatest: u64,
     pub squares: u64,
-    /// How many stretches were dead, where the latest began, in samples, and how often the line was
-    /// measured.
+    /// How many stretches had no signal, where the latest began, in samples, and how often the line
+    /// was measured.
     pub dead: u64,
     pub dead_at: u64,
     pub measured: u64,
@@ -58,7 +58,7 @@ pub struct Figures {
 /// How far a line is known.
 #[derive(Clone, Copy, PartialEq, Eq)]
 enum State {
-    /// No edge came for long.
+    /// There was no edge for long.
     Still,
     /// Runs of samples are gathered to be measured.
     Measuring,
@@ -69,11 +69,11 @@ enum State {
 /// Recovers the cells of one line.
 #[derive(Drop)]
 pub struct Recovery {
-    /// The line, its edges and its cells. Its follower is one of a line only once that is found.
+    /// The line, its edges and its cells. Its follower is that of a line only once a line is found.
     line: LineFollower,
     found: bool,
     figures: Figures,
-    /// How long a cell is, in parts of a sample, where that is given.
+    /// The length of a cell, in parts of a sample, if it is given.
     known: Option<u64>,
     state: State,
     /// The samples that wait for the first period.
@@ -87,7 +87,7 @@ pub struct Recovery {
     ghost narrow: { spread < 2 ^ 40 },
 }
 
-/// A follower of a line of which the period alone is known, if that.
+/// A follower of a line of which only the period is known, if it is.
 fn known_follower(known: Option<u64>) -> Option<Follower>
     ensures { IfSome result (λ follower. IsAskedFor known follower) }
 {
@@ -109,7 +109,7 @@ fn any_follower() -> Follower {
     Follower::new(bounds, 2 * PARTS)
 }
 
-/// How many edges are to be taken alone yet, behind some that were taken.
+/// How many edges still have to be taken one by one, after some were taken.
 fn alone_behind(alone: u32, some: usize) -> u32 {
     match (alone, some) {
         (0, 1) => ALONE,
@@ -118,7 +118,7 @@ fn alone_behind(alone: u32, some: usize) -> u32 {
     }
 }
 
-/// The level behind so many runs, of which the first has this level: they take turns.
+/// The level after this many runs, the first of which has this level: levels alternate.
 #[inline(always)]
 fn level_behind(high: bool, count: usize) -> bool
     ensures { (before : Level) (runs : List ℕ) → length runs ≡ count → level_if high ≡ other before
@@ -148,7 +148,8 @@ impl Recovery {
     ghost use Rattle.aes3_capture_recovery.specs.RecoverySteps.{Gave, KeepsRuns, KeepsTold, Noted, NotedAll, RunsCounted, RunsTold};
     ghost use Rattle.aes3_capture_recovery.specs.declared.recovery.State.TheVariants.{Following, Measuring, Still};
 
-    /// A recovery of which nothing came. A cell is so many parts of a sample, where that is given.
+    /// A recovery before the first sample. `known` is the length of a cell in parts of a sample, if
+    /// it is given.
     pub fn new(form: Form, known: Option<u64>) -> Self
         ensures recovered { (setting : Setting) → setting.form ≡ form → setting.known ≡ known
             → Recovered (Some setting.begun) setting [] [] result }
@@ -163,7 +164,7 @@ impl Recovery {
         }
     }
 
-    /// A recovery of which nothing came, with a follower of its line, where one is found.
+    /// A recovery before the first sample, with a follower of its line, if one is found.
     fn with_follower(form: Form, known: Option<u64>, follower: Follower, found: bool) -> Self
         ensures recovered { (setting : Setting) → setting.form ≡ form → setting.known ≡ known
             → (found ≡ true → IsAskedFor known follower)
@@ -250,14 +251,14 @@ impl Recovery {
         ensures unfound { self.old.figures.measured + 1 < 2 ^ 64
             → self.new.figures.measured ≡ self.old.figures.measured → self.new.found ≡ self.old.found }
 
-        // Where no line was found before these samples, and one was found in them and is followed, that is from the first
-        // edge of the runs in which it was found.
+        // If no line was found before these samples, and one was found in them and is followed, it
+        // is followed from the first edge of the runs in which it was found.
         ensures begins { self.old.found ≡ false → self.new.state ≡ Following → self.new.figures.measured ≡ 1
             → (setting : Setting) (seen : List Level) → Recovered (T.taken sink.old) setting seen [] self.old
             → IfOk result (λ _. Began (T.taken sink.new) setting (seen ++ low_cells len levels) [] self.new) }
 
-        // If 256 runs behind the first one are a capture in which a line can be found, then one was found, and from these
-        // on it is followed, while it is not measured anew.
+        // If 256 runs after the first one are a capture in which a line can be found, then it was
+        // found. From these runs on it is followed, as long as it is not measured again.
         ensures awaits { (setting : Setting) (seen : List Level) → Awaits (T.taken sink.old) setting seen [] self.old
             → IfOk result (λ _. Awaits (T.taken sink.new) setting (seen ++ low_cells len levels) [] self.new) }
         ensures finds { (setting : Setting) (seen : List Level) (first : ℕ) (window : List ℕ)
@@ -285,12 +286,14 @@ impl Recovery {
         ensures begun { self.old.state ≢ Following → self.new.state ≡ Following → self.old.figures.measured + 1 < 2 ^ 64
             → IfOk result (λ _. self.old.figures.measured < self.new.figures.measured) }
 
-        // A line that is followed and goes on in these samples is followed behind them, and was not measured.
+        // A line that is followed and continues in these samples is followed after them, and was
+        // not measured.
         ensures stays { (narrow : Bounds) (spread : ℕ) (more : List Level)
             → IsOnLine narrow spread (low_cells len levels ++ more) self.old
             → IfOk result (λ _. StaysOnLine narrow spread more self.old self.new) }
 
-        // A line that is found in the first of these samples, and lasts to their end, is followed then, and was measured once.
+        // A line that is found in the first of these samples, and lasts to their end, is followed
+        // then, and was measured once.
         ensures lasts { (setting : Setting) (seen : List Level) (first : ℕ) (counts : List ℕ)
             → Awaits (T.taken sink.old) setting seen [] self.old
             → IsLastingBehind setting.known (seen ++ low_cells len levels) first counts
@@ -306,10 +309,10 @@ impl Recovery {
         self.rest(sink)
     }
 
-    /// Takes words of the levels of 64 samples each, the first in the lowest bit, if the line is one whose edges can be
-    /// found first, or if it is still and there is no edge in them; answers whether it did. It tells what [`Recovery::take`]
-    /// tells of each word: this is the fast way, in which most edges wait for no other. What `places` has counts for nothing.
-    ///
+    /// Takes words of the levels of 64 samples each, the first in the lowest bit, if the line's
+    /// edges can be found first, or if there is no signal and no edge in them. Returns whether it
+    /// did. For each word it gives what [`Recovery::take`] gives: this is the fast way, in which
+    /// most edges do not wait for others. The contents of `places` are irrelevant.
     /// # Errors
     /// The sink's fault.
     pub(crate) fn take_words<T: Sink>(
@@ -414,8 +417,9 @@ impl Recovery {
         self.state == State::Still && self.figures.samples > 0
     }
 
-    /// Takes words of a line that is still, if there is no edge in them; answers whether it did. Most blocks of a capture without
-    /// a signal are such, and after each of them all is as after 64 calls of [`Recovery::take`], one for each 64 octets.
+    /// Takes words of a line without signal, if there is no edge in them; returns whether it did.
+    /// Most blocks of a capture without signal are like this. After each of them the state is that
+    /// after 64 calls of [`Recovery::take`], one for each 64 octets.
     #[inline(never)]
     fn take_still<T: Sink>(&mut self, sink: &mut T, words: &[u64]) -> Result<bool, Fault>
         requires few { length words.now ≤ 64 }
@@ -446,8 +450,8 @@ impl Recovery {
         Ok(true)
     }
 
-    /// How many of the next samples wait at the end, if 64 pieces of this length come and no edge: after each piece `rest` tells
-    /// all that waits, if that is long.
+    /// How many of the next samples wait at the end, if 64 pieces of this length come without an
+    /// edge. After each piece `rest` gives all that waits, if it is long.
     fn last_waiting(&self, piece: u32) -> u32
         requires few { piece ≤ 64 }
         ensures { result ≤ 64 * piece }
@@ -467,7 +471,7 @@ impl Recovery {
         last
     }
 
-    /// Takes so many samples of the line's level, after at least one that came before.
+    /// Takes this many samples of the line's level, after at least one earlier sample.
     #[inline(always)]
     fn wait_on<T: Sink>(&mut self, sink: &mut T, samples: u32) -> Result<(), Fault>
         requires few { samples ≤ 4096 }
@@ -496,8 +500,8 @@ impl Recovery {
         self.rest(sink)
     }
 
-    /// Takes so many edges that were found, the first behind a run of the other level than this; answers the level behind
-    /// the last.
+    /// Takes `count` edges that were found, the first after a run of the other level than this one.
+    /// Returns the level after the last.
     fn follow_edges<T: Sink>(
         &mut self,
         sink: &mut T,
@@ -542,8 +546,8 @@ impl Recovery {
         Ok(high)
     }
 
-    /// Takes some of the edges that were found, from number `at` on, where the line has this level before the first: all that
-    /// are near their places, if they are taken `together`, or else one.
+    /// Takes some of the edges that were found, from number `at` on, with this level before the
+    /// first: all that are near their places, if they are taken `together`, or else one.
     #[inline(always)]
     fn take_edges<T: Sink>(
         &mut self,
@@ -592,7 +596,8 @@ impl Recovery {
         Ok(1)
     }
 
-    /// Takes edges from number `at` on as long as they are near their places, 32 at most; answers how many.
+    /// Takes at most 32 edges from number `at` on, as long as they are near their places; returns
+    /// how many.
     #[inline(always)]
     fn track<T: Sink>(
         &mut self,
@@ -645,7 +650,7 @@ impl Recovery {
         Ok(some)
     }
 
-    /// Notes how far so many edges are from their places, as `note` does of each.
+    /// Notes how far `count` edges are from their places, as `note` does for each.
     #[inline(always)]
     fn note_all(&mut self, distances: &Distances, count: usize)
         requires few { count ≤ 32 }
@@ -655,7 +660,7 @@ impl Recovery {
         self.figures.edges = self.figures.edges.saturating_add(count as u64);
         self.figures.greatest = self.figures.greatest.max(u64::from(distances.greatest));
         self.figures.squares = self.figures.squares.saturating_add(distances.squares);
-        // Both are the same. LLVM unrolls the first, whose count it knows.
+        // Both give the same. LLVM unrolls the first, whose count it knows.
         self.spread = if count == TRACKED {
             spread_behind(self.spread, distances, TRACKED)
         } else {
@@ -663,7 +668,7 @@ impl Recovery {
         };
     }
 
-    /// Counts samples; the first of all says at which level the line begins.
+    /// Counts samples. The first of all determines the level at which the line begins.
     #[inline(always)]
     fn count_samples(&mut self, levels: u64, len: u32)
         ensures state { self.new.state ≡ self.old.state }
@@ -684,7 +689,7 @@ impl Recovery {
         self.line.start(levels & 1 == 1);
     }
 
-    /// Takes an edge behind a run of samples of this level.
+    /// Takes an edge after a run of samples of this level.
     #[inline(always)]
     fn edge<T: Sink>(&mut self, sink: &mut T, high: bool, run: u32) -> Result<(), Fault>
         requires room { T.failed sink.old + 1 < 2 ^ 64 }
@@ -737,7 +742,7 @@ impl Recovery {
         }
     }
 
-    /// Tells the cells of a run that an edge ends, by the follower that there is.
+    /// Gives the cells of a run that an edge ends, by the current follower.
     #[inline(always)]
     fn tell<T: Sink>(&mut self, sink: &mut T, high: bool, run: u32) -> Result<(), Fault>
         requires room { T.failed sink.old + 1 < 2 ^ 64 }
@@ -757,7 +762,7 @@ impl Recovery {
         Ok(())
     }
 
-    /// Tells the cells of a run of a line whose edges are near their places.
+    /// Gives the cells of a run of a line whose edges are near their places.
     #[inline(always)]
     fn follow<T: Sink>(&mut self, sink: &mut T, high: bool, run: u32) -> Result<(), Fault>
         requires room { T.failed sink.old + 1 < 2 ^ 64 }
@@ -777,15 +782,15 @@ impl Recovery {
         Ok(())
     }
 
-    /// Notes how far the latest edge is from its place. A line is lost where edges are so far from
-    /// theirs as they would be by chance, or where rising and falling edges have slipped.
+    /// Notes how far the latest edge is from its place. A line is lost if edges are as far from
+    /// their places as by chance, or if the grids of rising and falling edges have slipped.
     #[inline(always)]
     fn note(&mut self)
         ensures line { self.new.line ≡ self.old.line }
         ensures noted { Noted self.old self.new }
     {
         let follower = self.line.follower();
-        // The grid has gone a sixteenth of the way to it.
+        // The grid has moved a sixteenth of the way to it.
         let left = follower.distance() >> 8;
         let distance = left + left / 15;
         self.figures.edges = self.figures.edges.saturating_add(1);
@@ -797,7 +802,7 @@ impl Recovery {
         }
     }
 
-    /// Gathers a run of a line that is to be measured.
+    /// Gathers a run of a line that has to be measured.
     fn gather<T: Sink>(&mut self, sink: &mut T, run: u32) -> Result<(), Fault>
         requires room { T.failed sink.old + 1 < 2 ^ 64 }
         ensures count { IfOk result (λ _. T.failed sink.new ≡ T.failed sink.old) }
@@ -837,7 +842,7 @@ impl Recovery {
         self.decide(sink, RUNS)
     }
 
-    /// Measures the runs that were gathered, and tells their cells.
+    /// Measures the runs that were gathered, and gives their cells.
     fn decide<T: Sink>(&mut self, sink: &mut T, count: usize) -> Result<(), Fault>
         requires within { count ≤ 256 }
         requires room { T.failed sink.old + 1 < 2 ^ 64 }
@@ -879,7 +884,7 @@ impl Recovery {
         }
     }
 
-    /// Begins to follow a line. Where nothing was told yet, the line was still before.
+    /// Begins to follow a line. If no cells were given yet, there was no signal before.
     fn begin<T: Sink>(
         &mut self,
         sink: &mut T,
@@ -925,8 +930,8 @@ impl Recovery {
         }
     }
 
-    /// Whether the line was high before the runs that were gathered: they take turns, and behind the last of them comes
-    /// the level now.
+    /// Whether the line was high before the runs that were gathered: levels alternate, and after
+    /// the last run comes the current level.
     fn is_high_before(&self, count: usize) -> bool
         requires within { count ≤ 256 }
         ensures { (level : Level)
@@ -940,7 +945,7 @@ impl Recovery {
         }
     }
 
-    /// Tells the cells of the runs that were gathered, by the follower that there is.
+    /// Gives the cells of the runs that were gathered, by the current follower.
     fn release<T: Sink>(&mut self, sink: &mut T, count: usize) -> Result<(), Fault>
         requires within { count ≤ 256 }
         requires room { T.failed sink.old + 1 < 2 ^ 64 }
@@ -963,7 +968,7 @@ impl Recovery {
         Ok(())
     }
 
-    /// How long a cell is taken to be, in parts of a sample.
+    /// The length that a cell is taken to have, in parts of a sample.
     #[inline(always)]
     fn period(&self) -> u64
         ensures most { result ≤ 2 ^ 30 }
@@ -978,7 +983,7 @@ impl Recovery {
         }
     }
 
-    /// A line is dead where no edge came for long: what waits is told as cells.
+    /// If no edge came for long, there is no signal: what waits is given as cells.
     #[inline(always)]
     fn rest<T: Sink>(&mut self, sink: &mut T) -> Result<(), Fault>
         requires room { T.failed sink.old + 1 < 2 ^ 64 }
@@ -1008,7 +1013,7 @@ impl Recovery {
         self.still(sink)
     }
 
-    /// Tells what waits of a line that is dead.
+    /// Gives what waits of a line without signal.
     fn still<T: Sink>(&mut self, sink: &mut T) -> Result<(), Fault>
         requires room { T.failed sink.old + 1 < 2 ^ 64 }
         ensures count { IfOk result (λ _. T.failed sink.new ≡ T.failed sink.old) }
@@ -1031,7 +1036,7 @@ impl Recovery {
         self.wait(sink)
     }
 
-    /// Notes that a line is dead, and where it died.
+    /// Notes that there is no signal, and from where on.
     fn note_dead(&mut self)
         ensures state { self.new.state ≡ Still }
         ensures measured { self.new.figures.measured ≡ self.old.figures.measured }
@@ -1048,7 +1053,7 @@ impl Recovery {
         self.state = State::Still;
     }
 
-    /// Tells the cells of samples behind which no edge has come yet.
+    /// Gives the cells of samples that no edge follows yet.
     fn wait<T: Sink>(&mut self, sink: &mut T) -> Result<(), Fault>
         requires room { T.failed sink.old + 1 < 2 ^ 64 }
         ensures count { IfOk result (λ _. T.failed sink.new ≡ T.failed sink.old) }
@@ -1103,7 +1108,7 @@ impl Recovery {
         sink.flush()
     }
 
-    /// Takes the end: a line that is still to be measured is so from what there is of it.
+    /// Takes the end: a line that still has to be measured is measured from what there is of it.
     ///
     /// # Errors
     /// The sink's fault.
@@ -1123,7 +1128,8 @@ impl Recovery {
 
         ensures kept { self.old.count ≡ 0 → self.new.figures.measured ≡ self.old.figures.measured }
 
-        // Where no run waits and a line was found, what was given stands at the beginning of what is written.
+        // If no run waits and a line was found, what was given is at the beginning of what is
+        // written.
         ensures writes { self.old.found ≡ true → self.old.count ≡ 0 → (begun : List ℕ) (all : List Level)
             → Queued (T.taken sink.old) begun self.old.line.queue.form (waiting self.old.line.queue) all
             → IfOk result (λ _. Writes (T.taken sink.new) begun self.old.line.queue.form all) }
@@ -1134,7 +1140,7 @@ impl Recovery {
         self.end(sink)
     }
 
-    /// Tells the cells of the last runs that were gathered, which are measured where they are many.
+    /// Gives the cells of the last runs that were gathered; if there are many, they are measured.
     fn tell_gathered<T: Sink>(&mut self, sink: &mut T, count: usize) -> Result<(), Fault>
         requires within { count ≤ 256 }
         requires room { T.failed sink.old + 1 < 2 ^ 64 }
@@ -1164,7 +1170,7 @@ impl Recovery {
         }
     }
 
-    /// Tells the last run as if an edge ended it, and writes the cells that are left.
+    /// Gives the last run as if an edge ended it, and writes the cells that are left.
     fn end<T: Sink>(&mut self, sink: &mut T) -> Result<(), Fault>
         requires room { T.failed sink.old + 1 < 2 ^ 64 }
         ensures count { IfOk result (λ _. T.failed sink.new ≡ T.failed sink.old) }

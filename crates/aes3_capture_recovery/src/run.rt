@@ -23,7 +23,7 @@ use crate::places::Places;
 use crate::recovery::{Figures, Recovery};
 use aes3_cell::{Fault, Form, Sink, Source};
 
-/// Why a run was refused.
+/// Why a run was rejected.
 #[derive(Clone, Copy)]
 pub enum Refusal {
     /// The source failed.
@@ -93,8 +93,8 @@ pub fn feed<T: Sink>(
     }
 }
 
-/// Takes a piece of a block and more. It is a function of its own, so that a caller who gives less than a block needs no stack for
-/// the places of edges, which are 33 KB.
+/// Takes a piece of a block and more. It is a function of its own, so that a caller that gives less
+/// than a block needs no stack for the places of edges. These are 33 KB.
 #[inline(never)]
 fn feed_long<T: Sink>(
     recovery: &mut Recovery,
@@ -111,8 +111,8 @@ fn feed_long<T: Sink>(
     feed_blocks(recovery, sink, unit, piece, &mut Places::new())
 }
 
-/// Takes a piece: its whole blocks, and then the rest. What `places` has before counts for nothing. It is 33 KB long, so a run makes
-/// it once and not for each piece.
+/// Takes a piece: its whole blocks, and then the rest. The earlier contents of `places` are
+/// irrelevant. It is 33 KB long, so a run makes it once and not for each piece.
 fn feed_blocks<T: Sink>(
     recovery: &mut Recovery,
     sink: &mut T,
@@ -134,7 +134,8 @@ fn feed_blocks<T: Sink>(
     feed_chunks(recovery, sink, unit, &piece[at..])
 }
 
-/// Takes a block of samples: its edges are found first, where the line is one of which they can be, or there is none in it.
+/// Takes a block of samples. Its edges are found first if the line allows it, or if there is no
+/// edge in it.
 #[inline(always)]
 fn feed_block<T: Sink>(
     recovery: &mut Recovery,
@@ -188,7 +189,7 @@ fn feed_chunks<T: Sink>(
     recovery.take(sink, levels, (samples as u32).min(len))
 }
 
-/// How many octets a piece has at most where so many samples are still to come.
+/// How many octets a piece has at most if `left` samples are still to come.
 fn piece_len(unit: Unit, left: u64) -> usize
     ensures some { bits_of_sample unit ≤ 8 * result }
     ensures most { result ≤ 131072 }
@@ -197,7 +198,7 @@ fn piece_len(unit: Unit, left: u64) -> usize
     (samples * unit.len()).min(PIECE_LEN)
 }
 
-/// Whether a run is to pause: at so many samples, or where another stretch was dead.
+/// Whether a run has to pause: at this number of samples, or after another stretch without signal.
 fn is_due(figures: Figures, dead: u64, until: Option<u64>) -> bool
     ensures { until ≡ None → result ≡ false }
 {
@@ -207,16 +208,16 @@ fn is_due(figures: Figures, dead: u64, until: Option<u64>) -> bool
     }
 }
 
-/// A piece of which nothing was read.
+/// A piece before anything was read.
 fn blank_piece() -> [u8; PIECE_LEN]
     ensures { length result ≡ PIECE_LEN }
 {
     [0; PIECE_LEN]
 }
 
-/// Reads octets of a piece from `from` up to `to`, and answers how many. After the first of the `reads`
-/// before it, what is decided has left: the sink, which is here for that clause alone, has passed on all
-/// that it took.
+/// Reads octets of a piece from `from` up to `to`, and returns how many. After the first of the
+/// `reads` before it, what is decided was written: the sink has passed on all that it took. The
+/// sink is a parameter only for that clause.
 ///
 /// # Errors
 /// The source's fault.
@@ -260,12 +261,12 @@ fn end<T: Sink>(recovery: &mut Recovery, sink: &mut T) -> Result<Progress, Refus
 }
 
 /// Reads samples to their end, and writes the cells of the line among them. With `until` it pauses
-/// where so many samples have come in all, and behind the piece in which the line dies, and goes
-/// on when it is called again. It pauses behind a whole sample. A part of one at the end, or before
-/// the source failed, counts for nothing.
+/// once that many samples have come in all, and after the piece in which the signal ends. It
+/// continues when it is called again. It pauses after a whole sample. A part of a sample at the
+/// end, or before the source failed, is ignored.
 ///
 /// # Errors
-/// Which end failed.
+/// Whether the source or the sink failed.
 pub fn recover<S: Source, T: Sink>(
     source: &mut S,
     sink: &mut T,
@@ -283,8 +284,8 @@ pub fn recover<S: Source, T: Sink>(
         recovery.old recovery.new sink.old sink.new result }
     ensures to_the_end { until ≡ None → IfOk result (λ progress. progress ≡ Ended) }
 
-    // At Ok the sink has passed on all that it took, and so it had before a read that failed. `read_some`
-    // requires it before each read but the first.
+    // After Ok the sink has passed on all that it took. It had done so before a read that failed,
+    // too. `read_some` requires it before each read but the first.
     ensures passed { IfOk result (λ _. T.passed sink.new ≡ T.taken sink.new) }
     ensures passed_before { S.failed source.new ≡ S.failed source.old + 1
         → T.passed sink.old ≡ T.taken sink.old → T.passed sink.new ≡ T.taken sink.new }

@@ -10,7 +10,7 @@ use std::alloc::Global;
 /// An option or a value that the program takes.
 #[derive(Clone, Copy)]
 pub(crate) enum Argument {
-    /// `--rate HZ`: how many samples come in a second.
+    /// `--rate HZ`: how many samples a second has.
     Rate,
     /// `--at HZ`: the line's sampling frequency.
     At,
@@ -20,13 +20,13 @@ pub(crate) enum Argument {
     Bit,
     /// `--packed-out`: the cells that are written are packed.
     PackedOut,
-    /// `--tell`: what was found is told on the way.
+    /// `--tell`: what was found is reported during the run.
     Tell,
-    /// The name of the file that is read in place of standard input.
+    /// The name of the file that is read instead of standard input.
     File,
 }
 
-/// All of them, in the order in which help lists them.
+/// All arguments, in the order in which help lists them.
 pub(crate) const ARGUMENTS: [Argument; 7] = [
     Argument::Rate,
     Argument::At,
@@ -38,7 +38,7 @@ pub(crate) const ARGUMENTS: [Argument; 7] = [
 ];
 
 impl Argument {
-    /// Its definition, with its line of help.
+    /// The argument's definition, with its line of help.
     pub(crate) fn define<'a>(self, alloc: Global) -> Arg<'a>
         ensures { IsOption (rule self) result }
     {

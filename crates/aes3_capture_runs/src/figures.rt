@@ -1,4 +1,4 @@
-//! The lines that say what was found, or that no line was.
+//! The lines that say what was found, or that no line was found.
 
 ghost use Rattle.std.specs.Prelude.{◌≡◌, ◌++◌, IfOk, decimal};
 ghost use Rattle.aes3_capture_runs.specs.Lines.{IsFiguresLine, IsFoundLine, IsFoundText, IsMean, cells_text};
@@ -17,7 +17,7 @@ fn add_number(text: &mut String, number: u64) -> Result<(), AllocError>
     text.push_str(Buffer::new().format(number))
 }
 
-/// Appends a number of so many thousandths.
+/// Appends a number that is given in thousandths.
 fn add_thousandths(text: &mut String, number: u64) -> Result<(), AllocError>
     ensures { IfOk result (λ _. text.new.bytes.items ≡ text.old.bytes.items ++ thousandths number) }
 {
@@ -28,7 +28,7 @@ fn add_thousandths(text: &mut String, number: u64) -> Result<(), AllocError>
     add_number(text, number % 10)
 }
 
-/// Appends the line's sampling frequency, where the samples' rate is known.
+/// Appends the line's sampling frequency, if the samples' rate is known.
 fn add_frequency(text: &mut String, rate: Option<u64>, period: u64) -> Result<(), AllocError>
     ensures { IfOk result (λ _. text.new.bytes.items
         ≡ text.old.bytes.items ++ frequency_text rate period) }
@@ -51,7 +51,7 @@ fn add_period(text: &mut String, rate: Option<u64>, period: u64) -> Result<(), A
     add_frequency(text, rate, period)
 }
 
-/// How far an edge was from its place at most, in thousandths of a cell.
+/// The greatest distance of an edge from its expected position, in thousandths of a cell.
 fn distance_of(figures: &Figures) -> u64
     ensures { result ≡ distance_of figures.now }
 {
@@ -67,7 +67,7 @@ fn mean_of(figures: &Figures) -> u64
     (square / unit.saturating_mul(unit).max(1)).isqrt()
 }
 
-/// Appends how far edges were from their places, in mean and at most.
+/// Appends how far edges were from their expected positions, on average and at most.
 fn add_edges(text: &mut String, figures: &Figures, mean: u64) -> Result<(), AllocError>
     ensures { IfOk result (λ _. text.new.bytes.items
         ≡ text.old.bytes.items ++ edges_text figures.now mean) }
@@ -79,7 +79,7 @@ fn add_edges(text: &mut String, figures: &Figures, mean: u64) -> Result<(), Allo
     text.push_str(" at most")
 }
 
-/// Appends from where on the line was dead the last time, if it was.
+/// Appends from where on the line last had no signal, if that occurred.
 fn add_latest(text: &mut String, figures: &Figures) -> Result<(), AllocError>
     ensures { IfOk result (λ _. text.new.bytes.items
         ≡ text.old.bytes.items ++ latest_text figures.now) }
@@ -91,7 +91,7 @@ fn add_latest(text: &mut String, figures: &Figures) -> Result<(), AllocError>
     add_number(text, figures.dead_at)
 }
 
-/// Appends how often the line was dead, and from where on the last time.
+/// Appends how often the line had no signal, and from where on the last time.
 fn add_dead(text: &mut String, figures: &Figures) -> Result<(), AllocError>
     ensures { IfOk result (λ _. text.new.bytes.items
         ≡ text.old.bytes.items ++ dead_text figures.now) }
@@ -102,7 +102,7 @@ fn add_dead(text: &mut String, figures: &Figures) -> Result<(), AllocError>
     add_latest(text, figures)
 }
 
-/// Appends how many cells there are, behind the program's name.
+/// Appends the number of cells after the program's name.
 fn add_cells(text: &mut String, figures: &Figures) -> Result<(), AllocError>
     ensures { IfOk result (λ _. text.new.bytes.items
         ≡ text.old.bytes.items ++ cells_text figures.now) }
@@ -112,9 +112,9 @@ fn add_cells(text: &mut String, figures: &Figures) -> Result<(), AllocError>
     text.push_str(" cells")
 }
 
-/// Appends the line of what was found of a line, for people: the samples a cell, the line's sampling
-/// frequency where the samples' rate is known, how far edges were from their places, of which `mean`
-/// is the mean, and where it was dead last.
+/// Appends the line of what was found of a line, for people: the samples in a cell, and the line's
+/// sampling frequency if the samples' rate is known. Then it has how far edges were from their
+/// expected positions, with `mean` as the mean. Last it has where the line last had no signal.
 fn add_found(
     text: &mut String,
     figures: &Figures,
@@ -134,10 +134,10 @@ fn add_found(
     text.push_str(" times\n")
 }
 
-/// The same line alone.
+/// The same line by itself.
 ///
 /// # Errors
-/// Memory was refused.
+/// `AllocError` if there is no memory.
 fn found_line(alloc: Global, figures: &Figures, rate: Option<u64>) -> Result<String, AllocError>
     ensures { IfOk result (λ text. IsFoundLine figures.now rate text.bytes.items) }
 {
@@ -146,10 +146,10 @@ fn found_line(alloc: Global, figures: &Figures, rate: Option<u64>) -> Result<Str
     Ok(text)
 }
 
-/// How many cells there are while no line was found.
+/// The number of cells as long as no line is found.
 ///
 /// # Errors
-/// Memory was refused.
+/// `AllocError` if there is no memory.
 fn no_line_yet(alloc: Global, figures: &Figures) -> Result<String, AllocError>
     ensures { IfOk result (λ text. text.bytes.items ≡ no_line_yet_text figures.now) }
 {
@@ -162,7 +162,7 @@ fn no_line_yet(alloc: Global, figures: &Figures) -> Result<String, AllocError>
 /// The line of what was found so far, for people.
 ///
 /// # Errors
-/// Memory was refused.
+/// `AllocError` if there is no memory.
 pub fn figures_line(
     alloc: Global,
     figures: &Figures,
@@ -177,10 +177,10 @@ pub fn figures_line(
     }
 }
 
-/// What was found in all, for people, and why cells are likely to be wrong, where that is so.
+/// All that was found, for people, and why cells are likely to be wrong, if they are.
 ///
 /// # Errors
-/// Memory was refused.
+/// `AllocError` if there is no memory.
 pub fn found_text(alloc: Global, figures: &Figures, rate: Option<u64>) -> Result<String, AllocError>
     ensures { IfOk result (λ text. IsFoundText figures.now rate text.bytes.items) }
 {
@@ -189,11 +189,12 @@ pub fn found_text(alloc: Global, figures: &Figures, rate: Option<u64>) -> Result
     Ok(text)
 }
 
-/// That no line was found, why, and what to try, for people. Where the samples a cell are given, that
-/// the cells were written by these alone, and whether enough edges came to find a line.
+/// That no line was found, why, and what to try, for people. If the samples in a cell are given, it
+/// says that the cells were written by these alone. It also says whether there were enough edges to
+/// find a line.
 ///
 /// # Errors
-/// Memory was refused.
+/// `AllocError` if there is no memory.
 pub fn no_line_text(
     alloc: Global,
     figures: &Figures,
@@ -221,7 +222,7 @@ pub fn no_line_text(
     Ok(text)
 }
 
-/// Why no measurement confirmed the samples a cell.
+/// Why no measurement confirmed the samples in a cell.
 fn reason_of<'a>(figures: &Figures) -> &'a str
     ensures { result.now ≡ reason_text figures.now }
 {
@@ -232,21 +233,21 @@ fn reason_of<'a>(figures: &Figures) -> &'a str
     }
 }
 
-/// From which distance of an edge from its place on, in thousandths of a cell, others are likely to
-/// be half a cell away, and counted to the next cell.
+/// A distance of an edge from its expected position, in thousandths of a cell. From this distance
+/// on, other edges are likely to be half a cell away and counted to the next cell.
 const DOUBTFUL_DISTANCE: u64 = 400;
 
-/// How many cells a line has at least each time that it is measured: those of a block.
+/// The least number of cells that a line has between two measurements: those of a block.
 const CELLS_A_MEASUREMENT: u64 = 24_576;
 
-/// Whether a line was measured so often that each time too few cells came for a block.
+/// Whether a line was measured so often that on average fewer cells than a block came each time.
 fn was_lost(figures: &Figures) -> bool
     ensures { result ≡ was_lost figures.now }
 {
     figures.measured > 2 && figures.cells / figures.measured < CELLS_A_MEASUREMENT
 }
 
-/// Appends that the line was lost, and measured so often.
+/// Appends that the line was lost, and how often it was measured.
 fn add_lost(text: &mut String, measured: u64) -> Result<(), AllocError>
     ensures { IfOk result (λ _. text.new.bytes.items ≡ text.old.bytes.items ++ lost_text measured) }
 {
@@ -257,7 +258,7 @@ fn add_lost(text: &mut String, measured: u64) -> Result<(), AllocError>
     )
 }
 
-/// Appends that an edge was so many thousandths of a cell from its place.
+/// Appends that an edge was this many thousandths of a cell from its expected position.
 fn add_distance(text: &mut String, distance: u64) -> Result<(), AllocError>
     ensures { IfOk result (λ _. text.new.bytes.items ≡ text.old.bytes.items ++ distance_text distance) }
 {
@@ -268,7 +269,8 @@ fn add_distance(text: &mut String, distance: u64) -> Result<(), AllocError>
     )
 }
 
-/// Appends why cells of a line that was found are likely to be wrong; nothing where nothing speaks for it.
+/// Appends why cells of a line that was found are likely to be wrong; nothing if there is no
+/// reason.
 fn add_doubt(text: &mut String, figures: &Figures) -> Result<(), AllocError>
     ensures { IfOk result (λ _. text.new.bytes.items ≡ text.old.bytes.items ++ doubt_text figures.now) }
 {

@@ -6,17 +6,17 @@
 mod argument;
 /// The lines that say what was found.
 mod figures;
-/// What the program says of itself.
+/// The texts of the program's help.
 mod help;
 /// What the words of a command line ask for.
 mod line;
-/// What the first samples tell where no line is found.
+/// What the first samples show if no line is found.
 mod look;
 /// What to do with a file that is no capture.
 mod other_file;
-/// A job on the file or standard input or between any ends, and what is said of it.
+/// A job on a file, standard input or any source and sink, and what is reported of it.
 mod run;
-/// The bit in which the line lies, where none is asked for.
+/// The bit with the line, if no option names it.
 mod search;
 /// The values of options.
 mod value;

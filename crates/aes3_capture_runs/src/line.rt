@@ -1,4 +1,4 @@
-//! What the words of a command line ask for, and how the samples of such a job lie.
+//! What the words of a command line ask for, and the layout of the samples of such a job.
 
 ghost use Rattle.std.specs.Prelude.{◌≡◌, ◌<◌, [], IfErr, IfOk, None, Some, codes, map};
 ghost use Rattle.aes3_cli.specs.CommandLine.{IsDefinedAs};
@@ -23,22 +23,22 @@ use aes3_cli::{LineFault, file_of_options, program_line};
 use clap::{ArgMatches, Command};
 use std::alloc::{AllocError, Global};
 
-/// What a run is to do.
+/// A job of the program.
 #[derive(Clone, Copy)]
 pub struct Job<'a> {
     /// The form of the cells that are written.
     pub form: Form,
     /// How many octets a sample has.
     pub octets: usize,
-    /// In which of its bits the line lies, where that is said.
+    /// The bit with the line, if an option names it.
     pub bit: Option<u8>,
-    /// Samples a second.
+    /// Samples in a second.
     pub rate: Option<u64>,
-    /// How long a cell is, in parts of a sample.
+    /// The length of a cell, in parts of a sample.
     pub period: Option<u64>,
-    /// How many samples come between two lines of what was found, where it is told on the way.
+    /// How many samples come between two lines of what was found, if it is reported during the run.
     pub tell_each: Option<u64>,
-    /// The name of the file that is read in place of standard input.
+    /// The name of the file that is read instead of standard input.
     pub file: Option<&'a str>,
 }
 
@@ -53,11 +53,12 @@ fn command_line<'a>(alloc: Global) -> Result<Command<'a>, AllocError>
     Ok(line)
 }
 
-/// What the words ask for, without the program's name. It reads no input.
+/// The job of a command line without the program's name. It reads no input.
 ///
 /// # Errors
-/// `Usage` where the definitions of the command line don't take the words or a value among them is
-/// wrong, `Help` where they ask for help or the version, and `Memory` where memory was refused.
+/// - `Usage` if the words don't fit the definitions of the command line, or a value is wrong.
+/// - `Help` if they ask for help or the version.
+/// - `Memory` if there is no memory.
 pub fn job_of_words<'a>(alloc: Global, words: &'a [&'a str]) -> Result<Job<'a>, LineFault>
     ensures job { IfOk result (IsJobOf (map (λ word. word.now) words.now)) }
     ensures fault { IfErr result (IsFaultOf (map (λ word. word.now) words.now)) }
@@ -69,10 +70,10 @@ pub fn job_of_words<'a>(alloc: Global, words: &'a [&'a str]) -> Result<Job<'a>, 
     }
 }
 
-/// The job that options ask for.
+/// The job of these options.
 ///
 /// # Errors
-/// `Usage` where a value of them is wrong, and `Memory` where memory was refused.
+/// `Usage` if a value of them is wrong, `Memory` if there is no memory.
 fn job_of_options<'a>(alloc: Global, options: &ArgMatches<'a>) -> Result<Job<'a>, LineFault>
     ensures job { IfOk result (AsksFor (options_of options.now)) }
     ensures fault { IfErr result (IsOptionFault (options_of options.now)) }
@@ -126,10 +127,10 @@ fn tell_each(options: &ArgMatches<'_>, rate: Option<u64>) -> Option<u64>
     if options.get_flag("tell") { rate } else { None }
 }
 
-/// The frequency that the option of this name gives, if it stands.
+/// The frequency that the option of this name gives, if it is given.
 ///
 /// # Errors
-/// Its text is no frequency.
+/// `wrong` if its text is no frequency.
 fn frequency(options: &ArgMatches<'_>, name: &str, wrong: Wrong) -> Result<Option<u64>, Wrong>
     ensures value { IfOk result (λ _. IsValueBy frequency_in name.now (options_of options.now)) }
     ensures frequency { IfOk result (λ frequency. frequency
@@ -146,7 +147,7 @@ fn frequency(options: &ArgMatches<'_>, name: &str, wrong: Wrong) -> Result<Optio
     }
 }
 
-/// How many samples come in a second, where that is said.
+/// How many samples a second has, if an option says it.
 ///
 /// # Errors
 /// What is wrong with the option.
@@ -158,7 +159,7 @@ fn rate(options: &ArgMatches<'_>) -> Result<Option<u64>, Wrong>
     frequency(options, "rate", Wrong::Rate)
 }
 
-/// The line's sampling frequency, where that is said.
+/// The line's sampling frequency, if an option says it.
 ///
 /// # Errors
 /// What is wrong with the option.
@@ -188,7 +189,7 @@ fn octets(options: &ArgMatches<'_>) -> Result<usize, Wrong>
     }
 }
 
-/// The bit of samples of so many octets in which the line lies, where that is said.
+/// The bit with the line in samples of `octets` octets, if an option names it.
 ///
 /// # Errors
 /// What is wrong with the option.
@@ -209,10 +210,10 @@ fn bit(options: &ArgMatches<'_>, octets: usize) -> Result<Option<u8>, Wrong>
     }
 }
 
-/// Looks whether `--rate` stands where other options want it.
+/// Checks that `--rate` is given if other options need it.
 ///
 /// # Errors
-/// The first option that wants it.
+/// The first option that needs it.
 fn want_rate(options: &ArgMatches<'_>) -> Result<(), Wrong>
     ensures at { IfOk result (λ _. first_of (codes "rate") (options_of options.now) ≡ None
         → first_of (codes "at") (options_of options.now) ≡ None) }
@@ -232,10 +233,10 @@ fn want_rate(options: &ArgMatches<'_>) -> Result<(), Wrong>
     Ok(())
 }
 
-/// How long a cell is at this rate and sampling frequency, where both are said.
+/// The length of a cell at this rate and sampling frequency, if both are given.
 ///
 /// # Errors
-/// It is too short or too long.
+/// The cell is too short or too long.
 fn period(rate: Option<u64>, at: Option<u64>) -> Result<Option<u64>, Wrong>
     ensures fit { IfOk result (λ _. FitTogether rate at) }
     ensures period { IfOk result (λ period. period ≡ period_of rate at) }
@@ -250,8 +251,8 @@ fn period(rate: Option<u64>, at: Option<u64>) -> Result<Option<u64>, Wrong>
     }
 }
 
-/// How samples of so many octets lie, with the line in this bit; of a bit past the last its remainder
-/// counts.
+/// The layout of samples of `octets` octets, with the line in this bit. For a bit past the last its
+/// remainder counts.
 pub fn unit_of(octets: usize, bit: u8) -> Unit
     ensures { result ≡ unit_of octets bit }
 {
@@ -262,8 +263,8 @@ pub fn unit_of(octets: usize, bit: u8) -> Unit
     }
 }
 
-/// How the samples of a job lie: with the line in the bit that it names, else in the one that was found,
-/// else in the lowest.
+/// The layout of the samples of a job, with the line in the bit that it names, else in the one that
+/// was found, else in the lowest.
 pub fn unit_of_job(job: &Job<'_>, found: Option<u8>) -> Unit
     ensures unit { result ≡ unit_of_job job.now found }
     ensures bit { bit_of_line result < bits_of_sample result }

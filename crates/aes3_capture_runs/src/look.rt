@@ -1,28 +1,28 @@
-//! What the first samples of a capture tell where no line is found in it.
+//! What the first samples of a capture show if no line is found in it.
 
 use crate::line::unit_of;
 use crate::search::is_line;
 use aes3_capture_recovery::Unit;
 use std::alloc::{AllocError, Global};
 
-/// How many samples to an edge a line has at least: no fewer than a cell, and an edge comes in each
-/// cell at most.
+/// The least number of samples for each edge of a line: at least those of a cell, since a cell has
+/// at most one edge.
 const FEWEST_SAMPLES_AN_EDGE: u64 = 2;
 
-/// What the first samples of a capture tell of one of their bits.
+/// What the first samples of a capture show about one of their bits.
 #[derive(Clone, Copy)]
 pub struct Look {
     unit: Unit,
     samples: u64,
-    /// How many edges the bit has, and the lowest bit with one.
+    /// How many edges the bit has, and the lowest bit with an edge.
     edges: u64,
     toggling: Option<u8>,
-    /// The bit in which a line lies where a sample has the other number of octets.
+    /// The bit with a line if a sample has the other number of octets.
     other_unit: Option<u8>,
 }
 
 impl Look {
-    /// What these octets tell of the bit. Where another unit could help, it is searched for a line.
+    /// What these octets show about the bit. If another unit could help, it is searched for a line.
     pub fn of(alloc: Global, first: &[u8], unit: Unit, searches: bool) -> Self {
         let octets = unit.len();
         let mut look = Look {
@@ -46,7 +46,7 @@ impl Look {
     /// Why no line was found, for people, up to a colon.
     ///
     /// # Errors
-    /// Memory was refused.
+    /// `AllocError` if there is no memory.
     pub fn why(&self, alloc: Global) -> Result<String, AllocError> {
         let bit = bit_of(self.unit);
         let samples = self.samples;
@@ -100,7 +100,7 @@ fn edges_of(samples: &[u8], unit: Unit) -> u64 {
     edges
 }
 
-/// The lowest bit with a line where a sample has the other number of octets than this.
+/// The lowest bit with a line if a sample has the other number of octets than this.
 fn other_unit_bit(alloc: Global, first: &[u8], octets: usize) -> Option<u8> {
     let other = if octets == 1 { 2 } else { 1 };
     for bit in 0..if other == 1 { 8 } else { 16 } {

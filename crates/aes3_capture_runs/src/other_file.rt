@@ -3,10 +3,10 @@
 use aes3_capture_recovery::Unit;
 use aes3_files::{FileKind, are_packed, are_turned};
 
-/// How many of the first octets are looked at.
+/// How many of the first octets are inspected.
 pub const FIRST_LEN: usize = 512;
 
-/// What a file that begins so is, and what to do with it, where it is no capture of a line.
+/// What a file that begins like this is, and what to do with it, if it is no capture of a line.
 pub fn advice_on_other(first: &[u8], unit: Unit) -> Option<&'static str> {
     match FileKind::of(first) {
         FileKind::Sound(_) => Some(
@@ -36,7 +36,7 @@ pub fn advice_on_other(first: &[u8], unit: Unit) -> Option<&'static str> {
     }
 }
 
-/// Whether a level lasts one sample alone, as it never does where a cell has two.
+/// Whether a level lasts only one sample, as it never does if a cell has two.
 fn has_single_sample(first: &[u8], unit: Unit) -> bool {
     let Unit::Octets(bit) = unit else {
         return false;

@@ -1,4 +1,4 @@
-//! Runs of jobs: on the file or standard input of a machine, and between any ends.
+//! Runs of jobs: on a file or standard input, and between any source and sink.
 
 ghost use Rattle.std.specs.Prelude.{◌≡◌, ◌<◌, ◌≤◌, ◌+◌, ◌^◌, ◌⊎◌, IfErr, IfOk, IsTrue, List, None, OnErr, ℕ};
 ghost use Rattle.aes3_cell.specs.Ends.{Grew};
@@ -24,14 +24,14 @@ use std::alloc::{AllocError, Global};
 use std::cell::Cell;
 use std::io::{self, IsTerminal};
 
-/// The exit status where no line was found.
+/// The exit status if no line was found.
 pub const NO_LINE: u8 = 1;
 
-/// Runs the job on what it reads, if that can be a capture, and answers the exit status. Whether a line
-/// of progress stands on standard error is in `shown`.
+/// Runs the job on what it reads, if that can be a capture, and returns the exit status. `shown`
+/// says whether a line of progress is on standard error.
 ///
 /// # Errors
-/// Memory was refused.
+/// `Memory` if there is no memory.
 pub fn run_capture<E: Sink>(
     rt: &HostRuntime,
     shown: &Cell<bool>,
@@ -76,7 +76,8 @@ pub fn run_capture<E: Sink>(
     Ok(status)
 }
 
-/// How far the input has been read, from now on, where there is a person to tell and it is a file.
+/// The progress of reading the input, from now on, if standard error is a terminal and the input is
+/// a file.
 fn course_of(rt: &HostRuntime, input: &Input<'_>) -> Option<Course> {
     if !rt.stderr().is_terminal() {
         return None;
@@ -84,7 +85,7 @@ fn course_of(rt: &HostRuntime, input: &Input<'_>) -> Option<Course> {
     Course::new(rt, input.len(rt)?, Counted::Samples)
 }
 
-/// Says why the system did not read on in the file, if there is one and it did not.
+/// Says why the system did not continue reading the file, if there is one and it did not.
 fn say_trouble<E: Sink>(
     rt: &HostRuntime,
     file: Option<&str>,
@@ -100,7 +101,7 @@ fn say_trouble<E: Sink>(
     }
 }
 
-/// Says a text among the messages, which are flushed then and whose own faults change nothing.
+/// Writes a text to `messages`, and flushes them. Their own faults change nothing.
 pub fn say<E: Sink>(text: &str, messages: &mut E)
     requires { E.failed messages.old + 1 < 2 ^ 64 }
     ensures text { E.failed messages.new ≡ E.failed messages.old
@@ -113,7 +114,7 @@ pub fn say<E: Sink>(text: &str, messages: &mut E)
     let _ = put_text(text, messages);
 }
 
-/// Says that memory was refused, and answers the exit status.
+/// Says that there was no memory, and returns the exit status.
 fn say_memory<E: Sink>(messages: &mut E) -> u8
     requires { E.failed messages.old + 1 < 2 ^ 64 }
     ensures status { result ≡ 3 }
@@ -128,7 +129,7 @@ fn say_memory<E: Sink>(messages: &mut E) -> u8
     REFUSED
 }
 
-/// Says which end of a run failed, and answers the exit status.
+/// Says what failed in a run, and returns the exit status.
 fn say_refusal<E: Sink>(refusal: Refusal, messages: &mut E) -> u8
     requires { E.failed messages.old + 1 < 2 ^ 64 }
     ensures status { result ≡ 3 }
@@ -146,7 +147,7 @@ fn say_refusal<E: Sink>(refusal: Refusal, messages: &mut E) -> u8
     REFUSED
 }
 
-/// Writes the line of the bit in which a line was found, and flushes it. It takes no memory.
+/// Writes the line of the bit in which a line was found, and flushes it. It needs no memory.
 ///
 /// # Errors
 /// The sink's fault; then it may have taken a front of the line.
@@ -180,7 +181,7 @@ fn say_bit<E: Sink>(found: Option<u8>, messages: &mut E)
     }
 }
 
-/// Says what was found so far. Answers whether it could.
+/// Says what was found so far. Returns whether it could.
 fn say_figures<E: Sink>(
     alloc: Global,
     figures: &Figures,
@@ -206,11 +207,11 @@ fn say_figures<E: Sink>(
     }
 }
 
-/// Recovers the cells of what the source gives, and says what was found of the line on the way where
-/// that is asked for: no more once it can't.
+/// Recovers the cells of what the source gives, and says during the run what was found of the line,
+/// if that is asked for. Once it fails to say it, it says no more.
 ///
 /// # Errors
-/// Which end failed.
+/// Whether the input, the output or memory failed.
 fn recover_telling<S: Source, T: Sink, E: Sink>(
     alloc: Global,
     job: &Job<'_>,
@@ -255,7 +256,7 @@ fn recover_telling<S: Source, T: Sink, E: Sink>(
     recover(source, sink, unit, recovery, None)
 }
 
-/// At how many samples it tells again, where it was to at `until` and so many have come.
+/// The number of samples at which it reports next, once `until` samples have come.
 fn next_telling(until: Option<u64>, each: Option<u64>, samples: u64) -> Option<u64>
     ensures none { until ≡ None → result ≡ None }
 {
@@ -268,7 +269,7 @@ fn next_telling(until: Option<u64>, each: Option<u64>, samples: u64) -> Option<u
 /// That no line was found, and why.
 ///
 /// # Errors
-/// Memory was refused.
+/// `AllocError` if there is no memory.
 fn text_of_no_line(
     alloc: Global,
     figures: &Figures,
@@ -281,7 +282,7 @@ fn text_of_no_line(
     no_line_text(alloc, figures, period, &why)
 }
 
-/// Says what was found in all, or that no line was, and answers the exit status.
+/// Says what was found in all, or that no line was found, and returns the exit status.
 fn say_end<E: Sink>(
     alloc: Global,
     job: &Job<'_>,
@@ -317,10 +318,11 @@ fn say_end<E: Sink>(
     }
 }
 
-/// Recovers the cells of the line in the job's bit, or in that in which it was found, and answers the
-/// exit status: 0 where a line was found, 1 where none was, 3 where the input, the output or memory
-/// failed. Unless the sink failed, it has passed on all that it took, also where the input failed. The
-/// last line of what was found is among `messages`, which are flushed and whose own faults change
+/// Recovers the cells of the line in the job's bit, or in the bit that was found. Returns the exit
+/// status: 0 if a line was found, 1 if none was, 3 if the input, the output or memory failed.
+///
+/// Unless the sink failed, it has passed on all that it took, also if the input failed. The last
+/// line of what was found is written to `messages`, which are flushed. Faults of `messages` change
 /// nothing.
 pub fn run_job<S: Source, T: Sink, E: Sink>(
     alloc: Global,
@@ -338,7 +340,7 @@ pub fn run_job<S: Source, T: Sink, E: Sink>(
         (movement_of S.given S.failed source.old source.new)
         (movement_of T.taken T.failed sink.old sink.new)
         (movement_of E.taken E.failed messages.old messages.new) result }
-    // At status 0 neither end failed, and the sink has passed on all that it took.
+    // With status 0 neither input nor output failed, and the sink has passed on all that it took.
     ensures well { result ≡ 0 → (S.failed source.new ≡ S.failed source.old)
         × (T.failed sink.new ≡ T.failed sink.old) × (T.passed sink.new ≡ T.taken sink.new) }
     ensures passed_on { T.passed sink.old ≡ T.taken sink.old → T.failed sink.new ≡ T.failed sink.old
@@ -356,8 +358,8 @@ pub fn run_job<S: Source, T: Sink, E: Sink>(
     }
 }
 
-/// Says why words ask for no job, and answers the exit status: 0 for help, which is written on the
-/// sink; 2 for a usage error; 3 where memory was refused or help can't be written.
+/// Says why words are no job, and returns the exit status: 0 for help, which is written to the
+/// sink; 2 for a usage error; 3 if there is no memory or help can't be written.
 pub fn report_fault<T: Sink, E: Sink>(fault: LineFault, sink: &mut T, messages: &mut E) -> u8
     requires sink_room { T.failed sink.old + 1 < 2 ^ 64 }
     requires messages_room { E.failed messages.old + 1 < 2 ^ 64 }
@@ -383,7 +385,7 @@ pub fn report_fault<T: Sink, E: Sink>(fault: LineFault, sink: &mut T, messages: 
     }
 }
 
-/// Says why the words could not be read, or that memory was refused, and answers the exit status.
+/// Says why the words could not be read, or that there is no memory, and returns the exit status.
 pub fn report_unread<E: Sink>(fault: Unread, messages: &mut E) -> u8
     requires { E.failed messages.old + 1 < 2 ^ 64 }
     ensures said { UnreadSaid fault

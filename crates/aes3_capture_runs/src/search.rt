@@ -1,4 +1,4 @@
-//! The bit of the samples in which the line lies, where none is asked for.
+//! The bit of the samples with the line, if no option names it.
 
 use crate::line::unit_of;
 use aes3_capture_recovery::{Recovery, Unit, feed};
@@ -8,20 +8,20 @@ use aes3_slot::match_mark;
 use std::alloc::{AllocError, Global};
 use std::io::Read;
 
-/// How many of the first octets are searched: so many, and then more, up to a line.
+/// How many of the first octets are searched: this number, and then more, until a line is found.
 const FIRST_LENS: [usize; 5] = [4096, 16_384, 65_536, 262_144, 1_048_576];
 
-/// How many edges it takes at least to tell a line by its preambles.
+/// The least number of edges that it takes to recognise a line by its preambles.
 const FEWEST_EDGES: u64 = 256;
 
-/// A line has a preamble 64 cells behind each preamble, and no more edges than cells. So it has one
-/// such pair to 64 edges, or more; cells of noise have one to a thousand.
+/// A line has a preamble 64 cells after each preamble, and no more edges than cells. So it has at
+/// least one such pair for each 64 edges; noise has one in a thousand cells.
 const EDGES_A_PAIR: u64 = 256;
 
-/// The lowest bit that has a line in the first samples of so many octets each, if one has.
+/// The lowest bit that has a line in the first samples of `octets` octets each, if there is one.
 ///
 /// # Errors
-/// Memory was refused.
+/// `AllocError` if there is no memory.
 pub fn line_bit<R: Read + Drop>(
     alloc: Global,
     input: &mut Preview<R>,
@@ -62,7 +62,7 @@ pub fn is_line(alloc: Global, samples: &[u8], unit: Unit, period: Option<u64>) -
 fn preamble_pairs(packed: &[u8]) -> u64 {
     let mut pairs: u64 = 0;
     let mut cells: u16 = 0;
-    // Which of the last 64 cells began a preamble.
+    // A one for each of the last 64 cells at which a preamble began.
     let mut seen: u64 = 0;
     for octet in packed {
         cells = cells >> 8 | u16::from(octet.reverse_bits()) << 8;

@@ -8,7 +8,7 @@ ghost use Rattle.aes3_capture_runs.specs.Values.{hertz, parts_in, period_in, sca
 use aes3_capture_recovery::{LONGEST_PERIOD, SHORTEST_PERIOD};
 use aes3_cli::number_of_text;
 
-/// How many octets a sample has by this text.
+/// The number of octets of a sample in this text.
 pub(crate) fn octets_of_text(text: &str) -> Option<usize>
     ensures { result ≡ octets_in text.now }
 {
@@ -19,7 +19,7 @@ pub(crate) fn octets_of_text(text: &str) -> Option<usize>
     }
 }
 
-/// The last bit of samples of so many octets.
+/// The last bit of samples of this number of octets.
 fn last_bit(octets: usize) -> u64
     ensures bit { result ≡ last_bit octets }
     ensures few { result ≤ 15 }
@@ -27,7 +27,7 @@ fn last_bit(octets: usize) -> u64
     if octets == 1 { 7 } else { 15 }
 }
 
-/// The bit of samples of so many octets that a text names.
+/// The bit in this text, for samples of this number of octets.
 pub(crate) fn bit_of_text(text: &str, octets: usize) -> Option<u8>
     ensures { result ≡ bit_in octets text.now }
 {
@@ -35,7 +35,7 @@ pub(crate) fn bit_of_text(text: &str, octets: usize) -> Option<u8>
     Some(bit as u8)
 }
 
-/// What stands before this character and behind it, where it stands first in the text.
+/// The text before the first occurrence of this character, and the text after it.
 fn parts_of_text(text: &str, mark: char) -> Option<(&str, &str)>
     requires { mark < 128 }
     ensures { option_map (λ parts. (parts.0.now, parts.1.now)) result ≡ parts_in mark text.now }
@@ -43,7 +43,7 @@ fn parts_of_text(text: &str, mark: char) -> Option<(&str, &str)>
     text.split_once(mark)
 }
 
-/// What stands before this letter, which ends the text.
+/// The text before this letter at the end of the text.
 fn before_letter(text: &str, letter: char) -> Option<&str>
     requires { letter < 128 }
     ensures { option_map (λ number. number.now) result ≡ before_in letter text.now }
@@ -54,7 +54,7 @@ fn before_letter(text: &str, letter: char) -> Option<&str>
     }
 }
 
-/// A number, and by how many digits its unit moves the point.
+/// A number, and the number of digits by which its unit moves the decimal point.
 fn scaled_of_text(text: &str) -> (&str, usize)
     ensures scaled { (result.0.now, result.1) ≡ scaled_in text.now }
     ensures few { result.1 ≤ 6 }
@@ -74,7 +74,7 @@ fn scaled_of_text(text: &str) -> (&str, usize)
     }
 }
 
-/// The number of a text of decimal digits, with no sign.
+/// The number in a text of decimal digits without a sign.
 fn whole_of_text(text: &str) -> Option<u64>
     ensures { result ≡ whole_in text.now }
 {
@@ -85,7 +85,7 @@ fn whole_of_text(text: &str) -> Option<u64>
     }
 }
 
-/// A number of 1 and so many zeros.
+/// The number 1 followed by `zeros` zeros.
 fn power_of_ten(zeros: usize) -> u64
     requires { zeros ≤ 6 }
     ensures { result ≡ 10 ^ zeros }
@@ -101,7 +101,7 @@ fn power_of_ten(zeros: usize) -> u64
     }
 }
 
-/// So many units of this size, and so many of that: a number from 1 to 2^64 - 1.
+/// `whole` times `unit` plus `part` times `small`: a number from 1 to 2^64 - 1.
 fn hertz(whole: u64, unit: u64, part: u64, small: u64) -> Option<u64>
     ensures { result ≡ hertz whole unit part small }
 {
@@ -115,7 +115,7 @@ fn hertz(whole: u64, unit: u64, part: u64, small: u64) -> Option<u64>
     }
 }
 
-/// The frequency of a number whose point is moved by so many digits.
+/// The frequency of a number whose decimal point is moved by this number of digits.
 fn hertz_of_text(number: &str, digits: usize) -> Option<u64>
     requires { digits ≤ 6 }
     ensures { result ≡ hertz_in digits number.now }
@@ -136,7 +136,7 @@ fn hertz_of_text(number: &str, digits: usize) -> Option<u64>
     }
 }
 
-/// The frequency in Hz that a text writes: `24000000`, `24M`, `24m`, `24000k`, `44.1k`. It is not 0.
+/// The frequency in Hz in a text: `24000000`, `24M`, `24m`, `24000k`, `44.1k`. It is not 0.
 pub(crate) fn frequency_of_text(text: &str) -> Option<u64>
     ensures { result ≡ frequency_in text.now }
 {
@@ -144,7 +144,7 @@ pub(crate) fn frequency_of_text(text: &str) -> Option<u64>
     hertz_of_text(number, digits)
 }
 
-/// How long a cell is, in parts of a sample: 128 cells make a frame.
+/// The length of a cell in parts of a sample: a frame has 128 cells.
 pub(crate) fn period_of(rate: u64, at: u64) -> Option<u64>
     ensures { result ≡ period_in rate at }
 {

@@ -13,22 +13,22 @@ use std::alloc::{AllocError, Global};
 pub(crate) enum Wrong {
     /// The value of `--rate` is no frequency.
     Rate,
-    /// That of `--at` is none.
+    /// The value of `--at` is no frequency.
     At,
-    /// That of `--unit` is no number of octets.
+    /// The value of `--unit` is no number of octets.
     Unit,
-    /// That of `--bit` is no bit of a sample.
+    /// The value of `--bit` is no bit of a sample.
     Bit,
-    /// `--at` stands without `--rate`.
+    /// `--at` is given without `--rate`.
     AtAlone,
-    /// `--tell` stands without `--rate`.
+    /// `--tell` is given without `--rate`.
     TellAlone,
     /// A cell of this line would have too few or too many samples.
     Period,
 }
 
 impl Wrong {
-    /// What is said of it.
+    /// The text that says what is wrong.
     fn reason<'a>(self) -> &'a str
         ensures { result.now ≡ reason self }
     {
@@ -46,7 +46,7 @@ impl Wrong {
     }
 }
 
-/// The usage error that says what is wrong; `Memory` where memory was refused.
+/// The usage error that says what is wrong; `Memory` if there is no memory.
 pub(crate) fn wrong_fault(alloc: Global, wrong: Wrong) -> LineFault
     ensures { IsFaultFor wrong result }
 {
@@ -56,10 +56,10 @@ pub(crate) fn wrong_fault(alloc: Global, wrong: Wrong) -> LineFault
     }
 }
 
-/// Its text.
+/// The text of the usage error.
 ///
 /// # Errors
-/// Memory was refused.
+/// `AllocError` if there is no memory.
 fn wrong_text(alloc: Global, wrong: Wrong) -> Result<String, AllocError>
     ensures { IfOk result (λ text. text.bytes.items ≡ wrong_text wrong) }
 {

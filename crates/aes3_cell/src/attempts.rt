@@ -1,4 +1,4 @@
-//! Reads and writes that a signal can interrupt, and that are tried again then.
+//! Reads and writes that are tried again if a signal interrupts them.
 
 ghost use Rattle.std.specs.Prelude.{◌≡◌, ◌<◌, ◌≤◌, ◌↔◌, ℕ, List, Option, length, Ok};
 ghost use Rattle.std.specs.Prelude.{IfOk, IfErr, IsErr, IsOk};
@@ -24,26 +24,26 @@ pub enum Trouble {
     Failed,
 }
 
-/// Gives bytes, where a signal may interrupt it.
+/// Gives bytes; a signal may interrupt it.
 ///
-/// The contract speaks of the bytes that it has left (`left`) and of what kept it from giving any so
-/// far (`met`), where the reader tells these.
+/// The contract speaks of the bytes that it has left (`left`) and of the troubles so far (`met`),
+/// if the reader reports these.
 pub trait Reader {
     ghost left: { Self → Option (List ℕ) };
 
     ghost met: { Self → Option (List Trouble) };
 
-    /// Tries once to put bytes into the front of `buf`, and says how many.
+    /// Tries once to put bytes into the front of `buf`, and returns how many.
     fn try_read(&mut self, buf: &mut [u8]) -> Result<usize, Trouble>
         ensures bound { IfOk result (λ n. n ≤ length buf.new) }
         ensures bytes { ReadConsumes (left self.old) (left self.new) result buf.new }
         ensures met { Met (met self.old) (met self.new) (troubles_of result) };
 }
 
-/// Takes bytes, where a signal may interrupt it.
+/// Takes bytes; a signal may interrupt it.
 ///
 /// The contract speaks of the bytes that it took (`held`), of those that it has passed on
-/// (`passed`), and of what kept it from taking any so far (`met`), where the writer tells these.
+/// (`passed`), and of the troubles so far (`met`), if the writer reports these.
 pub trait Writer {
     ghost held: { Self → Option (List ℕ) };
 
@@ -51,7 +51,7 @@ pub trait Writer {
 
     ghost met: { Self → Option (List Trouble) };
 
-    /// Tries once to take bytes from the front of `buf`, and says how many: one at least.
+    /// Tries once to take bytes from the front of `buf`, and returns how many: at least one.
     fn try_write(&mut self, buf: &[u8]) -> Result<usize, Trouble>
         ensures bound { IfOk result (λ n. n ≤ length buf.now) }
         ensures some { IfOk result (λ n. 0 < n) }
@@ -75,7 +75,7 @@ fn trouble_of(error: &io::Error) -> Trouble
     }
 }
 
-/// What the answer of a reader means.
+/// What the result of a reader means.
 fn given(answer: io::Result<usize>) -> Result<usize, Trouble>
     ensures ok { IfOk answer (λ n. result ≡ Ok n) }
     ensures err { IfErr answer (λ _. IsErr result) }
@@ -88,7 +88,7 @@ fn given(answer: io::Result<usize>) -> Result<usize, Trouble>
     }
 }
 
-/// What the answer of a writer means: to take none is to fail.
+/// What the result of a writer means: taking no byte is a failure.
 fn taken(answer: io::Result<usize>) -> Result<usize, Trouble>
     ensures ok { IfOk answer (λ n. 0 < n → result ≡ Ok n) }
     ensures none { IfOk answer (λ n. n ≡ 0 → result ≡ Err Trouble.Failed) }
@@ -103,7 +103,7 @@ fn taken(answer: io::Result<usize>) -> Result<usize, Trouble>
     }
 }
 
-/// What the answer of a flush means.
+/// What the result of a flush means.
 fn flushed(answer: io::Result<()>) -> Result<(), Trouble>
     ensures ok { IsOk answer → IsOk result }
     ensures err { IfErr answer (λ _. IsErr result) }
@@ -116,7 +116,7 @@ fn flushed(answer: io::Result<()>) -> Result<(), Trouble>
     }
 }
 
-/// Std's readers don't tell what they met.
+/// Std's readers don't report the troubles that they met.
 impl<R: Read> Reader for R {
     ghost left = { λ r. R.remaining r };
 
@@ -127,7 +127,7 @@ impl<R: Read> Reader for R {
     }
 }
 
-/// Std's writers don't tell what they met.
+/// Std's writers don't report the troubles that they met.
 impl<W: Write> Writer for W {
     ghost held = { λ w. W.contents w };
 
@@ -144,10 +144,10 @@ impl<W: Write> Writer for W {
     }
 }
 
-/// Reads, and again behind each read that a signal interrupted.
+/// Reads, and tries again after each read that a signal interrupted.
 ///
 /// # Errors
-/// The first failure of the device, or that each of 1,000,000 reads was interrupted.
+/// `Fault` after the first failure of the device, or if each of 1,000,000 reads was interrupted.
 pub(crate) fn read_again<R: Reader>(reader: &mut R, buf: &mut [u8]) -> Result<usize, Fault>
     ensures bound { IfOk result (λ n. n ≤ length buf.new) }
     ensures bytes { ReadConsumes (R.left reader.old) (R.left reader.new) result buf.new }
@@ -164,10 +164,10 @@ pub(crate) fn read_again<R: Reader>(reader: &mut R, buf: &mut [u8]) -> Result<us
     Err(Fault)
 }
 
-/// Writes, and again behind each write that a signal interrupted.
+/// Writes, and tries again after each write that a signal interrupted.
 ///
 /// # Errors
-/// The first failure of the device, or that each of 1,000,000 writes was interrupted.
+/// `Fault` after the first failure of the device, or if each of 1,000,000 writes was interrupted.
 pub(crate) fn write_again<W: Writer>(writer: &mut W, buf: &[u8]) -> Result<usize, Fault>
     ensures bound { IfOk result (λ n. n ≤ length buf.now) }
     ensures some { IfOk result (λ n. 0 < n) }

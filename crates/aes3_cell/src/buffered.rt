@@ -1,4 +1,4 @@
-//! A sink that gathers the bytes for another one.
+//! A sink that gathers bytes for another sink.
 
 ghost use Rattle.std.specs.Prelude.{◌≡◌, ◌+◌, ◌<◌, ◌≤◌, ◌^◌, [], ◌++◌, length, IfOk, OnErr};
 ghost use Rattle.std.specs.List.{flat_map};
@@ -12,11 +12,11 @@ use crate::form::Form;
 use crate::written::{LINES_LEN, MANY, fill_lines, octets_of_words};
 use std::alloc::{AllocError, Global};
 
-/// How many bytes are held at most.
+/// How many bytes it holds at most.
 const BUFFER_LEN: usize = 65_536;
 
-/// Holds the bytes that it takes until there is no room for more or it is flushed, and hands them
-/// to the sink behind it.
+/// Holds the bytes that it takes until there is no room for more or it is flushed. Then it passes
+/// them on to the inner sink.
 #[derive(Drop)]
 pub struct BufferedSink<T: Drop> {
     sink: T,
@@ -33,7 +33,7 @@ impl<T: Sink + Drop> BufferedSink<T> {
     /// A sink that holds nothing.
     ///
     /// # Errors
-    /// Where its memory is refused.
+    /// `AllocError` if there is no memory for it.
     pub fn new(alloc: Global, sink: T) -> Result<Self, AllocError>
         ensures sink { IfOk result (λ b. b.sink ≡ sink) }
         ensures empty { IfOk result (λ b. held b.start b.end b.bytes.items ≡ []) }
@@ -46,14 +46,14 @@ impl<T: Sink + Drop> BufferedSink<T> {
         })
     }
 
-    /// The sink behind it.
+    /// The inner sink.
     pub fn sink(&self) -> &T
         ensures { result.now ≡ self.now.sink }
     {
         &self.sink
     }
 
-    /// Hands on all that it holds.
+    /// Passes on all that it holds.
     #[cold]
     #[inline(never)]
     fn drain(&mut self) -> Result<(), Fault>
@@ -94,7 +94,7 @@ impl<T: Sink + Drop> BufferedSink<T> {
         self.drain()
     }
 
-    /// Puts bytes behind those that it holds.
+    /// Appends bytes to those that it holds.
     #[inline(always)]
     fn append(&mut self, bytes: &[u8])
         requires { self.old.end + length bytes.now ≤ BUFFER_LEN }
@@ -107,7 +107,7 @@ impl<T: Sink + Drop> BufferedSink<T> {
         self.end = end;
     }
 
-    /// Puts the lines of words behind the bytes that it holds.
+    /// Appends the lines of words to the bytes that it holds.
     #[inline(always)]
     fn append_lines(&mut self, words: &[u64; MANY])
         requires { self.old.end + LINES_LEN ≤ BUFFER_LEN }

@@ -7,7 +7,7 @@ ghost use Rattle.aes3_level.specs.Words.{low_cells, word_cells};
 
 use std::simd::prelude::*;
 
-/// The low four bits of an octet, turned, as the high four: a table of 16, four times.
+/// The low four bits of an octet, reversed, as the high four: a table of 16, four times.
 const FROM_LOW: [u8; 64] = [
     0, 128, 64, 192, 32, 160, 96, 224, 16, 144, 80, 208, 48, 176, 112, 240, 0, 128, 64, 192, 32,
     160, 96, 224, 16, 144, 80, 208, 48, 176, 112, 240, 0, 128, 64, 192, 32, 160, 96, 224, 16, 144,
@@ -15,14 +15,14 @@ const FROM_LOW: [u8; 64] = [
     240,
 ];
 
-/// The high four bits of an octet, turned, as the low four: a table of 16, four times.
+/// The high four bits of an octet, reversed, as the low four: a table of 16, four times.
 const FROM_HIGH: [u8; 64] = [
     0, 8, 4, 12, 2, 10, 6, 14, 1, 9, 5, 13, 3, 11, 7, 15, 0, 8, 4, 12, 2, 10, 6, 14, 1, 9, 5, 13,
     3, 11, 7, 15, 0, 8, 4, 12, 2, 10, 6, 14, 1, 9, 5, 13, 3, 11, 7, 15, 0, 8, 4, 12, 2, 10, 6, 14,
     1, 9, 5, 13, 3, 11, 7, 15,
 ];
 
-/// The octets with the bits of each in the opposite order.
+/// The octets with the bits of each in reversed order.
 #[inline(always)]
 fn turned(octets: u8x64) -> u8x64
     ensures { result ≡ map (λ octet. octet_of (low_cells 8 octet)) octets }

@@ -1,4 +1,4 @@
-//! A source that gives one byte again and again, for tests.
+//! A source that repeats one byte, for tests.
 
 ghost use Rattle.std.specs.Prelude.{◌≡◌, ℕ, ◌+◌, ◌-◌, ◌<◌, ◌≤◌, ◌^◌, ◌↔◌, Some, false, length};
 ghost use Rattle.std.specs.Prelude.{take, IfOk, IsOk, OnErr, IsTrue};
@@ -6,7 +6,7 @@ ghost use Rattle.std.specs.Prelude.{take, IfOk, IsOk, OnErr, IsTrue};
 use crate::ends::{Fault, Source};
 use crate::memory::smallest;
 
-/// Gives the same byte 2^64 - 1 times, at most `piece` times a call, and then ends.
+/// Gives the same byte 2^64 - 1 times, at most `piece` bytes in a call, and then ends.
 #[derive(Drop)]
 pub struct EndlessSource {
     byte: u8,

@@ -1,4 +1,4 @@
-//! Where bytes come from and go to.
+//! Sources and sinks of bytes.
 
 ghost use Rattle.std.specs.Prelude.{◌≡◌, ℕ, ◌+◌, ◌<◌, ◌≤◌, ◌^◌, ◌↔◌, List, Option, Bool, length};
 ghost use Rattle.std.specs.Prelude.{take, IfOk, OnErr, IsTrue, if◌then◌else◌, []};
@@ -18,7 +18,7 @@ pub struct Fault;
 
 /// Gives bytes, in pieces of any size.
 ///
-/// The contract speaks of all bytes given so far (`given`, where the source tells them), of whether
+/// The contract speaks of all bytes given so far (`given`, if the source reports them), of whether
 /// it has ended, and of how often it failed.
 pub trait Source {
     ghost given: { Self → Option (List ℕ) };
@@ -27,8 +27,8 @@ pub trait Source {
 
     ghost failed: { Self → ℕ };
 
-    /// Puts bytes into the front of `buf` and says how many: for a `buf` that is not empty at least
-    /// one, or none at the end.
+    /// Puts bytes into the front of `buf` and returns how many. If `buf` is not empty, that is at
+    /// least one, or none at the end.
     fn read(&mut self, buf: &mut [u8]) -> Result<usize, Fault>
         requires room { failed self.old + 1 < 2 ^ 64 }
         ensures bound { IfOk result (λ n. n ≤ length buf.new) }
@@ -45,7 +45,7 @@ pub trait Source {
 
 /// Takes bytes, in pieces of any size. It may hold some of them until it is flushed.
 ///
-/// The contract speaks of all bytes taken so far (`taken`, where the sink tells them, which it does
+/// The contract speaks of all bytes taken so far (`taken`, if the sink reports them, which it does
 /// always or never), of those that it has passed on (`passed`, likewise), and of how often it
 /// failed.
 pub trait Sink {
@@ -55,8 +55,8 @@ pub trait Sink {
 
     ghost failed: { Self → ℕ };
 
-    /// Takes bytes from the front of `buf` and says how many: of a `buf` that is not empty at least
-    /// one.
+    /// Takes bytes from the front of `buf` and returns how many: at least one if `buf` is not
+    /// empty.
     fn write(&mut self, buf: &[u8]) -> Result<usize, Fault>
         requires room { failed self.old + 1 < 2 ^ 64 }
         ensures bound { IfOk result (λ n. n ≤ length buf.now) }
@@ -67,7 +67,7 @@ pub trait Sink {
             × (taken self.new ≡ taken self.old)) }
         ensures tells { is_some (taken self.new) ≡ is_some (taken self.old) };
 
-    /// Passes on what it holds of the bytes that it took.
+    /// Passes on the bytes that it took and still holds.
     fn flush(&mut self) -> Result<(), Fault>
         requires room { failed self.old + 1 < 2 ^ 64 }
         ensures bytes { taken self.new ≡ taken self.old }
@@ -79,15 +79,16 @@ pub trait Sink {
     fn failures(&self) -> u64
         ensures { result ≡ failed self.now };
 
-    /// Whether it would rather take many bytes at once: then lines are gathered for it.
+    /// Whether the sink prefers many bytes at once; if so, lines are gathered for it.
     fn takes_much(&self) -> bool {
         false
     }
 
-    /// Takes the cells of 16 words at once, and answers true. Here it takes none, and answers false.
+    /// Takes the cells of 16 words at once, and returns true. This default takes none, and returns
+    /// false.
     ///
     /// # Errors
-    /// Its fault; then it has taken a front of their bytes.
+    /// The sink's fault; then it has taken a front of their bytes.
     fn put_many(&mut self, form: Form, words: &[u64; MANY]) -> Result<bool, Fault>
         requires room { failed self.old + 1 < 2 ^ 64 }
         ensures cells { IfOk result (λ took. Grew (taken self.old) (taken self.new)
@@ -101,7 +102,7 @@ pub trait Sink {
     }
 }
 
-/// Hands all the bytes to the sink, again and again what it left.
+/// Writes all the bytes to the sink, with further calls for what it left.
 ///
 /// # Errors
 /// The sink's fault; then it has taken a front of the bytes.

@@ -1,4 +1,4 @@
-//! Ends over memory that fail from some call on, for tests.
+//! Sources and sinks in memory that fail from some call on, for tests.
 
 ghost use Rattle.std.specs.Prelude.{◌≡◌, ◌+◌, ◌-◌, ◌≤◌, [], false};
 
@@ -6,8 +6,8 @@ use crate::ends::{Fault, Sink, Source};
 use crate::memory::{MemorySink, MemorySource};
 use std::alloc::Global;
 
-/// Gives bytes from memory until call `first_fault`, counted from 1; that call and each later one
-/// fails.
+/// Gives bytes from memory until call `first_fault`, counted from 1. That call and all later ones
+/// fail.
 #[derive(Drop)]
 pub struct FailingSource<'a> {
     inner: MemorySource<'a>,
@@ -19,7 +19,7 @@ impl<'a> FailingSource<'a> {
     ghost use Rattle.aes3_cell.specs.Memory.{all_bytes, given_bytes, piece_of, source_ended};
     ghost use Rattle.aes3_cell.specs.Memory.{source_within, source_calls_left, source_failures};
 
-    /// A source of these bytes, at most `piece` a call.
+    /// A source of these bytes, at most `piece` of them in a call.
     pub fn new(bytes: &'a [u8], piece: usize, first_fault: u64) -> Self
         requires some { 1 ≤ piece }
         requires call { 1 ≤ first_fault }
@@ -78,8 +78,8 @@ impl<'a> Source for FailingSource<'a> {
     }
 }
 
-/// Takes whole buffers into memory until call `first_fault`, counted from 1; that call and each
-/// later one fails.
+/// Takes whole buffers into memory until call `first_fault`, counted from 1. That call and all
+/// later ones fail.
 #[derive(Drop)]
 pub struct FailingSink {
     inner: MemorySink,
@@ -145,13 +145,13 @@ impl Sink for FailingSink {
             ≡ is_some (Some (taken_bytes (sink_within self.old))) }
         ensures all { IfOk result (λ n. n ≡ length buf.now) }
 
-        // memory that is refused is a fault at an earlier call too
+        // failed allocations are faults at earlier calls too
         ensures fails { sink_calls_left self.old ≡ 0 → IsErr result }
         ensures calls { sink_calls_left self.new ≡ sink_calls_left self.old - 1 }
     {
         if self.calls_left > 0 {
             self.calls_left -= 1;
-            // a growth that the inner sink refuses counts as this sink's failure
+            // if the inner sink fails to allocate, that counts as this sink's failure
             if let Ok(n) = self.inner.write(buf) {
                 return Ok(n);
             }

@@ -1,4 +1,4 @@
-//! A sink over memory that holds what it took until it is flushed, for tests.
+//! A sink in memory that holds what it took until it is flushed, for tests.
 
 ghost use Rattle.std.specs.Prelude.{◌≡◌, ◌≤◌, [], length};
 
@@ -36,7 +36,7 @@ impl HoldingSink {
         self.inner.bytes()
     }
 
-    /// Those of them that it has passed on.
+    /// The bytes that it has passed on.
     pub fn passed(&self) -> &[u8]
         ensures { result.now ≡ passed_bytes self.now }
     {

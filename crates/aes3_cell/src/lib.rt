@@ -1,52 +1,51 @@
-//! Cells of an AES3 line: their levels, their written form, and the ends that bytes come from and
-//! go to.
+//! Cells of an AES3 line: their levels, their written form, and the sources and sinks of bytes.
 #![tactic(auto)]
 
-/// Reads and writes that a signal can interrupt, and that are tried again then.
+/// Reads and writes that are tried again if a signal interrupts them.
 mod attempts;
 /// A sink that gathers the bytes for another one.
 mod buffered;
-/// What a run has counted.
+/// The counts of a run.
 mod counts;
 /// Words of cells as octets, eight words at once.
 mod eights;
-/// A source that gives one byte again and again, for tests.
+/// A source that repeats one byte, for tests.
 mod endless;
-/// Where bytes come from and go to.
+/// Sources and sinks of bytes.
 mod ends;
-/// Ends over memory that fail from some call on, for tests.
+/// Sources and sinks in memory that fail from some call on, for tests.
 mod failing;
 /// The written forms of cells.
 mod form;
-/// A sink over memory that holds what it took until it is flushed, for tests.
+/// A sink in memory that holds what it took until it is flushed, for tests.
 mod holding;
 /// Laws of the written forms, over all lists of cells.
 pub mod laws;
-/// Ends over memory, which tell their bytes.
+/// Sources and sinks in memory, which report their bytes.
 mod memory;
-/// Packed cells as they are read.
+/// Reading packed cells.
 mod packed_in;
-/// Packed cells as they are written.
+/// Writing packed cells.
 mod packed_out;
 /// Octets of packed cells as words of cells, many at once.
 mod packed_words;
-/// Why a run is refused.
+/// Why a run is rejected.
 mod refusal;
 /// Cells among separators, 64 bytes at once.
 mod scattered;
-/// A sink over memory that takes few bytes a call, for tests.
+/// A sink in memory that takes few bytes in a call, for tests.
 mod short;
 /// A few cells.
 mod some_cells;
-/// Ends over std's readers and writers.
+/// Sources and sinks over std's readers and writers.
 mod standard;
-/// Cell text as it is read.
+/// Reading cell text.
 mod text_in;
 /// Lines of cell text.
 mod text_lines;
-/// Cell text as it is written.
+/// Writing cell text.
 mod text_out;
-/// The words of cells that text begins with, whatever its lines.
+/// The words of cells at the front of text, with lines of any length.
 mod text_words;
 /// Words of 64 cells, their line of text and their octets.
 mod word;

@@ -1,4 +1,4 @@
-//! Ends over memory. They tell their bytes.
+//! Sources and sinks in memory. They report their bytes.
 
 ghost use Rattle.std.specs.Prelude.{◌≡◌, ℕ, ◌+◌, ◌<◌, ◌≤◌, ◌^◌, ◌↔◌, [], Some, List, Bool, false};
 ghost use Rattle.std.specs.Prelude.{length, take, min, IfOk, OnErr, IsTrue};
@@ -6,7 +6,7 @@ ghost use Rattle.std.specs.Prelude.{length, take, min, IfOk, OnErr, IsTrue};
 use crate::ends::{Fault, Sink, Source};
 use std::alloc::Global;
 
-/// Gives bytes from memory, at most `piece` a call.
+/// Gives bytes from memory, at most `piece` in a call.
 #[derive(Drop)]
 pub struct MemorySource<'a> {
     bytes: &'a [u8],
@@ -86,7 +86,7 @@ impl<'a> Source for MemorySource<'a> {
     }
 }
 
-/// Takes bytes into memory, all of each buffer. A refused growth counts as its failure.
+/// Takes bytes into memory, all of each buffer. A failed allocation counts as its failure.
 #[derive(Drop)]
 pub struct MemorySink {
     bytes: Vec<u8>,

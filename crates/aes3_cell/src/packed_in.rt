@@ -1,10 +1,10 @@
-//! Packed cells as they are read.
+//! Reading packed cells.
 use std::marker::Model;
 
 /// Reads packed cells octet by octet, or eight octets at once.
 ///
-/// A contract sees how many octets it has taken and the last two of them: before the end nobody can
-/// tell which octet is the last, nor how many cells of the one before it are used.
+/// A contract sees how many octets it has taken and the last two of them. Before the end it is not
+/// known which octet is the last, nor how many cells of the octet before it are used.
 #[derive(Drop)]
 pub struct PackedIn {
     seen: u64,
@@ -33,14 +33,14 @@ use crate::packed_words::words_of_octets;
 use crate::refusal::BadPadding;
 use crate::word::word_of_octets;
 
-/// Whether `unused` cells, fewer than eight, are Low at the end of an octet.
+/// Whether the last `unused` cells of an octet, fewer than eight, are Low.
 fn is_rightly_padded(octet: u8, unused: u8) -> bool
     ensures { result ≡ is_padded octet unused }
 {
     unused < 8 && octet % (1 << unused) == 0
 }
 
-/// The answer to the end behind this many octets, the last two of them given.
+/// The answer at the end after `seen` octets, given the last two of them.
 fn end_behind(seen: u64, octet: u8, last: u8) -> Result<Option<(u8, u8)>, BadPadding>
     ensures { result ≡ end_answer seen octet last }
 {
@@ -74,7 +74,7 @@ impl PackedIn {
         self.seen
     }
 
-    /// Takes one more octet, and answers the one that came two octets before, all of whose eight
+    /// Takes one more octet, and returns the one that came two octets before, all of whose eight
     /// cells are used.
     pub fn feed_byte(&mut self, octet: u8) -> Option<u8>
         requires { self.old.seen < 2 ^ 40 }
@@ -92,9 +92,9 @@ impl PackedIn {
         whole
     }
 
-    /// Takes eight more octets for each word, where two or more came before; the words are then the
-    /// cells of those that are whole now, the first of each in the lowest bit: the last two before
-    /// and all but the last two of these.
+    /// Takes eight more octets for each word, after two or more others. Then the words are the
+    /// cells of the two octets before, and of all these but the last two. The first cell of each
+    /// word is in the lowest bit.
     pub fn feed_words(&mut self, octets: &[u8], words: &mut [u64])
         requires begun { 2 ≤ self.old.seen }
         requires room { self.old.seen + length octets.now ≤ 2 ^ 40 }
@@ -123,11 +123,12 @@ impl PackedIn {
         self.last = octets[end - 1];
     }
 
-    /// Takes the end: answers the octet before the last and how many of its cells are used, 1 to 8,
-    /// the first in the highest bit; for the one octet 0, which stands for no cells, nothing.
+    /// Takes the end, and returns the octet before the last and how many of its cells are used, 1
+    /// to 8. The first cell is in the highest bit. For the octet 0 alone, which means no cells, it
+    /// returns `None`.
     ///
     /// # Errors
-    /// The place of the last octet where the octets are not packed cells, 0 where there is none.
+    /// The place of the last octet if the octets are not packed cells; 0 if there is no octet.
     pub fn end(&self) -> Result<Option<(u8, u8)>, BadPadding>
         ensures answer { result ≡ packed_end self.now }
         ensures place { IfErr result (λ fault. fault.at ≡ self.now.seen - 1) }

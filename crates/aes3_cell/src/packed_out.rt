@@ -1,12 +1,11 @@
-//! Packed cells as they are written.
+//! Writing packed cells.
 use std::marker::Model;
 
-/// Writes packed cells: eight octets handed on when their 64th cell comes, and at the end the
-/// octets of the cells left, filled up with Low, and one last octet, the number of the cells that
-/// fill them up.
+/// Writes packed cells: eight octets with each 64th cell. At the end it writes the octets of the
+/// cells left, filled up with Low, and one last octet, the number of cells added as filling.
 #[derive(Drop)]
 pub struct PackedOut {
-    /// The cells begun, the latest in the lowest bit.
+    /// The cells that are not written yet, the latest in the lowest bit.
     word: u64,
     len: u32,
     failed: bool,
@@ -36,7 +35,7 @@ use crate::ends::{Fault, Sink, write_all};
 use crate::word::WORD_LEN;
 use aes3_level::Level;
 
-/// The word with one more cell behind the others, in the lowest bit.
+/// The word with one more cell after the others, in the lowest bit.
 fn with_cell_behind(word: u64, level: Level) -> u64
     requires { word < 2 ^ 63 }
     ensures { result ≡ 2 * word + bit_of level }
@@ -47,7 +46,7 @@ fn with_cell_behind(word: u64, level: Level) -> u64
     }
 }
 
-/// The octets of the cells left, and behind them the last octet.
+/// The octets of the cells left, followed by the last octet.
 fn last_octets(word: u64, len: u32) -> [u8; 9]
     requires few { len < WORD_LEN }
     requires bound { word < 2 ^ len }
@@ -85,10 +84,10 @@ impl PackedOut {
         self.failed
     }
 
-    /// Takes one more cell; each 64th hands eight octets on as one buffer.
+    /// Takes one more cell; each 64th cell writes eight octets as one buffer.
     ///
     /// # Errors
-    /// The sink's fault; then it has taken a front of the octets, and `failed` answers true.
+    /// The sink's fault; then it has taken a front of the octets, and `failed` returns true.
     pub fn put<T: Sink>(&mut self, sink: &mut T, level: Level) -> Result<(), Fault>
         requires open { self.old.failed ≡ false }
         requires room { T.failed sink.old + 1 < 2 ^ 64 }
@@ -110,7 +109,7 @@ impl PackedOut {
         wrote
     }
 
-    /// Takes the end: hands on the octets of the cells left and the last octet, as one buffer.
+    /// Takes the end: writes the octets of the cells left and the last octet, as one buffer.
     ///
     /// # Errors
     /// The sink's fault; then it has taken a front of the octets.

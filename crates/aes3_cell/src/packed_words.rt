@@ -9,7 +9,7 @@ use crate::eights::eight_words;
 use crate::word::word_of_octets;
 use std::simd::prelude::*;
 
-/// The words of the first octets, eight words at once; answers how many words these are.
+/// Makes words of the first octets, eight words at once; returns how many words it made.
 fn words_of_front(octets: &[u8], words: &mut [u64]) -> usize
     requires { length octets.now ≡ 8 * length words.old }
     ensures len { length words.new ≡ length words.old }
@@ -25,7 +25,7 @@ fn words_of_front(octets: &[u8], words: &mut [u64]) -> usize
     8 * eights
 }
 
-/// The words of octets, eight octets a word.
+/// Makes words of octets, eight octets for each word.
 pub fn words_of_octets(octets: &[u8], words: &mut [u64])
     requires { length octets.now ≡ 8 * length words.old }
     ensures len { length words.new ≡ length words.old }

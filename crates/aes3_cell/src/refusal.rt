@@ -1,4 +1,4 @@
-//! Why a run is refused.
+//! Why a run is rejected.
 
 ghost use Rattle.std.specs.Prelude.{◌≡◌};
 ghost use Rattle.aes3_cell.specs.Refusals.{number_of, place_of};
@@ -6,7 +6,7 @@ ghost use Rattle.aes3_cell.specs.Refusals.{number_of, place_of};
 use std::fmt::{self, Debug, Display, Formatter, Write};
 use thiserror::Error;
 
-/// A byte of cell text that is neither cell nor separator.
+/// A byte of cell text that is neither a cell nor a separator.
 #[derive(Clone, Copy, PartialEq, Eq)]
 pub struct BadCell {
     /// Its place, counted in bytes from 0 over the whole input.
@@ -16,11 +16,11 @@ pub struct BadCell {
 /// Packed cells that end wrongly.
 #[derive(Clone, Copy, PartialEq, Eq)]
 pub struct BadPadding {
-    /// The place of the last octet, counted from 0; 0 where there is none.
+    /// The place of the last octet, counted from 0; 0 if there is no octet.
     pub at: u64,
 }
 
-/// The thirteen refusals of a run or a command line.
+/// The thirteen errors of a run or a command line.
 #[derive(Clone, Copy, PartialEq, Eq, Error)]
 pub enum RunError {
     #[error("byte {at} is neither cell nor separator")]
@@ -51,7 +51,7 @@ pub enum RunError {
     Inexact { at: u64 },
 }
 
-/// Its sentence.
+/// Its message.
 impl Debug for RunError {
     fn fmt<W: Write>(&self, f: &mut Formatter<W>) -> fmt::Result {
         Display::fmt(self, f)
@@ -59,7 +59,7 @@ impl Debug for RunError {
 }
 
 impl RunError {
-    /// The refusal's number, 1 to 13, as the program prints it.
+    /// The number of the error, 1 to 13, as the program prints it.
     pub fn number(&self) -> u8
         ensures { result ≡ number_of self.now }
     {
@@ -80,8 +80,8 @@ impl RunError {
         }
     }
 
-    /// Where the fault stands, in bytes, words, octets or cells from 0; for `BadLength` how many bytes are
-    /// left over.
+    /// The place of the fault, in bytes, words, octets or cells from 0. For `BadLength` it is how
+    /// many bytes are left over.
     pub fn place(&self) -> Option<u64>
         ensures { result ≡ place_of self.now }
     {

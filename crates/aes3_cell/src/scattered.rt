@@ -13,8 +13,8 @@ use crate::word::equal_to;
 use aes3_level::even_bits;
 use std::simd::prelude::*;
 
-/// The cells among four bytes, close together, the first in the lowest bit: by which of the four are
-/// cells (the low four bits of the place) and which of them are high (the high four).
+/// The cells among four bytes, moved together, the first in the lowest bit. The low four bits of
+/// the index say which of the four are cells, the high four which are high.
 const TOGETHER: [u8; 256] = [
     0, 0, 0, 0, 0, 0, 0, 0, 0, 0, 0, 0, 0, 0, 0, 0, 0, 1, 0, 1, 0, 1, 0, 1, 0, 1, 0, 1, 0, 1, 0, 1,
     0, 0, 1, 2, 0, 0, 1, 2, 0, 0, 1, 2, 0, 0, 1, 2, 0, 1, 1, 3, 0, 1, 1, 3, 0, 1, 1, 3, 0, 1, 1, 3,
@@ -27,7 +27,7 @@ const TOGETHER: [u8; 256] = [
     7, 7, 15,
 ];
 
-/// How many cells these are.
+/// How many cells each entry of `TOGETHER` has.
 const COUNTS: [u8; 256] = [
     0, 1, 1, 2, 1, 2, 2, 3, 1, 2, 2, 3, 2, 3, 3, 4, 0, 1, 1, 2, 1, 2, 2, 3, 1, 2, 2, 3, 2, 3, 3, 4,
     0, 1, 1, 2, 1, 2, 2, 3, 1, 2, 2, 3, 2, 3, 3, 4, 0, 1, 1, 2, 1, 2, 2, 3, 1, 2, 2, 3, 2, 3, 3, 4,
@@ -39,7 +39,7 @@ const COUNTS: [u8; 256] = [
     0, 1, 1, 2, 1, 2, 2, 3, 1, 2, 2, 3, 2, 3, 3, 4, 0, 1, 1, 2, 1, 2, 2, 3, 1, 2, 2, 3, 2, 3, 3, 4,
 ];
 
-/// The places in the tables of four bytes in each eight: of those at the low bits of each octet.
+/// The indices in these tables for four bytes in each eight: those at the low bits of each octet.
 #[inline(always)]
 fn places(kept: u64, levels: u64) -> [u8; 8]
     ensures { (i : ℕ) → i < 8 → get_or result i 0
@@ -50,7 +50,7 @@ fn places(kept: u64, levels: u64) -> [u8; 8]
     (kept | levels).to_array()
 }
 
-/// The cells of a word behind those of the four bytes of a place.
+/// The cells of the four bytes of an index, followed by those of a word.
 #[inline(always)]
 fn behind_four(place: u8, word: u64) -> u64
     ensures { (cells : List Level) → length cells ≤ 60 → Holds cells word
@@ -59,7 +59,7 @@ fn behind_four(place: u8, word: u64) -> u64
     word << u32::from(COUNTS[usize::from(place)]) | u64::from(TOGETHER[usize::from(place)])
 }
 
-/// The bits of `levels` at the ones of `kept`, close together, the first in the lowest bit. As a
+/// The bits of `levels` at the ones of `kept`, moved together, the first in the lowest bit. As a
 /// function of its own it takes the octets from registers, and builds none of them bit by bit.
 #[inline(never)]
 fn together(kept: u64, levels: u64) -> SomeCells
@@ -77,12 +77,12 @@ fn together(kept: u64, levels: u64) -> SomeCells
     }
 }
 
-/// Up to so many gaps it costs less to close each by itself than to look all up in the tables, where
-/// lines are alike.
+/// Up to this number of gaps, closing each by itself costs less than looking all up in the tables,
+/// if lines are alike.
 const FEW: u32 = 9;
 
-/// What `together` gives, for text with few separators, as in long lines: each gap is closed by
-/// itself, from the lowest on, by moving all above it down by one.
+/// The same result as `together`, for text with few separators, as in long lines. It closes each
+/// gap by itself, from the lowest one on, by moving all above it down by one.
 #[inline(always)]
 fn closed_up(kept: u64, levels: u64) -> SomeCells
     ensures { low_cells result.len result.word ≡ kept_cells 64 kept levels }
@@ -92,7 +92,7 @@ fn closed_up(kept: u64, levels: u64) -> SomeCells
     let mut len = 64;
     while gaps != 0 {
         let others = gaps & (gaps - 1);
-        // What is below the gap is doubled first, so that it stays where it is.
+        // What is below the gap is doubled first, so that it keeps its place.
         word = (word + (word & (gaps ^ (gaps - 1)))) >> 1;
         gaps = others >> 1;
         len -= 1;
@@ -100,14 +100,14 @@ fn closed_up(kept: u64, levels: u64) -> SomeCells
     SomeCells { word, len }
 }
 
-/// Every second of 64 bytes, from the first on.
+/// Every second one of 64 bytes, from the first on.
 const FROM_FIRST: u64 = 0x5555_5555_5555_5555;
 
 /// The same from the second on.
 const FROM_SECOND: u64 = 0xaaaa_aaaa_aaaa_aaaa;
 
-/// What `together` gives for every second byte, as where each cell has a line of its own: half of
-/// the bits, without a table.
+/// The same result as `together` for every second byte, as if each cell has a line of its own: half
+/// of the bits, without a table.
 #[inline(always)]
 fn every_second(levels: u64) -> SomeCells
     ensures { low_cells result.len result.word ≡ kept_cells 64 FROM_FIRST levels }
@@ -118,7 +118,7 @@ fn every_second(levels: u64) -> SomeCells
     }
 }
 
-/// What `together` gives, by the way that is shortest for these gaps.
+/// The same result as `together`, in the way that is fastest for these gaps.
 #[inline(always)]
 fn kept_together(kept: u64, levels: u64) -> SomeCells
     ensures { low_cells result.len result.word ≡ kept_cells 64 kept levels }
@@ -135,8 +135,8 @@ fn kept_together(kept: u64, levels: u64) -> SomeCells
     }
 }
 
-/// The bytes that are separators, each a one. Nobody asks which of the three kinds a separator is,
-/// so one word is made for all of them.
+/// The bytes that are separators, a one for each. Which of the three kinds a separator is doesn't
+/// matter, so there is one word for all of them.
 #[inline(always)]
 fn separators_of(bytes: &[u8; 64]) -> u64
     ensures { (i : ℕ) → i < 64 → bit_at result i
@@ -147,7 +147,7 @@ fn separators_of(bytes: &[u8; 64]) -> u64
     (ends | bytes.simd_eq(u8x64::splat(b' '))).to_bitmask()
 }
 
-/// The cells of 64 bytes, each a cell or a separator; none where one is neither.
+/// The cells of 64 bytes that are all cells or separators; `None` if a byte is neither.
 #[inline(always)]
 pub(crate) fn cells_among(bytes: &[u8; 64]) -> Option<SomeCells>
     ensures cells { IfSome result (λ cells. cells_of_text bytes.now

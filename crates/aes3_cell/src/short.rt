@@ -1,4 +1,4 @@
-//! A sink over memory that takes few bytes a call, for tests.
+//! A sink in memory that takes few bytes in a call, for tests.
 
 ghost use Rattle.std.specs.Prelude.{◌≡◌, ◌<◌, []};
 
@@ -6,7 +6,7 @@ use crate::ends::{Fault, Sink};
 use crate::memory::MemorySink;
 use std::alloc::Global;
 
-/// Takes bytes into memory, at most `most` a call.
+/// Takes bytes into memory, at most `most` in a call.
 #[derive(Drop)]
 pub struct ShortSink {
     inner: MemorySink,

@@ -1,4 +1,4 @@
-//! Ends over std's readers and writers. They don't tell their bytes.
+//! Sources and sinks over std's readers and writers. They don't report their bytes.
 
 ghost use Rattle.std.specs.Prelude.{◌≡◌, ◌≤◌, ◌<◌, ◌+◌, ◌^◌, ◌↔◌, false};
 ghost use Rattle.std.specs.Prelude.{IfOk, IsTrue, OnErr, length, take};
@@ -40,9 +40,9 @@ impl<R: Reader + Drop> Source for StdSource<R> {
 
     ghost failed = { λ s. s.failures };
 
-    /// Gives what the reader gives, and tries again where a signal interrupts it: where the reader
-    /// tells which bytes it has left, exactly the first of these are given, and none only at their
-    /// end.
+    /// Gives what the reader gives, and tries again if a signal interrupts it. If the reader
+    /// reports which bytes it has left, exactly the first of these are given, and none only at
+    /// their end.
     fn read(&mut self, buf: &mut [u8]) -> Result<usize, Fault>
         requires room { self.old.failures + 1 < 2 ^ 64 }
         ensures bound { IfOk result (λ n. n ≤ length buf.new) }
@@ -80,7 +80,7 @@ pub struct StdSink<W: Drop> {
 }
 
 impl<W: Writer + Drop> StdSink<W> {
-    /// A sink that hands its bytes to the writer.
+    /// A sink that passes its bytes on to the writer.
     pub fn new(writer: W) -> Self
         ensures writer { result.writer ≡ writer }
         ensures fresh { result.failures ≡ 0 }
@@ -99,8 +99,8 @@ impl<W: Writer + Drop> Sink for StdSink<W> {
 
     ghost failed = { λ s. s.failures };
 
-    /// Hands bytes on to the writer, and tries again where a signal interrupts it: where the writer
-    /// tells which bytes it holds, these grow by exactly those that are said to be taken.
+    /// Passes bytes on to the writer, and tries again if a signal interrupts it. If the writer
+    /// reports which bytes it holds, these grow by exactly the bytes that count as taken.
     fn write(&mut self, buf: &[u8]) -> Result<usize, Fault>
         requires room { self.old.failures + 1 < 2 ^ 64 }
         ensures bound { IfOk result (λ n. n ≤ length buf.now) }
@@ -126,7 +126,7 @@ impl<W: Writer + Drop> Sink for StdSink<W> {
         }
     }
 
-    /// Has the writer pass on what it took.
+    /// Makes the writer pass on what it took.
     fn flush(&mut self) -> Result<(), Fault>
         requires room { self.old.failures + 1 < 2 ^ 64 }
         ensures bytes { untold ≡ untold }

@@ -1,7 +1,7 @@
-//! Cell text as it is read, byte by byte and 64 bytes at once.
+//! Reading cell text, byte by byte and 64 bytes at once.
 use std::marker::Model;
 
-/// Reads cell text byte by byte, or 64 bytes at once where all are cells.
+/// Reads cell text byte by byte, or 64 bytes at once if all are cells.
 ///
 /// A contract sees how many bytes it has taken.
 #[derive(Drop)]
@@ -46,10 +46,10 @@ impl CellText {
         self.seen
     }
 
-    /// Takes one more byte, and answers its cell; a separator (LF, CR, space) has none.
+    /// Takes one more byte, and returns its cell. A separator (LF, CR, space) has none.
     ///
     /// # Errors
-    /// The place of a byte that is neither. Then it isn't taken, and the reader is as before.
+    /// The place of a byte that is neither. It isn't taken, and the reader is unchanged.
     #[tactic(auto, unfolding(crate::specs::CellText::kind_of))]
     pub fn feed_byte(&mut self, byte: u8) -> Result<Option<Level>, BadCell>
         requires { self.old.seen < 2 ^ 40 }
@@ -66,8 +66,8 @@ impl CellText {
         Ok(cell)
     }
 
-    /// Takes 64 bytes that are all cells and separators, and answers their cells; else it takes none
-    /// of them.
+    /// Takes 64 bytes that are all cells and separators, and returns their cells. If some byte is
+    /// neither, it takes none.
     #[inline(always)]
     pub fn feed_scattered(&mut self, bytes: &[u8; 64]) -> Option<SomeCells>
         requires { self.old.seen + 64 ≤ 2 ^ 40 }

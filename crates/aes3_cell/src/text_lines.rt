@@ -16,10 +16,10 @@ use crate::word::{LINE_LEN, word_of_text};
 /// How many lines become words at once.
 pub const LINES: usize = 64;
 
-/// How many cells a line has as it is written.
+/// How many cells a written line has.
 const LINE_CELLS: usize = 64;
 
-/// Eight cells of text that all are `0`.
+/// Eight characters `0` of cell text.
 const CELL_BYTES: u64 = 0x3030_3030_3030_3030;
 
 /// The bits in which cells of text differ.
@@ -39,8 +39,8 @@ fn front_line(text: &[u8]) -> Option<u64>
     word_of_text(text.first_chunk()?)
 }
 
-/// Makes words of the lines of 64 cells that text begins with, as many as come first and as there
-/// are words; answers how many.
+/// Makes words of the lines of 64 cells at the front of text, at most as many as there are words.
+/// Returns how many.
 fn words_of_lines(text: &[u8], words: &mut [u64]) -> usize
     ensures len { length words.new ≡ length words.old }
     ensures room { result ≤ length words.new }
@@ -60,8 +60,8 @@ fn words_of_lines(text: &[u8], words: &mut [u64]) -> usize
 }
 
 impl CellText {
-    /// Takes 64 bytes all of which are cells, and answers them as a word, the first in the lowest
-    /// bit; else it takes none of them.
+    /// Takes 64 bytes that are all cells, and returns them as a word, the first in the lowest bit.
+    /// If some byte is no cell, it takes none.
     pub fn feed_word(&mut self, bytes: &[u8; 64]) -> Option<u64>
         requires { self.old.seen + 64 ≤ 2 ^ 40 }
         ensures cells { IfSome result (λ word. bytes.now ≡ map byte_of (word_cells word)) }
@@ -75,8 +75,8 @@ impl CellText {
         Some(word)
     }
 
-    /// Takes lines of 64 cells and a line feed, as many as come first and as there are words, and
-    /// answers how many: these words are then their cells.
+    /// Takes lines of 64 cells and a line feed at the front of text, at most as many as there are
+    /// words. Returns how many; the first words are then their cells.
     pub fn feed_lines(&mut self, text: &[u8], words: &mut [u64]) -> usize
         requires { self.old.seen + length text.now ≤ 2 ^ 40 }
         ensures len { length words.new ≡ length words.old }
@@ -95,7 +95,7 @@ impl CellText {
     }
 }
 
-/// Whether a byte separates cells, as at the end of a line.
+/// Whether a byte is a separator, as at the end of a line.
 #[tactic(auto, unfolding(crate::specs::CellText::kind_of))]
 fn is_separator(byte: u8) -> bool
     ensures { IsTrue result ↔ kind_of byte ≡ separator }
@@ -103,7 +103,7 @@ fn is_separator(byte: u8) -> bool
     matches!(byte, b'\n' | b'\r' | b' ')
 }
 
-/// Takes the separators that a piece begins with, and answers how many they are.
+/// Takes the separators at the front of a piece, and returns how many.
 pub(crate) fn skip_separators(text: &mut CellText, piece: &[u8]) -> usize
     requires { text.old.seen + length piece.now ≤ 2 ^ 40 }
     ensures within { result ≤ length piece.now }
@@ -118,7 +118,7 @@ pub(crate) fn skip_separators(text: &mut CellText, piece: &[u8]) -> usize
     piece.len()
 }
 
-/// Takes the 64 bytes that a piece begins with as a word, where they are all cells; else none.
+/// Takes the first 64 bytes of a piece as a word if they are all cells; else takes none.
 fn feed_front(text: &mut CellText, piece: &[u8]) -> Option<u64>
     requires { text.old.seen + length piece.now ≤ 2 ^ 40 }
     ensures bound { OnSome result (64 ≤ length piece.now) }
@@ -132,8 +132,8 @@ fn feed_front(text: &mut CellText, piece: &[u8]) -> Option<u64>
     }
 }
 
-/// Takes the 64 cells that a piece begins with as a word, where it begins with so many, and the
-/// separators behind them. Answers how many bytes these are, and the word.
+/// Takes the first 64 cells of a piece as a word, if it begins with 64 cells, and the separators
+/// after them. Returns the number of bytes, and the word.
 fn feed_line(text: &mut CellText, piece: &[u8]) -> Option<(usize, u64)>
     requires { text.old.seen + length piece.now ≤ 2 ^ 40 }
     ensures within { IfSome result (λ line. (64 ≤ line.0) × (line.0 ≤ length piece.now)) }
@@ -150,9 +150,8 @@ fn feed_line(text: &mut CellText, piece: &[u8]) -> Option<(usize, u64)>
     }
 }
 
-/// Takes the lines of 64 cells that a piece begins with, with what separators there are behind
-/// each, as many as there are and as make words; answers how many bytes and how many words these
-/// are.
+/// Takes the lines of 64 cells at the front of a piece, with any separators after each, up to the
+/// number of words. Returns the number of bytes and of words.
 fn feed_any_lines(text: &mut CellText, piece: &[u8], words: &mut [u64; LINES]) -> (usize, usize)
     requires { text.old.seen + length piece.now ≤ 2 ^ 40 }
     ensures within { result.0 ≤ length piece.now }
@@ -175,9 +174,9 @@ fn feed_any_lines(text: &mut CellText, piece: &[u8], words: &mut [u64; LINES]) -
     (at, LINES)
 }
 
-/// Takes the lines of 64 cells that a piece begins with: those that end with one line feed, if
-/// there are such, else those with what separators there are behind each. Answers how many bytes
-/// and how many words these are.
+/// Takes the lines of 64 cells at the front of a piece. If some of them end with one line feed, it
+/// takes those, else those with any separators after each. Returns the number of bytes and of
+/// words.
 pub(crate) fn feed_lines(
     text: &mut CellText,
     piece: &[u8],
@@ -198,8 +197,8 @@ pub(crate) fn feed_lines(
     (LINE_LEN * count, count)
 }
 
-/// Whether text begins with eight cells: where it doesn't, there is no need to look at 64. Most
-/// text in short lines never does, so the jump that depends on it is foreseen.
+/// Whether text begins with eight cells; if not, there is no need to look at 64. Most text in short
+/// lines never does, so the jump that depends on it is predicted.
 fn begins_with_cells(text: &[u8]) -> bool {
     match text.first_chunk() {
         Some(bytes) => u64::from_le_bytes(*bytes) & !LEVEL_BITS == CELL_BYTES,
@@ -217,8 +216,8 @@ fn is_line(text: &[u8]) -> bool
     }
 }
 
-/// Whether a line of 64 cells begins at a place of a piece: a line feed stands before it, and a
-/// separator behind it. Where chunks end there, the lines behind are read as lines. Chunks of 64
+/// Whether a line of 64 cells begins at a place of a piece: a line feed is before it, and a
+/// separator after it. If chunks end there, the lines after it are read as lines. Chunks of 64
 /// bytes and lines of 65 meet within 65 chunks.
 #[inline(always)]
 pub(crate) fn begins_line(piece: &[u8], at: usize) -> bool
@@ -232,9 +231,9 @@ pub(crate) fn begins_line(piece: &[u8], at: usize) -> bool
         && is_line(&piece[at..])
 }
 
-/// Where two lines of 64 cells begin, one behind the other, behind the first line feed of a text and
-/// at most a line from its beginning: no more than up to there is then read byte by byte. Where
-/// lines of 64 and others come in turn there is no such place.
+/// The place of two lines of 64 cells in a row. They begin after the first line feed of a text, at
+/// most a line from its beginning. Only the bytes before that place are then read one by one. If
+/// lines of 64 cells alternate with others, there is no such place.
 pub(crate) fn two_lines_behind(text: &[u8]) -> Option<usize>
     ensures first { IfSome result (λ at. LineBegins text.now at) }
     ensures second { IfSome result (λ at. LineBegins text.now (at + 65)) }

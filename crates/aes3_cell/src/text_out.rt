@@ -1,8 +1,7 @@
-//! Cell text as it is written.
+//! Writing cell text.
 use std::marker::Model;
 
-/// Writes cells as text: 64 characters `0` and `1` and a line feed, handed on when the 64th cell
-/// comes.
+/// Writes cells as text: 64 characters `0` and `1` and a line feed, with each 64th cell.
 #[derive(Drop)]
 pub struct TextOut {
     word: u64,
@@ -50,10 +49,10 @@ impl TextOut {
         self.failed
     }
 
-    /// Takes one more cell; the line's 64th hands the line on as one buffer.
+    /// Takes one more cell; each 64th cell writes a line as one buffer.
     ///
     /// # Errors
-    /// The sink's fault; then it has taken a front of the line, and `failed` answers true.
+    /// The sink's fault; then it has taken a front of the line, and `failed` returns true.
     pub fn put<T: Sink>(&mut self, sink: &mut T, level: Level) -> Result<(), Fault>
         requires open { self.old.failed ≡ false }
         requires room { T.failed sink.old + 1 < 2 ^ 64 }

@@ -1,4 +1,4 @@
-//! The words of cells that text begins with, whatever its lines, as a reader takes them.
+//! Reading the words of cells at the front of text, with lines of any length.
 
 ghost use Rattle.std.specs.Prelude.{◌≡◌, ◌+◌, ◌<◌, ◌≤◌, ◌^◌, ◌++◌, [], ◌∷◌, length};
 ghost use Rattle.std.specs.Prelude.{take, slice_index, Err, IfOk, IfErr, OnErr, IfSome, OnSome};
@@ -20,18 +20,18 @@ fn no_cells() -> SomeCells
     SomeCells { word: 0, len: 0 }
 }
 
-/// Some cells with others behind them.
+/// Some cells followed by others.
 #[derive(Drop)]
 struct Joined {
-    /// Whether they make a word.
+    /// Whether they fill a word.
     full: bool,
-    /// The word, where they do.
+    /// The word, if they fill one.
     word: u64,
-    /// Those behind the word, or all.
+    /// The cells after the word, or all.
     rest: SomeCells,
 }
 
-/// Cells with others behind them.
+/// Joins cells and the cells after them.
 #[inline(always)]
 fn join(front: SomeCells, back: SomeCells) -> Joined
     requires few { front.len < 64 }
@@ -74,8 +74,8 @@ pub struct TextFront {
     pub rest: SomeCells,
 }
 
-/// Takes the 64 bytes that a piece begins with, where they are all cells and separators, and
-/// answers their cells; else none.
+/// Takes the first 64 bytes of a piece and returns their cells, if all are cells or separators;
+/// else takes none.
 #[inline(always)]
 fn feed_chunk(text: &mut CellText, piece: &[u8]) -> Option<SomeCells>
     requires { text.old.seen + length piece.now ≤ 2 ^ 40 }
@@ -90,8 +90,8 @@ fn feed_chunk(text: &mut CellText, piece: &[u8]) -> Option<SomeCells>
     }
 }
 
-/// Takes the chunks of 64 bytes that a piece begins with, each of cells and separators, up to a
-/// line of 64 cells or as many words as there are.
+/// Takes chunks of 64 bytes, all cells or separators, from the front of a piece, up to a line of 64
+/// cells or the number of words.
 fn feed_chunks(text: &mut CellText, piece: &[u8], words: &mut [u64; LINES]) -> TextFront
     requires { text.old.seen + length piece.now ≤ 2 ^ 40 }
     ensures within { result.bytes ≤ length piece.now }
@@ -120,7 +120,7 @@ fn feed_chunks(text: &mut CellText, piece: &[u8], words: &mut [u64; LINES]) -> T
     TextFront { bytes, count, rest }
 }
 
-/// Takes the lines of 64 cells that a piece begins with, or the chunks of 64 bytes where no such line
+/// Takes the lines of 64 cells at the front of a piece, or the chunks of 64 bytes if no such line
 /// is near.
 fn feed_lines_or_chunks(text: &mut CellText, piece: &[u8], words: &mut [u64; LINES]) -> TextFront
     requires { text.old.seen + length piece.now ≤ 2 ^ 40 }
@@ -143,9 +143,9 @@ fn feed_lines_or_chunks(text: &mut CellText, piece: &[u8], words: &mut [u64; LIN
     }
 }
 
-/// Cells with that of one more byte behind them, if it is a cell and no separator. No jump depends
-/// on which it is, since where lines end can't be foreseen: bit 4 is set in the bytes of cells
-/// alone, bit 5 in those and a space, and bit 0 tells the level.
+/// Appends the cell of one more byte, unless it is a separator. No jump depends on which it is,
+/// since line ends can't be predicted. Bit 4 is set only in the bytes of cells, bit 5 in those and
+/// a space, and bit 0 is the level.
 fn with_cell_of(cells: SomeCells, byte: u8) -> SomeCells
     requires few { cells.len < 64 }
     requires good { is_good_byte byte ≡ true }
@@ -160,7 +160,7 @@ fn with_cell_of(cells: SomeCells, byte: u8) -> SomeCells
     }
 }
 
-/// Takes one more byte, and puts its cell behind the others.
+/// Takes one more byte, and appends its cell to the others.
 fn with_byte(text: &mut CellText, cells: SomeCells, byte: u8) -> Result<SomeCells, BadCell>
     requires room { text.old.seen < 2 ^ 40 }
     requires few { cells.len < 64 }
@@ -174,8 +174,8 @@ fn with_byte(text: &mut CellText, cells: SomeCells, byte: u8) -> Result<SomeCell
     Ok(with_cell_of(cells, byte))
 }
 
-/// Takes the bytes that a piece begins with, until they have 64 cells, a line of so many begins, or
-/// a byte is neither a cell nor a separator. Answers how many bytes these are, and their cells.
+/// Takes bytes from the front of a piece, until they have 64 cells, a line of 64 cells begins, or a
+/// byte is neither a cell nor a separator. Returns the number of bytes, and their cells.
 fn feed_some(text: &mut CellText, piece: &[u8]) -> Result<(usize, SomeCells), BadCell>
     requires some { 0 < length piece.now }
     requires room { text.old.seen + length piece.now ≤ 2 ^ 40 }
@@ -200,8 +200,8 @@ fn feed_some(text: &mut CellText, piece: &[u8]) -> Result<(usize, SomeCells), Ba
     Ok((at, cells))
 }
 
-/// Takes the 64 cells or fewer that a piece begins with, whatever separators stand between them,
-/// and those behind them. Answers how many bytes these are, and the cells.
+/// Takes at most 64 cells from the front of a piece, with any separators between and after them.
+/// Returns the number of bytes, and the cells.
 fn feed_cells(text: &mut CellText, piece: &[u8]) -> Result<(usize, SomeCells), BadCell>
     requires some { 0 < length piece.now }
     requires room { text.old.seen + length piece.now ≤ 2 ^ 40 }
@@ -217,11 +217,11 @@ fn feed_cells(text: &mut CellText, piece: &[u8]) -> Result<(usize, SomeCells), B
     Ok((taken + separators, cells))
 }
 
-/// Takes a front of a piece, and answers how many bytes it has, how many words its cells make, and
-/// the cells behind these.
+/// Takes a front of a piece, and returns how many bytes it has, how many words its cells make, and
+/// the cells after these words.
 ///
 /// # Errors
-/// The place of the first byte, where it is neither a cell nor a separator. Nothing is taken then.
+/// The place of the first byte, if it is neither a cell nor a separator. Nothing is taken then.
 fn fill(text: &mut CellText, piece: &[u8], words: &mut [u64; LINES]) -> Result<TextFront, BadCell>
     requires some { 0 < length piece.now }
     requires room { text.old.seen + length piece.now ≤ 2 ^ 40 }
@@ -248,12 +248,12 @@ fn fill(text: &mut CellText, piece: &[u8], words: &mut [u64; LINES]) -> Result<T
 }
 
 impl CellText {
-    /// Takes a front of a piece: lines of 64 cells, as many as come first and as there are words, or
-    /// chunks of cells and separators, or at least one byte. Answers how many bytes it has, how many
-    /// words its cells make, and the cells after these.
+    /// Takes a front of a piece: lines of 64 cells, up to the number of words, or chunks of cells
+    /// and separators, or at least one byte. Returns how many bytes it has, how many words its
+    /// cells make, and the cells after these words.
     ///
     /// # Errors
-    /// The place of the first byte, where it is neither a cell nor a separator. Nothing is taken then.
+    /// The place of the first byte, if it is neither a cell nor a separator. Nothing is taken then.
     pub fn take_front(
         &mut self,
         piece: &[u8],

@@ -17,7 +17,7 @@ pub(crate) const WORD_LEN: u32 = 64;
 /// How many bytes a line of text has, with its line feed.
 pub const LINE_LEN: usize = 65;
 
-/// The word of `len` cells, the first in the lowest bit, with one more cell behind them.
+/// The word of `len` cells, the first in the lowest bit, with one more cell after them.
 pub(crate) fn with_cell(word: u64, len: u32, level: Level) -> u64
     requires few { len < 64 }
     requires bound { word < 2 ^ len }
@@ -30,7 +30,7 @@ pub(crate) fn with_cell(word: u64, len: u32, level: Level) -> u64
     }
 }
 
-/// The number of the octet that has each cell of a word, the first eight cells in octet 0.
+/// The number of the octet of each cell of a word, the first eight cells in octet 0.
 const OCTETS: [usize; 64] = [
     0, 0, 0, 0, 0, 0, 0, 0, 1, 1, 1, 1, 1, 1, 1, 1, 2, 2, 2, 2, 2, 2, 2, 2, 3, 3, 3, 3, 3, 3, 3, 3,
     4, 4, 4, 4, 4, 4, 4, 4, 5, 5, 5, 5, 5, 5, 5, 5, 6, 6, 6, 6, 6, 6, 6, 6, 7, 7, 7, 7, 7, 7, 7, 7,
@@ -42,7 +42,7 @@ fn characters(word: u64) -> [u8; 64]
     ensures { result ≡ map byte_of (word_cells word) }
 {
     let octets = u8x8::from_array(word.to_le_bytes()).swizzle(OCTETS);
-    // In each octet the bit of cell 0, of cell 1, and so on.
+    // In each octet, the bit of cell 0, of cell 1, and so on.
     let bits = u64x8::splat(0x8040_2010_0804_0201).to_le_bytes();
     (octets & bits)
         .simd_eq(bits)
@@ -88,7 +88,7 @@ pub fn word_of_octets(octets: &[u8; 8]) -> u64
     eight_words(u8x64::from_array(padded)).to_array()[0]
 }
 
-/// The bytes that are `byte`, each a one.
+/// The bytes that are `byte`, a one for each.
 #[inline(always)]
 pub(crate) fn equal_to(bytes: &[u8; 64], byte: u8) -> u64
     ensures { (i : ℕ) → i < 64 → bit_at result i ≡ (if get_or bytes.now i 0 == byte then 1 else 0) }
@@ -98,7 +98,7 @@ pub(crate) fn equal_to(bytes: &[u8; 64], byte: u8) -> u64
         .to_bitmask()
 }
 
-/// The word of 64 bytes all of which are cells, the first in the lowest bit.
+/// The word of 64 bytes that are all cells, the first in the lowest bit.
 #[inline(always)]
 pub fn word_of_text(bytes: &[u8; 64]) -> Option<u64>
     ensures cells { IfSome result (λ word. bytes.now ≡ map byte_of (word_cells word)) }

@@ -31,10 +31,10 @@ pub fn put_word<T: Sink>(form: Form, word: u64, sink: &mut T) -> Result<(), Faul
 /// How many words a sink takes at once.
 pub(crate) const MANY: usize = 16;
 
-/// How many bytes their lines have.
+/// How many bytes the lines of these words have.
 pub(crate) const LINES_LEN: usize = LINE_LEN * MANY;
 
-/// Puts the line of a word behind those of the words before.
+/// Puts the line of word `i` after those of the words before.
 #[inline(always)]
 fn fill_line(words: &[u64; MANY], text: &mut [u8], i: usize)
     requires within { i < MANY }
@@ -51,7 +51,7 @@ pub(crate) fn fill_lines(words: &[u64; MANY], text: &mut [u8])
     requires { length text.old ≡ LINES_LEN }
     ensures { text.new ≡ bytes_of Text (flat_map word_cells words.now) }
 {
-    // Four a turn: each turn loads the constants anew.
+    // Four in each iteration: every iteration loads the constants again.
     for i in 0..MANY / 4 {
         fill_line(words, text, 4 * i);
         fill_line(words, text, 4 * i + 1);
@@ -72,7 +72,7 @@ pub(crate) fn octets_of_words(words: &[u64; MANY]) -> [u8; 8 * MANY]
     octets
 }
 
-/// Writes the first words, as long as the sink takes many at once; answers how many.
+/// Writes the first words, as long as the sink takes many at once; returns how many.
 fn put_front<T: Sink>(form: Form, words: &[u64], sink: &mut T) -> Result<usize, Fault>
     requires room { T.failed sink.old + 1 < 2 ^ 64 }
     ensures within { IfOk result (λ n. n ≤ length words.now) }
@@ -105,7 +105,7 @@ fn put_each<T: Sink>(form: Form, words: &[u64], sink: &mut T) -> Result<(), Faul
     Ok(())
 }
 
-/// Writes words of cells, each as one buffer, or 16 at once where the sink takes them.
+/// Writes words of cells, each as one buffer, or 16 at once if the sink takes them.
 ///
 /// # Errors
 /// The sink's fault; then it has taken a front of the bytes.
@@ -118,7 +118,7 @@ pub fn put_words<T: Sink>(form: Form, words: &[u64], sink: &mut T) -> Result<(),
     put_each(form, &words[written..], sink)
 }
 
-/// Writes what stands behind the last word of cells: in packed form one octet, the number of unused
+/// Writes what follows the last word of cells: in packed form one octet, the number of unused
 /// cells, which is 0.
 ///
 /// # Errors

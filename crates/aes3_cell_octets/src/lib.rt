@@ -1,16 +1,16 @@
-//! Octets of cells in the forms that hardware gives and takes: without the last octet that counts,
-//! and with the first cell of each octet in its lowest bit.
+//! Octets of cells in the forms of hardware: without the last octet, and with the first cell of
+//! each octet in its lowest bit.
 #![tactic(auto)]
 
 /// The laws of these forms.
 pub mod laws;
-/// Octets without the last one that counts.
+/// Octets without the last octet.
 mod raw;
-/// Octets turned, as they are written.
+/// Octets with reversed bits, as they are written.
 mod turned_sink;
-/// Packed cells turned, as they are read.
+/// Packed cells with reversed bits, as they are read.
 mod turned_source;
-/// The bits of octets in the opposite order.
+/// The bits of octets in reversed order.
 mod turning;
 
 pub use raw::RawSource;

@@ -1,5 +1,4 @@
-//! Octets of cells without the last octet that counts, as a shift register or a serial port gives
-//! them.
+//! Octets of cells without the last octet, as a shift register or a serial port gives them.
 
 ghost use Rattle.std.specs.Prelude.{◌≡◌, ◌+◌, ◌<◌, ◌≤◌, ◌^◌, ◌↔◌, length, take, false};
 ghost use Rattle.std.specs.Prelude.{IfOk, IsTrue, OnErr};
@@ -10,17 +9,17 @@ ghost use Rattle.aes3_cell_octets.specs.Told.{raw_told};
 
 use aes3_cell::{Fault, Source};
 
-/// What is given behind the octets: none of their cells is unused.
+/// The last octet: no cell is unused.
 const NONE_UNUSED: u8 = 0;
 
-/// Gives the packed cells of the source behind it, which gives octets of eight cells each and no
-/// octet that counts: these octets, and at their end one octet more.
+/// Gives the packed cells of an inner source, which gives octets of eight cells each and no last
+/// octet: these octets, and the last octet at their end.
 #[derive(Drop)]
 pub struct RawSource<S: Source + Drop> {
     source: S,
-    /// Whether the octet that counts was given.
+    /// Whether the last octet was given.
     is_counted: bool,
-    /// Whether that was told too.
+    /// Whether the end was reported too.
     is_ended: bool,
     ghost counted: { IsTrue is_ended → IsTrue is_counted },
     ghost source_ended: { IsTrue is_counted → IsTrue (S.has_ended source) },
@@ -39,8 +38,8 @@ impl<S: Source + Drop> RawSource<S> {
         }
     }
 
-    /// The source behind it. It has ended where the octet that counts was given, which comes before
-    /// the end is told.
+    /// The inner source. If the last octet was given, it has ended. The last octet is given before
+    /// the end is reported.
     pub fn into_source(self) -> S
         ensures source { result ≡ self.source }
         ensures behind_all { IsTrue self.is_counted → IsTrue (S.has_ended result) }
@@ -68,7 +67,7 @@ impl<S: Source + Drop> Source for RawSource<S> {
             × (raw_told self.new.is_counted (S.given self.new.source)
             ≡ raw_told self.old.is_counted (S.given self.old.source))) }
 
-        // The end comes behind the packed form of all octets of the source.
+        // The end is reported after the packed form of all octets of the source.
         ensures whole { IfOk result (λ n. 0 < length buf.new → n ≡ 0
             → (raw_told self.new.is_counted (S.given self.new.source)
             ≡ option_map packed_of_raw (S.given self.new.source)) × IsTrue (S.has_ended self.new.source)) }

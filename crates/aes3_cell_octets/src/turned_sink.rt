@@ -1,4 +1,4 @@
-//! Octets of cells whose first cell stands in the lowest bit, as they are written.
+//! Octets of cells with the first cell in the lowest bit, as they are written.
 
 ghost use Rattle.std.specs.Prelude.{◌≡◌, ◌+◌, ◌<◌, ◌≤◌, ◌^◌, length, map};
 ghost use Rattle.std.specs.Prelude.{min, take, IfOk, OnErr};
@@ -10,7 +10,7 @@ ghost use Rattle.aes3_cell_octets.specs.Told.{all_turned};
 use crate::turning::turn;
 use aes3_cell::{Fault, Sink};
 
-/// How many octets are turned and handed on at once, at most.
+/// How many octets are reversed and passed on at once, at most.
 const PIECE_LEN: usize = 65_536;
 
 fn blank_piece() -> [u8; PIECE_LEN]
@@ -19,7 +19,7 @@ fn blank_piece() -> [u8; PIECE_LEN]
     [0; PIECE_LEN]
 }
 
-/// Puts the first octets into the front of a piece, turned, and says how many these are.
+/// Puts the first octets, reversed, into the front of a piece, and returns how many.
 fn fill_turned(octets: &[u8], piece: &mut [u8]) -> usize
     ensures len { length piece.new ≡ length piece.old }
     ensures count { result ≡ min (length octets.now) (length piece.new) }
@@ -31,24 +31,24 @@ fn fill_turned(octets: &[u8], piece: &mut [u8]) -> usize
     n
 }
 
-/// Hands octets to the sink behind it, with the bits of each turned.
+/// Passes octets on to an inner sink, with the bits of each reversed.
 ///
-/// Whole octets of cells are packed with the first cell of each octet in the lowest bit then: the
-/// octet that counts is turned too, but it is 0.
+/// So whole octets of cells are packed with the first cell of each octet in the lowest bit. The
+/// last octet is reversed too, but it is 0.
 #[derive(Drop)]
 pub struct TurnedSink<T: Drop> {
     sink: T,
 }
 
 impl<T: Sink + Drop> TurnedSink<T> {
-    /// Hands octets to this sink, turned.
+    /// A sink that passes octets on to this sink, reversed.
     pub fn new(sink: T) -> Self
         ensures { result.sink ≡ sink }
     {
         TurnedSink { sink }
     }
 
-    /// The sink behind it, which has all that this one took.
+    /// The inner sink, which has all that this one took.
     pub fn into_sink(self) -> T
         ensures { result ≡ self.sink }
     {
@@ -63,7 +63,7 @@ impl<T: Sink + Drop> Sink for TurnedSink<T> {
 
     ghost failed = { λ s. T.failed s.sink };
 
-    /// Hands the first octets on, turned, and says how many the sink took.
+    /// Passes the first octets on, reversed, and returns how many the inner sink took.
     fn write(&mut self, buf: &[u8]) -> Result<usize, Fault>
         requires room { T.failed self.old.sink + 1 < 2 ^ 64 }
         ensures bound { IfOk result (λ n. n ≤ length buf.now) }

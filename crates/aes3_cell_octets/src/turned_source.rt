@@ -1,4 +1,4 @@
-//! Packed cells whose first cell of each octet stands in the lowest bit, as they are read.
+//! Packed cells with the first cell of each octet in the lowest bit, as they are read.
 
 ghost use Rattle.std.specs.Prelude.{◌≡◌, ◌∷◌, ◌+◌, ◌-◌, ◌<◌, ◌≤◌, ◌^◌, length, map, take, None, Some};
 ghost use Rattle.std.specs.Prelude.{IfOk, IsTrue, OnErr};
@@ -9,7 +9,7 @@ ghost use Rattle.aes3_cell_octets.specs.Told.{only, turned_told};
 use crate::turning::turn;
 use aes3_cell::{Fault, Source};
 
-/// Reads one octet; none, where the source has ended.
+/// Reads one octet; `None` if the source has ended.
 ///
 /// # Errors
 /// The source's fault.
@@ -28,7 +28,7 @@ pub fn first_octet<S: Source>(source: &mut S) -> Result<Option<u8>, Fault>
     }
 }
 
-/// Puts an octet before the others, of which the last is left out, and turns all.
+/// Puts an octet before the others, drops the last of them, and reverses all.
 fn turn_behind(octet: u8, octets: &mut [u8])
     requires some { 0 < length octets.old }
     ensures { octets.new ≡ map turned (octet ∷ take (length octets.old - 1) octets.old) }
@@ -38,24 +38,24 @@ fn turn_behind(octet: u8, octets: &mut [u8])
     turn(octets);
 }
 
-/// Gives the packed cells of the source behind it, whose octets have their first cell in the lowest
-/// bit: each octet is turned, but the last, which counts, is a number and is given as it is.
+/// Gives the packed cells of an inner source, whose octets have their first cell in the lowest bit.
+/// Each octet is reversed but the last, which is a number and is given unchanged.
 ///
-/// An octet is held back until it is known whether another follows, so what is given is late by one
+/// An octet is held back until it is known whether another follows. So reading is late by one
 /// octet, and never by more.
 #[derive(Drop)]
 pub struct TurnedSource<S: Source + Drop> {
     source: S,
-    /// The octet that is held back: the last, unless another follows.
+    /// The octet that is held back: the last one, unless another follows.
     held: Option<u8>,
-    /// Whether the end was told.
+    /// Whether the end was reported.
     is_ended: bool,
     ghost source_ended: { held ≡ None → IsTrue (S.has_ended source) },
     ghost none_held: { IsTrue is_ended → held ≡ None },
 }
 
 impl<S: Source + Drop> TurnedSource<S> {
-    /// The packed cells of a source of which `first` was read by [`first_octet`].
+    /// The packed cells of a source whose octet `first` was read by [`first_octet`].
     pub fn new(source: S, first: Option<u8>) -> Self
         requires end { first ≡ None → IsTrue (S.has_ended source) }
         ensures source { result.source ≡ source }
@@ -68,8 +68,8 @@ impl<S: Source + Drop> TurnedSource<S> {
         }
     }
 
-    /// The source behind it. It has ended where no octet is held back, and none is where the end was
-    /// told.
+    /// The inner source. If no octet is held back, it has ended; if the end was reported, no octet
+    /// is held back.
     pub fn into_source(self) -> S
         ensures source { result ≡ self.source }
         ensures behind_all { self.held ≡ None → IsTrue (S.has_ended result) }
@@ -78,8 +78,8 @@ impl<S: Source + Drop> TurnedSource<S> {
         self.source
     }
 
-    /// Gives the octet that is held back and those that follow, turned, but for the last of these,
-    /// which is held back then; or that octet as it is, where none follows.
+    /// Gives the octet that is held back and those that follow, reversed, but holds back the last
+    /// of these. If none follows, it gives the held octet unchanged.
     fn read_behind(&mut self, octet: u8, buf: &mut [u8]) -> Result<usize, Fault>
         requires room { S.failed self.old.source + 1 < 2 ^ 64 }
         requires held { self.old.held ≡ Some octet }

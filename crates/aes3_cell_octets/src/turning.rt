@@ -1,14 +1,14 @@
-//! The bits of octets in the opposite order, eight octets at once.
+//! The bits of octets in reversed order, eight octets at once.
 
 ghost use Rattle.std.specs.Prelude.{◌≡◌, ◌≤◌, length, map};
 ghost use Rattle.aes3_cell_octets.specs.Octets.{turned};
 
 use aes3_cell::octets_of_word;
 
-/// How many octets are turned at once.
+/// How many octets are reversed at once.
 const EIGHT: usize = 8;
 
-/// Turns the bits of each octet: the lowest becomes the highest.
+/// Reverses the bits of each octet: the lowest becomes the highest.
 pub(crate) fn turn(octets: &mut [u8])
     ensures { octets.new ≡ map turned octets.old }
 {
@@ -19,7 +19,7 @@ pub(crate) fn turn(octets: &mut [u8])
     turn_few(&mut octets[EIGHT * eights..]);
 }
 
-/// Turns the bits of at most eight octets.
+/// Reverses the bits of at most eight octets.
 #[inline(always)]
 fn turn_few(octets: &mut [u8])
     requires { length octets.old ≤ EIGHT }
@@ -31,8 +31,8 @@ fn turn_few(octets: &mut [u8])
     octets.copy_from_slice(&turned_eight(&eight)[..n]);
 }
 
-/// The octets with the bits of each turned: in a word cells stand with the earliest in the lowest
-/// bit, and in the octets of that word with the earliest in the highest.
+/// The octets with the bits of each reversed. A word has its earliest cell in the lowest bit, and
+/// the octets of that word have theirs in the highest.
 #[inline(always)]
 fn turned_eight(octets: &[u8; EIGHT]) -> [u8; EIGHT]
     ensures { result ≡ map turned octets.now }

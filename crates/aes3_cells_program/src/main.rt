@@ -24,8 +24,8 @@ fn main(rt: HostRuntime) -> ExitCode {
     ExitCode::from(status)
 }
 
-/// Runs the command line between the standard streams, and answers the exit status. Whether a line of
-/// progress stands on standard error is in `shown`.
+/// Runs the command line between the standard streams, and returns the exit status. `shown` says
+/// whether a line of progress is on standard error.
 fn run_program<E: Sink>(
     rt: &HostRuntime,
     shown: &Cell<bool>,

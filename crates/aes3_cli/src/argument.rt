@@ -1,4 +1,4 @@
-//! The options and values that commands take, each with the line that help tells of it.
+//! The options and values that commands take, each with its line of help.
 
 ghost use Rattle.aes3_cli.specs.CommandLine.{IsOption, flag, number, rule, settings_option};
 ghost use Rattle.aes3_cli.specs.CommandLine.{file_name, file_option, named_option, number_option};
@@ -8,13 +8,13 @@ use clap::builder::ValueParser;
 use clap::{Arg, ArgAction};
 use std::alloc::Global;
 
-/// How many frames a second a line has at most, by `--rate`.
+/// How many frames a second a line has at most, for `--rate`.
 const MOST_FRAMES: u64 = 1_000_000;
 
-/// After how many cells sums are told at most, by `--every`: so many bytes an input has at most.
+/// The greatest number of cells for `--every`. An input has at most this number of bytes.
 const MOST_CELLS: u64 = 1 << 40;
 
-/// After how many seconds they are told at most, by `--every-seconds`: an hour.
+/// The greatest number of seconds for `--every-seconds`: an hour.
 const MOST_SECONDS: u64 = 3_600;
 
 /// An option or a value that a command takes.
@@ -22,11 +22,11 @@ const MOST_SECONDS: u64 = 3_600;
 pub(crate) enum Argument {
     /// `--packed-in`: the cells that are read are packed.
     PackedIn,
-    /// `--raw-in`: they are raw octets.
+    /// `--raw-in`: the cells that are read are raw octets.
     RawIn,
     /// `--packed-out`: the cells that are written are packed.
     PackedOut,
-    /// `--lsb-first`: the first of eight packed cells stands in the lowest bit.
+    /// `--lsb-first`: the first of eight packed cells is in the lowest bit.
     LsbFirst,
     /// `--faults` of `check`.
     Faults,
@@ -56,9 +56,9 @@ pub(crate) enum Argument {
     Status1,
     /// `--status2 HEX48`: the status of channel 2.
     Status2,
-    /// `--preset consumer|professional`: the usual status of a use.
+    /// `--preset consumer|professional`: the default status of a use.
     Preset,
-    /// `--rate HZ` of `from-pcm`: the sampling frequency that the status tells.
+    /// `--rate HZ` of `from-pcm`: the sampling frequency in the status.
     SampleRate,
     /// `--set NAME=WORD`: a field of both channels.
     Set,
@@ -66,7 +66,7 @@ pub(crate) enum Argument {
     Set1,
     /// `--set2 NAME=WORD`: a field of channel 2.
     Set2,
-    /// `--mend-check`: check bytes are made anew.
+    /// `--mend-check`: check bytes are recalculated.
     MendCheck,
     /// `--valid1 0|1`: the validity bit of channel 1.
     Valid1,
@@ -92,13 +92,14 @@ pub(crate) enum Argument {
     ExactWave,
     /// `--channels A,B` of `from-wav`: the two channels that are taken.
     Channels,
-    /// `--mono both|first` of `from-wav`: which channels the only one of a file is for.
+    /// `--mono both|first` of `from-wav`: which channels a single channel of a file is for.
     Mono,
-    /// `--use consumer|professional` of `from-wav`: what the status is for that the header asks for.
+    /// `--use consumer|professional` of `from-wav`: the use of the status that is made for the
+    /// header.
     Use,
     /// `--bits 16|24|32` of `to-wav`: how many bits a sample has.
     SampleBits,
-    /// `--rate HZ` of `to-wav`: the sampling frequency that the header says.
+    /// `--rate HZ` of `to-wav`: the sampling frequency in the header.
     WaveRate,
     /// `--pcm s32|s24|s24in32|s16`: the form of samples.
     Pcm,
@@ -106,18 +107,18 @@ pub(crate) enum Argument {
     Words,
     /// Which bits `to-bits` writes.
     Bits,
-    /// Of which channel it writes them.
+    /// The channel whose bits `to-bits` writes.
     Channel,
-    /// `-i FILE`: the file that is read in place of standard input.
+    /// `-i FILE`: the file that is read instead of standard input.
     Input,
-    /// The name of that file at its place among the words.
+    /// The name of that file, as a positional argument.
     File,
-    /// `-o FILE`: the file that is written in place of standard output.
+    /// `-o FILE`: the file that is written instead of standard output.
     Output,
 }
 
 impl Argument {
-    /// Its definition, with its line of help.
+    /// The argument's definition, with its line of help.
     pub(crate) fn define<'a>(self, alloc: Global) -> Arg<'a>
         ensures { IsOption (rule self) result }
     {
@@ -358,14 +359,14 @@ pub fn flag<'a>(alloc: Global, name: &'a str, help: &'a str) -> Arg<'a>
         .help(help)
 }
 
-/// The option `--name` with a text, as help calls it.
+/// The option `--name` with a text; `value` is its name in the help.
 pub fn text_option<'a>(alloc: Global, name: &'a str, value: &'a str, help: &'a str) -> Arg<'a>
     ensures { IsOption (text_option name.now) result }
 {
     named_text(alloc, name, name, value, help)
 }
 
-/// The option `--name` with a text, as help calls it, whose values are found by `id`.
+/// The option `--name` with a text; `value` is its name in the help. Its values are found by `id`.
 fn named_text<'a>(
     alloc: Global,
     id: &'a str,
@@ -378,14 +379,14 @@ fn named_text<'a>(
     Arg::new(alloc, id).long(name).value_name(value).help(help)
 }
 
-/// The option `--name` with a text, as help calls it, which may stand more than once.
+/// The option `--name` with a text, which may be repeated; `value` is its name in the help.
 pub fn repeated_option<'a>(alloc: Global, name: &'a str, value: &'a str, help: &'a str) -> Arg<'a>
     ensures { IsOption (settings_option name.now) result }
 {
     text_option(alloc, name, value, help).action(ArgAction::Append)
 }
 
-/// A number from `least` to `most` that has to stand at its place among the words.
+/// A required positional argument that is a number from `least` to `most`.
 fn number<'a>(alloc: Global, name: &'a str, least: u64, most: u64, help: &'a str) -> Arg<'a>
     ensures { IsOption (number name.now least most) result }
 {
@@ -395,14 +396,14 @@ fn number<'a>(alloc: Global, name: &'a str, least: u64, most: u64, help: &'a str
         .help(help)
 }
 
-/// A word that has to stand at its place among the words.
+/// A required positional argument that is a word.
 fn word<'a>(alloc: Global, name: &'a str, help: &'a str) -> Arg<'a>
     ensures { IsOption (word name.now) result }
 {
     Arg::new(alloc, name).required(true).help(help)
 }
 
-/// The option `--name` with a number from 1 to `most`, which help calls `value`.
+/// The option `--name` with a number from 1 to `most`; `value` is its name in the help.
 fn number_option<'a>(
     alloc: Global,
     name: &'a str,
@@ -441,7 +442,7 @@ fn file_option<'a>(alloc: Global, name: &'a str, short: char, help: &'a str) -> 
         .help(help)
 }
 
-/// A file name that may stand at its place among the words.
+/// An optional positional argument that is a file name.
 fn file_name<'a>(alloc: Global, name: &'a str, help: &'a str) -> Arg<'a>
     ensures { IsOption (file_name name.now) result }
 {

@@ -66,7 +66,7 @@ const NAMES: [Name; 15] = [
 /// The program's command line.
 ///
 /// # Errors
-/// Memory was refused.
+/// `AllocError` if there is no memory.
 pub fn command_line<'a>(alloc: Global) -> Result<Command<'a>, AllocError>
     ensures { IfOk result (IsDefinedAs command_line) }
 {
@@ -77,7 +77,7 @@ pub fn command_line<'a>(alloc: Global) -> Result<Command<'a>, AllocError>
     Ok(line)
 }
 
-/// The command line of a program that has no commands, and takes no word yet.
+/// The command line of a program without commands, before any arguments are added.
 pub fn program_line<'a>(alloc: Global, name: &'a str, texts: Texts<'a>) -> Command<'a>
     ensures { IsDefinedAs (program_with name.now []) result }
 {
@@ -89,7 +89,7 @@ pub fn program_line<'a>(alloc: Global, name: &'a str, texts: Texts<'a>) -> Comma
         .version(help::VERSION)
 }
 
-/// The program with no command yet.
+/// The program before any command is added.
 fn program<'a>(alloc: Global) -> Result<Command<'a>, AllocError>
     ensures { IfOk result (IsDefinedAs program) }
 {
@@ -107,7 +107,7 @@ impl Name {
         command(alloc, self.word(), self.texts(), self.arguments())
     }
 
-    /// The word that it is.
+    /// The name of the command.
     fn word<'a>(self) -> &'a str
         ensures { result.now ≡ (shape self).name }
     {
@@ -130,7 +130,7 @@ impl Name {
         }
     }
 
-    /// Its texts.
+    /// The texts of the command.
     fn texts<'a>(self) -> &'a Texts<'a> {
         match self {
             Name::Encode => &help::ENCODE,
@@ -151,7 +151,7 @@ impl Name {
         }
     }
 
-    /// The options and values that it takes, in the order in which help lists them.
+    /// The options and values that the command takes, in the order in which help lists them.
     fn arguments(self) -> &'static [Argument]
         ensures { map rule result.now ≡ (shape self).rules }
     {

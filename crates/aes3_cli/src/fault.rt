@@ -1,4 +1,4 @@
-//! Why words ask for no job.
+//! Why words are no job.
 
 ghost use Rattle.std.specs.Prelude.{◌≡◌};
 ghost use Rattle.clap.specs.Values.{kind_of};
@@ -10,15 +10,15 @@ use clap::Error;
 use clap::error::ErrorKind;
 use std::alloc::{AllocError, Global};
 
-/// Why words ask for no job.
+/// Why words are no job.
 #[derive(Drop)]
 pub enum LineFault {
-    /// The definitions of the command line don't take the words, or a value among them is wrong; the
+    /// The words don't fit the definitions of the command line, or a value among them is wrong; the
     /// text says why.
     Usage { text: String },
-    /// The words ask for help or for the version, which the text is.
+    /// The words ask for help or for the version; the text is the answer.
     Help { text: String },
-    /// Memory was refused.
+    /// There was no memory.
     Memory,
 }
 
@@ -31,8 +31,8 @@ impl From<AllocError> for LineFault {
 }
 
 impl LineFault {
-    /// Why words ask for no job of a program that is called so, where `clap` doesn't take them, or they
-    /// ask it for help.
+    /// Why words are no job of the program with this usage, if `clap` rejects them or they ask for
+    /// help.
     pub fn of_error(alloc: Global, error: &Error, usage: &str) -> LineFault
         ensures { IsFaultBy usage.now (kind_of error.now) result }
     {
@@ -47,7 +47,7 @@ impl LineFault {
     }
 }
 
-/// The usage error for words of which `clap` says this.
+/// The usage error for words that `clap` rejects with this text.
 fn usage_fault(alloc: Global, text: &str, usage: &str) -> LineFault
     ensures { IsUsage usage.now result }
 {

@@ -1,4 +1,4 @@
-//! What the program says of itself: the texts of `--help` and `--version`.
+//! The texts of `--help` and `--version`.
 
 /// What `--version` prints after the program's name.
 pub const VERSION: &str = "0.1.0";
@@ -8,7 +8,7 @@ pub const VERSION: &str = "0.1.0";
 pub struct Texts<'a> {
     /// One line, which is also in the list of commands.
     pub about: &'a str,
-    /// How the command is called, for its help and for usage errors.
+    /// The usage of the command, for its help and for usage errors.
     pub usage: &'a str,
     /// What it reads and writes, its exit statuses and examples.
     pub more: &'a str,

@@ -1,24 +1,24 @@
-//! The command line of the program `aes3`: its commands and what each takes, as definitions for
+//! The command line of the program `aes3`: its commands and their arguments, as definitions for
 //! `clap`, with the texts of its help and of its errors.
 #![tactic(auto)]
 
-/// What a command takes behind its name.
+/// The arguments of a command.
 mod argument;
 /// The commands, and the program with all of them.
 mod definitions;
-/// Why words ask for no job.
+/// Why words are no job.
 mod fault;
 /// The texts of `--help` and `--version`.
 pub mod help;
 /// Texts for people, and the exit statuses of programs.
 mod message;
-/// Numbers that values of options write.
+/// Numbers in values of options.
 mod number;
-/// What options say that `clap` found.
+/// The options that `clap` found.
 mod options;
 /// The words of a command line as the system gives them.
 mod unread;
-/// What is told of words that are no command line.
+/// The texts of usage errors.
 pub mod wording;
 
 pub use argument::{flag, repeated_option, text_option};

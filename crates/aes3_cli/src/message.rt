@@ -5,16 +5,16 @@ ghost use Rattle.aes3_cell.specs.Ends.{Grew};
 
 use aes3_cell::{Fault, Sink, write_all};
 
-/// The exit status of a run that did what it was asked for.
+/// The exit status of a run that succeeded.
 pub const DONE: u8 = 0;
 
-/// The exit status of words that ask for no job.
+/// The exit status of a usage error.
 pub const USAGE: u8 = 2;
 
-/// The exit status of a refused run.
+/// The exit status of a run that ended with an error.
 pub const REFUSED: u8 = 3;
 
-/// Writes all of a text and flushes it.
+/// Writes all of a text, and flushes the sink.
 ///
 /// # Errors
 /// The sink's fault; then it may have taken a front of the text.

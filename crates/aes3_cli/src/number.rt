@@ -1,9 +1,9 @@
-//! Numbers that values of options write.
+//! Numbers in values of options.
 
 ghost use Rattle.std.specs.Prelude.{◌≡◌};
 ghost use Rattle.aes3_cli.specs.Numbers.{number_in};
 
-/// The number within these bounds that the text writes, a plus before it or none.
+/// The number in the text, if it is within these bounds. A plus sign may be before it.
 pub fn number_of_text(text: &str, least: u64, most: u64) -> Option<u64>
     ensures { result ≡ number_in least most text.now }
 {

@@ -1,4 +1,4 @@
-//! What options say that `clap` found among words.
+//! The options that `clap` found among the words.
 
 ghost use Rattle.std.specs.Prelude.{◌≡◌, option_and_then};
 ghost use Rattle.std.specs.Option.{option_map};
@@ -6,10 +6,10 @@ ghost use Rattle.aes3_cli.specs.Options.{file_by, name_by, named_file, options_o
 
 use clap::ArgMatches;
 
-/// The word that stands for a standard stream where a file name may.
+/// The word for a standard stream in place of a file name.
 const STANDARD: &str = "-";
 
-/// The name of a file; none of a standard stream.
+/// The name of a file; `None` for a standard stream.
 fn named_file<'a>(name: Option<&'a str>) -> Option<&'a str>
     ensures { option_map (λ name. name.now) result
         ≡ option_and_then named_file (option_map (λ name. name.now) name.entry) }
@@ -20,7 +20,7 @@ fn named_file<'a>(name: Option<&'a str>) -> Option<&'a str>
     if name == STANDARD { None } else { Some(name) }
 }
 
-/// The name that the options have for the file to read: at its place among the words, or after `-i`.
+/// The name of the file to read: the positional argument, or the value of `-i`.
 fn name_of_options<'a>(options: &ArgMatches<'a>) -> Option<&'a str>
     ensures { option_map (λ name. name.now) result ≡ name_by (options_of options.now) }
 {
@@ -30,14 +30,16 @@ fn name_of_options<'a>(options: &ArgMatches<'a>) -> Option<&'a str>
     }
 }
 
-/// The file that the options name in place of standard input; none if they name none, or name it `-`.
+/// The file that the options name instead of standard input; `None` if they name no file, or name
+/// it `-`.
 pub fn file_of_options<'a>(options: &ArgMatches<'a>) -> Option<&'a str>
     ensures { option_map (λ name. name.now) result ≡ file_by (options_of options.now) }
 {
     named_file(name_of_options(options))
 }
 
-/// The file that the options name in place of standard output; none if they name none, or name it `-`.
+/// The file that the options name instead of standard output; `None` if they name no file, or name
+/// it `-`.
 pub fn output_of_options<'a>(options: &ArgMatches<'a>) -> Option<&'a str>
     ensures { option_map (λ name. name.now) result ≡ output_by (options_of options.now) }
 {

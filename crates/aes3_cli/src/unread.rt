@@ -11,7 +11,7 @@ use std::io::ErrorKind;
 pub enum Unread {
     /// They are not UTF-8.
     NotUtf8,
-    /// Memory was refused.
+    /// There was no memory.
     Memory,
 }
 

@@ -1,4 +1,4 @@
-//! What is told of words that are no command line.
+//! The texts of usage errors.
 
 ghost use Rattle.std.specs.Prelude.{◌≡◌, ◌++◌, IfOk};
 ghost use Rattle.aes3_cli.specs.Wording.{EndsWithUsage, usage_end, usage_of};
@@ -6,20 +6,20 @@ ghost use Rattle.aes3_cli.specs.Wording.{EndsWithUsage, usage_end, usage_of};
 use crate::help;
 use std::alloc::{AllocError, Global};
 
-/// What stands in a text of `clap` before the usage, before where to find help, and before the tip
-/// that a word can be passed as a value, which it is for no command here.
+/// The texts of `clap` before the usage, before the pointer to help, and before the tip that a word
+/// can be passed as a value, which no command here takes.
 const ENDS: [&str; 3] = [
     "\n\nUsage: ",
     "\n\nFor more information, try",
     "\n  tip: to pass '",
 ];
 
-/// How a text of `clap` begins that says why a value is not taken, and what stands before the reason.
+/// The beginning of `clap`'s text for an invalid value, and the text before the reason.
 const INVALID: &str = "error: invalid value '";
 
 const REASON: &str = "': ";
 
-/// What each value is that `clap` reads as a number, by how it calls that.
+/// What each value is that `clap` reads as a number, by the name that `clap` has for it.
 const NUMBERS: [(&str, &str); 7] = [
     ("<FROM>", "it is the number of a block, from 0 on"),
     ("<COUNT>", "it is a number of blocks, from 0 on"),
@@ -33,7 +33,7 @@ const NUMBERS: [(&str, &str); 7] = [
     ("<0|1>", "it is 0 or 1"),
 ];
 
-/// How the command of this name is called; where there is none, how the program is.
+/// The usage of the command of this name; if there is no such command, the usage of the program.
 pub fn usage_of(name: &str) -> &'static str
     ensures { result.now ≡ usage_of name.now }
 {
@@ -57,10 +57,10 @@ pub fn usage_of(name: &str) -> &'static str
     }
 }
 
-/// Appends how a command is called, and where to find more.
+/// Appends the usage of a command, and a pointer to the help.
 ///
 /// # Errors
-/// Memory was refused.
+/// `AllocError` if there is no memory.
 #[tactic(auto, unfolding(crate::specs::Wording::usage_end))]
 pub fn add_usage(text: &mut String, usage: &str) -> Result<(), AllocError>
     ensures { IfOk result (λ _. text.new.bytes.items
@@ -71,12 +71,12 @@ pub fn add_usage(text: &mut String, usage: &str) -> Result<(), AllocError>
     text.push_str("\n\nFor more information, try '--help'.\n")
 }
 
-/// What is told where `clap` tells this of words that it doesn't take: the same with what a number
-/// has to be in place of why it could not be read, without a tip how to pass a word as a value, and
-/// with the usage of the command, which `clap` leaves out of some texts.
+/// The text for words that `clap` rejects with this text. It says what a number has to be instead
+/// of why it could not be read. It has no tip how to pass a word as a value. It has the usage of
+/// the command, which `clap` leaves out of some texts.
 ///
 /// # Errors
-/// Memory was refused.
+/// `AllocError` if there is no memory.
 pub fn own_text(alloc: Global, text: &str, usage: &str) -> Result<String, AllocError>
     ensures { IfOk result (λ own. EndsWithUsage usage.now own.bytes.items) }
 {
@@ -86,7 +86,7 @@ pub fn own_text(alloc: Global, text: &str, usage: &str) -> Result<String, AllocE
     Ok(own)
 }
 
-/// What a text of `clap` says is wrong, without what stands behind that.
+/// What a text of `clap` says is wrong, without what follows.
 fn wrong_of(text: &str) -> &str {
     let mut wrong = text;
     for end in ENDS {
@@ -97,7 +97,7 @@ fn wrong_of(text: &str) -> &str {
     wrong.trim_end()
 }
 
-/// Appends what is wrong, with what a number has to be in place of why it could not be read.
+/// Appends what is wrong; for a number, what it has to be instead of why it could not be read.
 fn add_wrong(own: &mut String, wrong: &str) -> Result<(), AllocError> {
     match wrong.rsplit_once(REASON) {
         Some((front, reason)) if wrong.starts_with(INVALID) => {
@@ -109,7 +109,7 @@ fn add_wrong(own: &mut String, wrong: &str) -> Result<(), AllocError> {
     }
 }
 
-/// What the number has to be that a text calls so at its end.
+/// What the number has to be whose name is at the end of the text.
 fn number_of(text: &str) -> Option<&'static str> {
     for (name, is) in NUMBERS {
         if text.ends_with(name) {

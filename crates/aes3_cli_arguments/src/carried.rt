@@ -25,7 +25,7 @@ pub(crate) fn to_bits(options: &ArgMatches<'_>) -> ReadWork
     }
 }
 
-/// The bits that the options name, where these are some.
+/// The bits that the options name, if they name any.
 fn bits(options: &ArgMatches<'_>) -> Option<CarriedBits>
     ensures { result ≡ bits_by (options_of options.now) }
 {

@@ -1,4 +1,4 @@
-//! What the refusals mean, and what to do: the texts of `--explain`.
+//! What the errors mean, and what to do: the texts of `--explain`.
 
 ghost use Rattle.std.specs.Prelude.{◌≡◌, ◌++◌, [], ◌∷◌, List, ℕ, None, IfOk, IfSome, codes, map, ◌<◌};
 ghost use Rattle.aes3_cli_arguments.specs.Explained.{CanBeExplained, IsExplanation, IsRefusalNumber, advice_of};
@@ -8,16 +8,16 @@ use crate::job::LineFault;
 use itoa::Buffer;
 use std::alloc::{AllocError, Global};
 
-/// How many refusals there are.
+/// How many errors there are.
 const REFUSALS: u8 = 15;
 
-/// The word that asks for them.
+/// The word that asks for these texts.
 const EXPLAIN: &str = "--explain";
 
-/// What stands before a number in the same word.
+/// The beginning of the same word with a number.
 const EXPLAIN_NUMBER: &str = "--explain=";
 
-/// What is told of words behind it that are no number of a refusal.
+/// The text if the words after it are not the number of an error.
 const UNKNOWN: &str = "error: the refusals have the numbers 1 to 15
 
 Usage: aes3 --explain [NUMBER]
@@ -25,7 +25,7 @@ Usage: aes3 --explain [NUMBER]
 For more information, try '--help'.
 ";
 
-/// What to do about the refusal of this number.
+/// What to do about the error of this number.
 pub fn advice(number: u8) -> &'static str
     ensures { result.now ≡ advice_of number }
 {
@@ -55,7 +55,7 @@ pub fn advice(number: u8) -> &'static str
     }
 }
 
-/// What was wrong where the refusal of this number is told; PLACE is that of its line.
+/// What was wrong if the error of this number was reported; PLACE is the place in its line.
 fn wrong(number: u8) -> &'static str {
     match number {
         1 => "a byte of cell text is neither `0`, `1` nor a separator; PLACE is its number",
@@ -81,7 +81,7 @@ fn wrong(number: u8) -> &'static str {
     }
 }
 
-/// Whether the words ask what refusals mean.
+/// Whether the words ask what errors mean.
 pub fn asks_to_explain(words: &[&str]) -> bool
     ensures { result ≡ asks_to_explain (map (λ word. word.now) words.now) }
 {
@@ -91,7 +91,7 @@ pub fn asks_to_explain(words: &[&str]) -> bool
     }
 }
 
-/// The number in the word `--explain=NUMBER`, where it stands alone.
+/// The number in the word `--explain=NUMBER`, if it is the only word.
 pub(crate) fn explained_number<'a>(words: &[&'a str]) -> Option<&'a str>
     ensures some { IfSome result (λ number. map (λ word. word.now) words.now
         ≡ (codes "--explain=" ++ number.now) ∷ []) }
@@ -105,7 +105,7 @@ pub(crate) fn explained_number<'a>(words: &[&'a str]) -> Option<&'a str>
     }
 }
 
-/// The number of a refusal that the text writes.
+/// The number of an error in the text.
 fn refusal_number(text: &str) -> Option<u8>
     ensures some { IfSome result (IsRefusalNumber text.now) }
     ensures none { result ≡ None → (n : ℕ) → ¬ IsRefusalNumber text.now n }
@@ -118,7 +118,7 @@ fn refusal_number(text: &str) -> Option<u8>
     None
 }
 
-/// Appends what the refusal of this number means.
+/// Appends what the error of this number means.
 fn add(text: &mut String, number: u8) -> Result<(), AllocError> {
     text.push_str(Buffer::new().format(number))?;
     text.push_str(": ")?;
@@ -128,7 +128,7 @@ fn add(text: &mut String, number: u8) -> Result<(), AllocError> {
     text.push_str("\n")
 }
 
-/// What the refusals of these numbers mean.
+/// What the errors of these numbers mean.
 fn meanings(alloc: Global, first: u8, last: u8) -> Result<String, AllocError>
     requires { last < 255 }
 {
@@ -139,7 +139,7 @@ fn meanings(alloc: Global, first: u8, last: u8) -> Result<String, AllocError>
     Ok(text)
 }
 
-/// The first and the last of the refusals that these words ask to explain.
+/// The first and the last number of the errors that these words ask to explain.
 fn asked_numbers(words: &[&str]) -> Option<(u8, u8)>
     ensures some { IfSome result (λ _. CanBeExplained (map (λ word. word.now) words.now)) }
     ensures few { IfSome result (λ numbers. numbers.1 < 255) }
@@ -155,11 +155,11 @@ fn asked_numbers(words: &[&str]) -> Option<(u8, u8)>
     Some((number, number))
 }
 
-/// What words behind `--explain` are told: what the refusal of this number means, or with no word
-/// what each does; of other words how it is called.
+/// The answer to the words after `--explain`: what the error of this number means, or without a
+/// number what each error means. For other words it is the usage.
 ///
 /// # Errors
-/// Memory was refused.
+/// `AllocError` if there is no memory.
 pub fn explanation(alloc: Global, words: &[&str]) -> Result<LineFault, AllocError>
     ensures { IfOk result (IsExplanation (map (λ word. word.now) words.now)) }
 {

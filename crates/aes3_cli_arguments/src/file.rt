@@ -5,7 +5,7 @@ ghost use Rattle.std.specs.Prelude.{◌≡◌, IfErr, IfOk, None};
 use crate::job::LineFault;
 use crate::line::CommandLine;
 
-/// The file that a line reads in place of standard input; none where it is refused.
+/// The file that a line reads instead of standard input; `None` if the line is rejected.
 pub fn file_of_line<'a>(line: &Result<CommandLine<'a>, LineFault>) -> Option<&'a str>
     ensures line { IfOk line.now (λ line. result ≡ line.file) }
     ensures refused { IfErr line.now (λ _. result ≡ None) }
@@ -16,7 +16,7 @@ pub fn file_of_line<'a>(line: &Result<CommandLine<'a>, LineFault>) -> Option<&'a
     }
 }
 
-/// The file that a line writes in place of standard output; none where it is refused.
+/// The file that a line writes instead of standard output; `None` if the line is rejected.
 pub fn output_of_line<'a>(line: &Result<CommandLine<'a>, LineFault>) -> Option<&'a str>
     ensures line { IfOk line.now (λ line. result ≡ line.output) }
     ensures refused { IfErr line.now (λ _. result ≡ None) }

@@ -6,7 +6,7 @@ ghost use Rattle.aes3_cli_arguments.specs.Jobs.{format_by, format_in, format_nam
 use aes3_forms_samples::SampleFormat;
 use clap::ArgMatches;
 
-/// The form that the options give samples: 32 bits where none is named.
+/// The form of samples by the options: 32 bits if they name none.
 pub(crate) fn format(options: &ArgMatches<'_>) -> SampleFormat
     ensures { result ≡ format_by (options_of options.now) }
 {
@@ -16,7 +16,7 @@ pub(crate) fn format(options: &ArgMatches<'_>) -> SampleFormat
     }
 }
 
-/// The form that they name.
+/// The form that the options name.
 fn format_if_named(options: &ArgMatches<'_>) -> Option<SampleFormat>
     ensures { result ≡ format_named (options_of options.now) }
 {
@@ -26,7 +26,7 @@ fn format_if_named(options: &ArgMatches<'_>) -> Option<SampleFormat>
     format_of_text(text)
 }
 
-/// Whether a form is named that there is none of.
+/// Whether an unknown form is named.
 pub(crate) fn has_unknown_format(options: &ArgMatches<'_>) -> bool
     ensures { result ≡ has_unknown_format (options_of options.now) }
 {

@@ -1,4 +1,4 @@
-//! The sampling frequency that a status is to tell.
+//! The sampling frequency for a status.
 
 ghost use Rattle.std.specs.Prelude.{◌≡◌};
 ghost use Rattle.std.specs.Option.{option_map};
@@ -6,7 +6,7 @@ ghost use Rattle.aes3_cli_arguments.specs.Jobs.{has_unknown_rate, options_of, ra
 
 use clap::ArgMatches;
 
-/// The setting that the sampling frequency of `from-pcm` stands for, where one is named.
+/// The setting for the sampling frequency of `from-pcm`, if one is named.
 pub(crate) fn rate_setting(options: &ArgMatches<'_>) -> Option<&'static str>
     ensures { option_map (λ text. text.now) result ≡ rate_named (options_of options.now) }
 {
@@ -16,7 +16,7 @@ pub(crate) fn rate_setting(options: &ArgMatches<'_>) -> Option<&'static str>
     rate_of_text(text)
 }
 
-/// Whether a sampling frequency is named that no status tells.
+/// Whether a sampling frequency without a code is named.
 pub(crate) fn has_unknown_rate(options: &ArgMatches<'_>) -> bool
     ensures { result ≡ has_unknown_rate (options_of options.now) }
 {
@@ -26,8 +26,8 @@ pub(crate) fn has_unknown_rate(options: &ArgMatches<'_>) -> bool
     rate_of_text(text).is_none()
 }
 
-/// The setting that a sampling frequency in hertz, or in thousands of them, stands for; `None` where
-/// no status has a code for it (AES3-2, IEC 60958-3).
+/// The setting for a sampling frequency in hertz or kilohertz; `None` if no status has a code for
+/// it (AES3-2, IEC 60958-3).
 fn rate_of_text(text: &str) -> Option<&'static str>
     ensures { option_map (λ text. text.now) result ≡ rate_in text.now }
 {

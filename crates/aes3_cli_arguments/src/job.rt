@@ -1,4 +1,4 @@
-//! The job that a command with its options asks for.
+//! The job of a command with its options.
 
 ghost use Rattle.std.specs.Prelude.{◌≡◌, ℕ, List, None, codes, IfOk, IfErr, map};
 ghost use Rattle.clap.specs.Walk.{first_of};
@@ -33,14 +33,14 @@ use aes3_status_text::{Lines, SettingsFault, settings_of_texts};
 use clap::ArgMatches;
 use std::alloc::{AllocError, Global};
 
-/// Why a command line gives no job.
+/// Why a command line is no job.
 #[derive(Drop)]
 pub enum LineFault {
-    /// The words are no command line of the program; the text says why.
+    /// The words are a usage error; the text says why.
     Usage { text: String },
-    /// The words ask for help, the version or what refusals mean, which the text is.
+    /// The words ask for help, the version or the meaning of errors; the text is the answer.
     Help { text: String },
-    /// A status text that is none, or want of memory.
+    /// A status text is invalid, or there is no memory.
     Refused(RunError),
 }
 
@@ -130,7 +130,7 @@ pub(crate) fn job_of_command(
     }
 }
 
-/// The form of cells that a flag speaks of.
+/// The form of cells by a flag.
 fn form(options: &ArgMatches<'_>, flag: &str) -> Form
     requires { MayBeFlag (options_of options.now) flag.now }
     ensures { result ≡ form_by (options_of options.now) flag.now }
@@ -190,8 +190,8 @@ fn from_pcm(alloc: Global, options: &ArgMatches<'_>) -> Result<Job, LineFault>
     sampling(options, change)
 }
 
-/// The job of `from-pcm` with this change. Where the status has to take all settings and leaves one
-/// out, that of each block does, and the first is refused.
+/// The job of `from-pcm` with this change. If all settings have to be taken and the status does not
+/// take one, no block would; so the first block is an error.
 fn sampling(options: &ArgMatches<'_>, change: Change) -> Result<Job, LineFault>
     requires taken { AreTaken (options_of options.now) }
     requires change { IsSampleChange (options_of options.now) change }
@@ -212,7 +212,7 @@ fn sampling(options: &ArgMatches<'_>, change: Change) -> Result<Job, LineFault>
     })
 }
 
-/// The job of `from-wav` with its options. Where no option gives a status, the header does.
+/// The job of `from-wav` with its options. If no option gives a status, it is made for the header.
 fn from_wav(alloc: Global, options: &ArgMatches<'_>) -> Result<Job, LineFault>
     requires { AreTaken (options_of options.now) }
     ensures job { IfOk result (AsksFor (codes "from-wav") (options_of options.now)) }
@@ -229,7 +229,7 @@ fn from_wav(alloc: Global, options: &ArgMatches<'_>) -> Result<Job, LineFault>
     })
 }
 
-/// Whether the status that a channel is given takes all that is set of it.
+/// Whether the status of a channel takes all its settings.
 fn takes_settings(status: &Option<[u8; 24]>, settings: &Option<Settings>) -> bool
     ensures { result ≡ takes_settings status.now settings.now }
 {
@@ -240,7 +240,7 @@ fn takes_settings(status: &Option<[u8; 24]>, settings: &Option<Settings>) -> boo
     }
 }
 
-/// Whether the statuses of a change take all that is set of them.
+/// Whether the statuses of a change take all its settings.
 fn takes_change(change: &Change) -> bool
     ensures { result ≡ takes_change change.now }
 {
@@ -270,9 +270,9 @@ fn rewrite(
     })
 }
 
-/// The change that the options of `rewrite`, `from-pcm` and `from-wav` ask for, where a channel without another
-/// status begins so; `usage` says how the command is called. A text that is no setting is told before
-/// a status that is none.
+/// The change of the options of `rewrite`, `from-pcm` and `from-wav`. `beginning` is the status of
+/// a channel for which they give none; `usage` is the usage of the command. An invalid setting is
+/// reported before an invalid status.
 fn change(
     alloc: Global,
     options: &ArgMatches<'_>,
@@ -301,7 +301,7 @@ fn change(
     })
 }
 
-/// Whether check bytes are written: where that is asked for, a preset is named, or a field is set.
+/// Whether check bytes are written: if asked, if a preset is named, or if a field is set.
 fn mends(
     options: &ArgMatches<'_>,
     settings1: &Option<Settings>,
@@ -335,8 +335,7 @@ fn status(
     }
 }
 
-/// The settings that the texts for the channel with this option name; `usage` says how the command
-/// is called.
+/// The settings in the texts for the channel with this option; `usage` is the usage of the command.
 fn settings(
     alloc: Global,
     options: &ArgMatches<'_>,
@@ -359,7 +358,7 @@ fn settings(
     }
 }
 
-/// The option that has the text which is no setting: that for both channels, or the channel's own.
+/// The option whose text is an invalid setting: that for both channels, or the channel's own.
 fn option_at<'a>(options: &ArgMatches<'_>, name: &'a str, fault: SettingsFault) -> &'a str
     ensures { result.now ≡ option_at (options_of options.now) name.now fault }
 {
@@ -371,7 +370,7 @@ fn option_at<'a>(options: &ArgMatches<'_>, name: &'a str, fault: SettingsFault) 
     }
 }
 
-/// What is told of texts that have no settings.
+/// The error for texts that have no settings.
 fn settings_fault(
     alloc: Global,
     name: &str,

@@ -1,4 +1,4 @@
-//! How the octets of packed cells are laid out.
+//! The layout of the octets of packed cells.
 
 ghost use Rattle.std.specs.Prelude.{◌≡◌, None};
 ghost use Rattle.aes3_cli_arguments.specs.Jobs.{AreOctets, AreTaken, misuse_by, options_of};
@@ -6,17 +6,17 @@ ghost use Rattle.aes3_cli_arguments.specs.Jobs.{AreOctets, AreTaken, misuse_by, 
 use crate::value::flag;
 use clap::ArgMatches;
 
-/// How the octets of packed cells are laid out.
+/// The layout of the octets of packed cells.
 #[derive(Clone, Copy)]
 pub struct Octets {
-    /// Those that are read have no last octet that counts.
+    /// Whether the octets that are read have no last octet.
     pub raw_in: bool,
-    /// Whether the first cell of each octet stands in its lowest bit, of packed cells that are read
-    /// or written.
+    /// Whether the first cell of each octet is in its lowest bit, in packed cells that are read or
+    /// written.
     pub lsb_first: bool,
 }
 
-/// How the options lay out the octets.
+/// The layout of the octets by the options.
 pub(crate) fn octets_of_options(options: &ArgMatches<'_>) -> Octets
     requires taken { AreTaken (options_of options.now) }
     requires fit { misuse_by (options_of options.now) ≡ None }

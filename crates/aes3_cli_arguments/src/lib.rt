@@ -1,28 +1,28 @@
-//! What the words of a command line ask for: a job and the file that it reads, or why they ask for
-//! none.
+//! What the words of a command line ask for: a job and the file that it reads, or why they are no
+//! job.
 #![tactic(auto)]
 
 /// What `to-bits` does.
 mod carried;
-/// What refusals mean, the texts of `--explain`.
+/// What errors mean: the texts of `--explain`.
 mod explain;
 /// The file that a command's options name.
 mod file;
 /// The form of samples.
 mod format;
-/// The sampling frequency that a status is to tell.
+/// The sampling frequency for a status.
 mod frequency;
-/// The job that a command with its options asks for.
+/// The job of a command with its options.
 mod job;
-/// How the octets of packed cells are laid out.
+/// The layout of the octets of packed cells.
 mod layout;
 /// What the words ask for.
 mod line;
-/// What is wrong with options that the command takes each by itself.
+/// Misuse of options that are valid each by itself.
 mod misuse;
 /// The status that a channel begins with.
 mod preset;
-/// What is told of settings that are none.
+/// The errors for invalid settings.
 mod refusals;
 /// What `to-pcm` does.
 mod samples;
@@ -32,7 +32,7 @@ mod show;
 mod status_text;
 /// How lines of events are written.
 mod style;
-/// Settings as they were typed.
+/// Settings as typed.
 mod typed;
 /// The values that the options of a command have.
 mod value;

@@ -27,28 +27,30 @@ use std::alloc::Global;
 /// What a command line asks for.
 #[derive(Drop)]
 pub struct CommandLine<'a> {
-    /// What is to be done.
+    /// The job.
     pub job: Job,
-    /// The settings of a change as they were typed.
+    /// The settings of a change as typed.
     pub typed: TypedSettings<'a>,
-    /// How the octets are laid out that it reads and writes.
+    /// The layout of the octets that the job reads and writes.
     pub octets: Octets,
-    /// The name of the file that is read in place of standard input; none where the words name none,
-    /// or name it `-`.
+    /// The name of the file that is read instead of standard input; `None` if the words name no
+    /// file, or name it `-`.
     pub file: Option<&'a str>,
-    /// The name of the file that is written in place of standard output; none where the words name none,
-    /// or name it `-`.
+    /// The name of the file that is written instead of standard output; `None` if the words name no
+    /// file, or name it `-`.
     pub output: Option<&'a str>,
 }
 
 /// What a command line without the program's name asks for. It reads no input.
 ///
 /// # Errors
-/// `Usage` where the definitions of the command line don't take the words, no command stands in
-/// them, options are misused, or a text of `--set`, `--set1` or `--set2` is no setting; `Help` where `--help` or
-/// `--version` stands in them; either where `--explain` is the first of them; `BadStatusText` where they are
-/// taken, but a status text isn't 48 hexadecimal digits; `Inexact` where `from-pcm` with `--exact` is given a
-/// setting that the status does not take; `Memory` where memory was refused.
+/// - `Usage` if the words don't fit the definitions of the command line or have no command, if
+///   options are misused, or if a text of `--set`, `--set1` or `--set2` is no setting.
+/// - `Help` if `--help` or `--version` is among them.
+/// - `Usage` or `Help` if `--explain` is the first of them.
+/// - `BadStatusText` if the words are valid, but a status text isn't 48 hexadecimal digits.
+/// - `Inexact` if `from-pcm` with `--exact` has a setting that the status does not take.
+/// - `Memory` if there is no memory.
 pub fn line_of_words<'a>(alloc: Global, words: &'a [&'a str]) -> Result<CommandLine<'a>, LineFault>
     ensures job { IfOk result (λ line. IsJobOf (map (λ word. word.now) words.now) line.job) }
     ensures typed { IfOk result (λ line. HaveTyped (map (λ word. word.now) words.now) line.typed) }
@@ -72,7 +74,7 @@ pub fn line_of_words<'a>(alloc: Global, words: &'a [&'a str]) -> Result<CommandL
     }
 }
 
-/// The job that a command line without the program's name asks for.
+/// The job of a command line without the program's name.
 ///
 /// # Errors
 /// Those of [`line_of_words`].
@@ -84,7 +86,7 @@ pub fn job_of_words<'a>(alloc: Global, words: &'a [&'a str]) -> Result<Job, Line
     Ok(line.job)
 }
 
-/// What words behind `--explain` are told.
+/// The answer to the words after `--explain`.
 fn explained(alloc: Global, words: &[&str]) -> LineFault
     ensures { IsExplanation (map (λ word. word.now) words.now) result }
 {
@@ -94,7 +96,7 @@ fn explained(alloc: Global, words: &[&str]) -> LineFault
     }
 }
 
-/// What a command line that asks to explain nothing asks for.
+/// What a command line without `--explain` asks for.
 fn plain_line<'a>(alloc: Global, words: &'a [&'a str]) -> Result<CommandLine<'a>, LineFault>
     ensures job { IfOk result (λ line. IsLineOf (map (λ word. word.now) words.now) line.job) }
     ensures typed { IfOk result (λ line. HaveTyped (map (λ word. word.now) words.now) line.typed) }
@@ -119,7 +121,7 @@ fn plain_line<'a>(alloc: Global, words: &'a [&'a str]) -> Result<CommandLine<'a>
     }
 }
 
-/// What is told of words that give no matches, which `clap` told so.
+/// The fault of words that `clap` rejects with this error.
 fn fault_of(alloc: Global, words: &[&str], error: &Error) -> LineFault
     ensures { Tells (map (λ word. word.now) words.now) (kind_of error.now) result }
 {
@@ -133,7 +135,7 @@ fn fault_of(alloc: Global, words: &[&str], error: &Error) -> LineFault
     }
 }
 
-/// What is told of words that are no command line, where `clap` tells this.
+/// The usage error for words that `clap` rejects with this text.
 fn usage_fault(alloc: Global, words: &[&str], text: &str) -> LineFault
     ensures { TellsUsage (map (λ word. word.now) words.now) result }
 {
@@ -143,7 +145,7 @@ fn usage_fault(alloc: Global, words: &[&str], text: &str) -> LineFault
     }
 }
 
-/// The first word, with which a command begins; an empty one where there is none.
+/// The first word, with which a command begins; empty if there is none.
 fn first_word<'a>(words: &[&'a str]) -> &'a str
     ensures { result.now ≡ first_word (map (λ word. word.now) words.now) }
 {

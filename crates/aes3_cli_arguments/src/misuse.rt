@@ -1,4 +1,4 @@
-//! What is wrong with options that the command takes each by itself.
+//! Misuse of options that are valid each by itself.
 
 ghost use Rattle.std.specs.Prelude.{◌≡◌, IfOk};
 ghost use Rattle.aes3_cli_arguments.specs.Jobs.{AreTaken, TellsMisuse, has_no_cells_packed, has_no_rate};
@@ -25,52 +25,52 @@ use aes3_cli::wording::{add_usage, usage_of};
 use clap::ArgMatches;
 use std::alloc::{AllocError, Global};
 
-/// What is wrong with options that the command takes each by itself.
+/// Misuse of options that are valid each by itself.
 #[derive(Clone, Copy)]
 pub(crate) enum Misuse {
-    /// `--raw-in` beside `--packed-in`.
+    /// `--raw-in` with `--packed-in`.
     TwoForms,
-    /// `--lsb-first` where no cells are packed.
+    /// `--lsb-first` without packed cells.
     NoCellsPacked,
-    /// `--every` beside `--every-seconds`.
+    /// `--every` with `--every-seconds`.
     TwoPeriods,
     /// `--every-seconds` without `--rate`.
     NoRate,
-    /// `to-bits` of bits that there are none of.
+    /// `to-bits` of unknown bits.
     UnknownBits,
-    /// `--fill` with what there is none of.
+    /// `--fill` with an unknown filling.
     UnknownFilling,
-    /// `--fill` beside `--valid`.
+    /// `--fill` with `--valid`.
     FillsValidSamples,
     /// `--marked` without `--fill`.
     MarkedUnfilled,
-    /// `--exact` beside `--valid` or `--fill`.
+    /// `--exact` with `--valid` or `--fill`.
     ExactAndOthers,
-    /// `--names` beside `--at` or `--more`.
+    /// `--names` with `--at` or `--more`.
     TwoDetails,
-    /// `--words` of a form that there is none of.
+    /// `--words` with an unknown form.
     UnknownWords,
-    /// `--pcm` of a form that there is none of.
+    /// `--pcm` with an unknown form.
     UnknownFormat,
-    /// `--preset` of a use that there is none of.
+    /// `--preset` with an unknown use.
     UnknownPreset,
-    /// `--rate` of `from-pcm` or `from-wav` with a frequency that no status tells.
+    /// `--rate` of `from-pcm` or `from-wav` with a frequency that no status has a code for.
     UnknownRate,
-    /// `--bits` of `to-wav` with a width that there is none of.
+    /// `--bits` of `to-wav` with an unknown width.
     UnknownDepth,
-    /// `--use` with what there is none of.
+    /// `--use` with an unknown use.
     UnknownUse,
-    /// `--use` beside `--preset`.
+    /// `--use` with `--preset`.
     PresetBesideUse,
-    /// `--channels` with a text that names no two channels.
+    /// `--channels` with a text that is not two channels.
     UnknownChannels,
-    /// `--mono` with what there is none of.
+    /// `--mono` with an unknown word.
     UnknownMono,
-    /// `--input` beside a FILE.
+    /// `--input` with a FILE.
     TwoFiles,
 }
 
-/// What is wrong with the options, the first of it where there is more.
+/// What is wrong with the options; the first fault if there are more.
 pub(crate) fn misuse_of_options(options: &ArgMatches<'_>) -> Option<Misuse>
     requires { AreTaken (options_of options.now) }
     ensures { result ≡ misuse_by (options_of options.now) }
@@ -120,7 +120,7 @@ pub(crate) fn misuse_of_options(options: &ArgMatches<'_>) -> Option<Misuse>
     }
 }
 
-/// Whether the cells that are read have two forms.
+/// Whether two forms are given for the cells that are read.
 fn has_two_forms(options: &ArgMatches<'_>) -> bool
     requires { AreTaken (options_of options.now) }
     ensures { result ≡ has_two_forms (options_of options.now) }
@@ -128,7 +128,7 @@ fn has_two_forms(options: &ArgMatches<'_>) -> bool
     flag(options, "raw-in") && flag(options, "packed-in")
 }
 
-/// Whether the first of eight packed cells has a place and no cells are packed.
+/// Whether the first of eight packed cells has a place, but no cells are packed.
 fn has_no_cells_packed(options: &ArgMatches<'_>) -> bool
     requires { AreTaken (options_of options.now) }
     ensures { result ≡ has_no_cells_packed (options_of options.now) }
@@ -139,7 +139,7 @@ fn has_no_cells_packed(options: &ArgMatches<'_>) -> bool
         && !flag(options, "packed-out")
 }
 
-/// Whether sums are told after cells and after seconds.
+/// Whether the period of sums is given in cells and in seconds.
 fn has_two_periods(options: &ArgMatches<'_>) -> bool
     requires { AreTaken (options_of options.now) }
     ensures { result ≡ has_two_periods (options_of options.now) }
@@ -148,7 +148,7 @@ fn has_two_periods(options: &ArgMatches<'_>) -> bool
         && number_if_given(options, "every-seconds").is_some()
 }
 
-/// Whether they are told after seconds of which nothing says how many cells one has.
+/// Whether the period is given in seconds, but no rate says how many cells a second has.
 fn has_no_rate(options: &ArgMatches<'_>) -> bool
     requires { AreTaken (options_of options.now) }
     ensures { result ≡ has_no_rate (options_of options.now) }
@@ -156,7 +156,7 @@ fn has_no_rate(options: &ArgMatches<'_>) -> bool
     number_if_given(options, "every-seconds").is_some() && rate(options).is_none()
 }
 
-/// Whether bits are named that there are none of.
+/// Whether unknown bits are named.
 fn has_unknown_bits(options: &ArgMatches<'_>) -> bool
     ensures { result ≡ has_unknown_bits (options_of options.now) }
 {
@@ -166,7 +166,7 @@ fn has_unknown_bits(options: &ArgMatches<'_>) -> bool
     bits_of_text(text).is_none()
 }
 
-/// Whether time is to be filled between samples of which some are silenced.
+/// Whether time is to be filled between samples, and samples that are not valid are to be zero.
 fn fills_valid_samples(options: &ArgMatches<'_>) -> bool
     requires { AreTaken (options_of options.now) }
     ensures { result ≡ fills_valid_samples (options_of options.now) }
@@ -174,7 +174,7 @@ fn fills_valid_samples(options: &ArgMatches<'_>) -> bool
     fill(options).is_some() && flag(options, "valid")
 }
 
-/// Whether marked blocks are to be given, and nothing says what fills them.
+/// Whether marked blocks are to be given, but no filling is named.
 fn has_marked_unfilled(options: &ArgMatches<'_>) -> bool
     requires { AreTaken (options_of options.now) }
     ensures { result ≡ has_marked_unfilled (options_of options.now) }
@@ -182,7 +182,7 @@ fn has_marked_unfilled(options: &ArgMatches<'_>) -> bool
     flag(options, "marked") && fill(options).is_none()
 }
 
-/// Whether samples are to be given as they are, and others in the place of some.
+/// Whether samples are to be exact, and others are to replace some.
 fn has_exact_and_others(options: &ArgMatches<'_>) -> bool
     requires { AreTaken (options_of options.now) }
     ensures { result ≡ has_exact_and_others (options_of options.now) }
@@ -190,7 +190,7 @@ fn has_exact_and_others(options: &ArgMatches<'_>) -> bool
     flag(options, "exact") && (fill(options).is_some() || flag(options, "valid"))
 }
 
-/// Whether words of codes are to stand behind a line, and the place of its block too.
+/// Whether words of codes are to follow a line, and the place of its block too.
 fn has_two_details(options: &ArgMatches<'_>) -> bool
     requires { AreTaken (options_of options.now) }
     ensures { result ≡ has_two_details (options_of options.now) }
@@ -205,7 +205,7 @@ fn has_two_files(options: &ArgMatches<'_>) -> bool
     options.get_str("FILE").is_some() && options.get_str("input").is_some()
 }
 
-/// What is told of it, where the options are those of the command of this name.
+/// The usage error for a misuse of the options of the command of this name.
 pub(crate) fn misuse_fault(alloc: Global, name: &str, misuse: Misuse) -> LineFault
     ensures { TellsMisuse name.now misuse result }
 {
@@ -215,8 +215,8 @@ pub(crate) fn misuse_fault(alloc: Global, name: &str, misuse: Misuse) -> LineFau
     }
 }
 
-/// The text that tells of it, as `clap` tells of words that it doesn't take; `usage` says how the
-/// command is called.
+/// The text for a misuse, in the form of `clap`'s usage errors; `usage` is the usage of the
+/// command.
 fn told_misuse(alloc: Global, usage: &str, misuse: Misuse) -> Result<String, AllocError>
     ensures { IfOk result (λ text. text.bytes.items ≡ misuse_text usage.now misuse) }
 {

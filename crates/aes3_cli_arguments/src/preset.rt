@@ -7,35 +7,35 @@ ghost use Rattle.aes3_cli_arguments.specs.Jobs.{begun_with, unknown_status_for};
 use aes3_status::{Settings, set_fields};
 use clap::ArgMatches;
 
-/// The usual status for consumer use (IEC 60958-3): linear PCM, no copyright asserted, no sampling
-/// frequency indicated, words of 24 bits.
+/// The default status for consumer use (IEC 60958-3): linear PCM, no copyright asserted, no
+/// sampling frequency indicated, words of 24 bits.
 const CONSUMER: [u8; 24] = [
     0x04, 0, 0, 0x01, 0x0B, 0, 0, 0, 0, 0, 0, 0, 0, 0, 0, 0, 0, 0, 0, 0, 0, 0, 0, 0,
 ];
 
-/// The usual status for professional use (AES3-2), without its check byte: linear PCM, no emphasis,
-/// two channels, words of 24 bits in which the auxiliary bits are audio.
+/// The default status for professional use (AES3-2), without its check byte: linear PCM, no
+/// emphasis, two channels, words of 24 bits in which the auxiliary bits are audio.
 const PROFESSIONAL: [u8; 24] = [
     0x05, 0x08, 0x2C, 0, 0, 0, 0, 0, 0, 0, 0, 0, 0, 0, 0, 0, 0, 0, 0, 0, 0, 0, 0, 0,
 ];
 
-/// The status of samples that nothing is known of (IEC 60958-3): consumer use, no copyright asserted,
-/// no sampling frequency indicated, words of 24 bits at most.
+/// The status of samples of which nothing is known (IEC 60958-3): consumer use, no copyright
+/// asserted, no sampling frequency indicated, words of at most 24 bits.
 const UNKNOWN: [u8; 24] = [
     0x04, 0, 0, 0x01, 0x01, 0, 0, 0, 0, 0, 0, 0, 0, 0, 0, 0, 0, 0, 0, 0, 0, 0, 0, 0,
 ];
 
-/// The status that a channel begins with where neither a text nor a preset gives one.
+/// The status that a channel begins with if neither a text nor a preset gives one.
 #[derive(Clone, Copy)]
 pub enum Beginning {
-    /// That of each block.
+    /// The status of each block.
     OfEachBlock,
-    /// One that claims nothing.
+    /// A status that indicates nothing.
     Unclaimed,
 }
 
 impl Beginning {
-    /// The status, where this is set of it.
+    /// The status, given these settings.
     pub(crate) fn status(self, settings: &Option<Settings>) -> Option<[u8; 24]>
         ensures { result ≡ begun_with self settings.now }
     {
@@ -46,8 +46,8 @@ impl Beginning {
     }
 }
 
-/// The status of samples that nothing is known of, where this is set of it. If that makes the use
-/// professional, all bytes are 0 before, since those for consumer use mean something else then.
+/// The status of samples of which nothing is known, given these settings. If they make the use
+/// professional, all bytes are 0 before, since bytes for consumer use then mean something else.
 fn unknown_status_for(settings: &Option<Settings>) -> [u8; 24]
     ensures { result ≡ unknown_status_for settings.now }
 {
@@ -61,8 +61,8 @@ fn unknown_status_for(settings: &Option<Settings>) -> [u8; 24]
     }
 }
 
-/// The status that a channel begins with where no text gives one: that of the preset, or `other`
-/// where none is named.
+/// The status that a channel begins with if no text gives one: that of the preset, or `other` if
+/// none is named.
 pub(crate) fn preset_or(options: &ArgMatches<'_>, other: Option<[u8; 24]>) -> Option<[u8; 24]>
     ensures { result ≡ or_other other (preset_by (options_of options.now)) }
 {
@@ -82,7 +82,7 @@ pub(crate) fn preset(options: &ArgMatches<'_>) -> Option<[u8; 24]>
     preset_of_text(text)
 }
 
-/// Whether a preset is named that there is none of.
+/// Whether an unknown preset is named.
 pub(crate) fn has_unknown_preset(options: &ArgMatches<'_>) -> bool
     ensures { result ≡ has_unknown_preset (options_of options.now) }
 {

@@ -1,4 +1,4 @@
-//! What is told of settings on a command line that are none.
+//! The errors for invalid settings on a command line.
 
 ghost use Rattle.std.specs.Prelude.{◌≡◌, ◌++◌, [], IfOk, get_or, map};
 ghost use Rattle.aes3_cli_arguments.specs.Jobs.{fault_text, invalid_text, many_text, option_text, refused_text};
@@ -7,7 +7,7 @@ ghost use Rattle.aes3_cli_arguments.specs.Jobs.{value_text};
 use aes3_status_text::{SettingsFault, add_choices};
 use std::alloc::{AllocError, Global};
 
-/// The text of this number, from 0; an empty one where there is none.
+/// The text of this number, from 0; empty if there is none.
 fn text_at<'a>(texts: &[&'a str], at: usize) -> &'a str
     ensures { result.now ≡ get_or (map (λ text. text.now) texts.now) at [] }
 {
@@ -40,7 +40,7 @@ fn add_option(text: &mut String, name: &str) -> Result<(), AllocError>
     Ok(())
 }
 
-/// Appends that a text of the option `--name` is no setting, and what could stand in place of it.
+/// Appends that a text of the option `--name` is no setting, and the possible texts.
 fn add_invalid(text: &mut String, name: &str, setting: &str) -> Result<(), AllocError>
     ensures { IfOk result (λ _. text.new.bytes.items
         ≡ text.old.bytes.items ++ invalid_text name.now setting.now) }
@@ -50,7 +50,7 @@ fn add_invalid(text: &mut String, name: &str, setting: &str) -> Result<(), Alloc
     add_choices(text, setting)
 }
 
-/// Appends that there are more texts of the option `--name` than may stand.
+/// Appends that the option `--name` has too many texts.
 #[tactic(auto, unfolding(crate::specs::Jobs::many_text))]
 fn add_many(text: &mut String, name: &str) -> Result<(), AllocError>
     ensures { IfOk result (λ _. text.new.bytes.items ≡ text.old.bytes.items ++ many_text name.now) }
@@ -76,11 +76,11 @@ fn add_fault(
     }
 }
 
-/// What is told of texts of the option `--name` that have no settings, as `clap` tells of words
-/// that it doesn't take; `usage` says how the command is called.
+/// The text for texts of the option `--name` that have no settings, in the form of `clap`'s usage
+/// errors; `usage` is the usage of the command.
 ///
 /// # Errors
-/// Memory was refused.
+/// `AllocError` if there is no memory.
 #[tactic(auto, unfolding(crate::specs::Jobs::refused_text))]
 pub(crate) fn settings_refused(
     alloc: Global,

@@ -31,7 +31,7 @@ pub(crate) fn to_pcm(options: &ArgMatches<'_>) -> ReadWork
     }
 }
 
-/// What the options fill the time with that no block gives, where they do.
+/// The filling by the options for time that no block covers, if they name one.
 pub(crate) fn fill(options: &ArgMatches<'_>) -> Option<Fill>
     ensures { result ≡ fill_by (options_of options.now) }
 {
@@ -41,7 +41,7 @@ pub(crate) fn fill(options: &ArgMatches<'_>) -> Option<Fill>
     fill_of_text(text)
 }
 
-/// Whether a filling is named that there is none of.
+/// Whether an unknown filling is named.
 pub(crate) fn has_unknown_filling(options: &ArgMatches<'_>) -> bool
     ensures { result ≡ has_unknown_filling (options_of options.now) }
 {

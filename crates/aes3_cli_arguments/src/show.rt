@@ -21,8 +21,7 @@ pub(crate) fn show(options: &ArgMatches<'_>) -> ReadWork
     }
 }
 
-/// What stands behind each line: what `--more` asks for tells the place too, and `--names` stands by
-/// itself.
+/// What follows each line: `--more` includes the place, and `--names` is by itself.
 fn detail(options: &ArgMatches<'_>) -> Detail
     requires { AreTaken (options_of options.now) }
     ensures { result ≡ detail_by (options_of options.now) }

@@ -6,9 +6,9 @@ ghost use Rattle.aes3_cli_arguments.specs.StatusTexts.{IsStatusText, status_in};
 
 use hex::FromHex;
 
-/// The 24 bytes of channel status (AES3-2, IEC 60958-3) that 48 hexadecimal digits write, byte 0
-/// first and in each byte the high four bits first; `None` for any other text. The letters may be
-/// of either case.
+/// The 24 bytes of channel status (AES3-2, IEC 60958-3) in a text of 48 hexadecimal digits; `None`
+/// for any other text. Byte 0 comes first, and in each byte the high four bits. Letters may be of
+/// either case.
 pub fn status_of_text(text: &str) -> Option<[u8; 24]>
     ensures status { result ≡ status_in text.now }
     ensures found { IsSome result ↔ IsStatusText text.now }

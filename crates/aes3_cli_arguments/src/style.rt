@@ -1,4 +1,4 @@
-//! How the options of a command ask for the lines of events to be written.
+//! The style of the lines of events by the options.
 
 ghost use Rattle.std.specs.Prelude.{◌≡◌, codes};
 ghost use Rattle.aes3_cli_arguments.specs.Jobs.{MayBeFlag, MayBeRate, notation_by, options_of, rate_by, style_by};
@@ -6,7 +6,7 @@ ghost use Rattle.aes3_cli_arguments.specs.Jobs.{MayBeFlag, MayBeRate, notation_b
 use aes3_status_text::{Notation, Style};
 use clap::ArgMatches;
 
-/// As words or as JSON objects.
+/// Words or JSON objects.
 pub(crate) fn notation(options: &ArgMatches<'_>) -> Notation
     requires { MayBeFlag (options_of options.now) (codes "json") }
     ensures { result ≡ notation_by (options_of options.now) }
@@ -18,7 +18,7 @@ pub(crate) fn notation(options: &ArgMatches<'_>) -> Notation
     }
 }
 
-/// How many frames a second has, where the options tell it.
+/// How many frames a second has, if the options say it.
 pub(crate) fn rate(options: &ArgMatches<'_>) -> Option<u32>
     requires { MayBeRate (options_of options.now) (codes "rate") }
     ensures { result ≡ rate_by (options_of options.now) }

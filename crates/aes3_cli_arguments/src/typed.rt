@@ -1,4 +1,4 @@
-//! Settings as they were typed.
+//! Settings as typed.
 
 ghost use Rattle.std.specs.Prelude.{◌≡◌, IfOk, map};
 ghost use Rattle.aes3_cli_arguments.specs.Jobs.{AreTyped, options_of, texts_for};
@@ -8,12 +8,11 @@ use aes3_status_text::TypedSettings;
 use clap::ArgMatches;
 use std::alloc::{AllocError, Global};
 
-/// The texts that set fields of the channel that has this option, in the order in which they do:
-/// those for both channels, those of its own option, and the one that the sampling frequency stands
-/// for.
+/// The texts that set fields of the channel with this option, in order: those for both channels,
+/// those of its own option, and the text for the sampling frequency.
 ///
 /// # Errors
-/// Memory was refused.
+/// `AllocError` if there is no memory.
 pub(crate) fn texts_for<'a>(
     alloc: Global,
     options: &ArgMatches<'a>,
@@ -34,10 +33,10 @@ pub(crate) fn texts_for<'a>(
     Ok(texts)
 }
 
-/// The settings that the options type, for each channel.
+/// The settings in the options as typed, for each channel.
 ///
 /// # Errors
-/// Memory was refused.
+/// `AllocError` if there is no memory.
 pub(crate) fn typed<'a>(
     alloc: Global,
     options: &ArgMatches<'a>,

@@ -23,7 +23,7 @@ pub(crate) fn watch(options: &ArgMatches<'_>) -> ReadWork
     }
 }
 
-/// After how many cells sums are told, where the options ask for them.
+/// The period of sums in cells, if the options ask for sums.
 fn every(options: &ArgMatches<'_>) -> Option<u64>
     requires { AreTaken (options_of options.now) }
     ensures { result ≡ every_by (options_of options.now) }

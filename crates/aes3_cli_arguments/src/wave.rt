@@ -40,7 +40,7 @@ pub(crate) fn to_wav(options: &ArgMatches<'_>) -> ReadWork
     }
 }
 
-/// The width that the options give the samples of a WAV file: 24 bits where none is named.
+/// The width of the samples of a WAV file by the options: 24 bits if they name none.
 fn depth(options: &ArgMatches<'_>) -> Depth
     ensures { result ≡ depth_by (options_of options.now) }
 {
@@ -50,7 +50,7 @@ fn depth(options: &ArgMatches<'_>) -> Depth
     }
 }
 
-/// The width that they name.
+/// The width that the options name.
 fn depth_if_named(options: &ArgMatches<'_>) -> Option<Depth>
     ensures { result ≡ depth_named (options_of options.now) }
 {
@@ -60,7 +60,7 @@ fn depth_if_named(options: &ArgMatches<'_>) -> Option<Depth>
     depth_of_text(text)
 }
 
-/// Whether a width is named that there is none of.
+/// Whether an unknown width is named.
 pub(crate) fn has_unknown_depth(options: &ArgMatches<'_>) -> bool
     ensures { result ≡ has_unknown_depth (options_of options.now) }
 {
@@ -82,7 +82,7 @@ fn depth_of_text(text: &str) -> Option<Depth>
     }
 }
 
-/// Whether the channel status that a header asks for is for professional use: else for consumer use.
+/// Whether the channel status for a header is for professional use, else for consumer use.
 pub(crate) fn is_professional(options: &ArgMatches<'_>) -> bool
     ensures { result ≡ is_professional (options_of options.now) }
 {
@@ -102,7 +102,7 @@ fn use_if_named(options: &ArgMatches<'_>) -> Option<bool>
     use_of_text(text)
 }
 
-/// Whether a use is named that there is none of.
+/// Whether an unknown use is named.
 pub(crate) fn has_unknown_use(options: &ArgMatches<'_>) -> bool
     ensures { result ≡ has_unknown_use (options_of options.now) }
 {
@@ -123,7 +123,7 @@ fn use_of_text(text: &str) -> Option<bool>
     }
 }
 
-/// Which channels the only one of a WAV file is for by the options: both where none are named.
+/// Which channels a single channel of a WAV file is for by the options: both if they name none.
 pub(crate) fn mono(options: &ArgMatches<'_>) -> Mono
     ensures { result ≡ mono_by (options_of options.now) }
 {
@@ -133,7 +133,7 @@ pub(crate) fn mono(options: &ArgMatches<'_>) -> Mono
     }
 }
 
-/// Which channels they name for it.
+/// Which channels the options name for a single channel.
 fn mono_if_named(options: &ArgMatches<'_>) -> Option<Mono>
     ensures { result ≡ mono_named (options_of options.now) }
 {
@@ -143,7 +143,7 @@ fn mono_if_named(options: &ArgMatches<'_>) -> Option<Mono>
     mono_of_text(text)
 }
 
-/// Whether channels are named for the only one that there are none of.
+/// Whether unknown channels are named for a single channel.
 pub(crate) fn has_unknown_mono(options: &ArgMatches<'_>) -> bool
     ensures { result ≡ has_unknown_mono (options_of options.now) }
 {
@@ -153,7 +153,7 @@ pub(crate) fn has_unknown_mono(options: &ArgMatches<'_>) -> bool
     mono_of_text(text).is_none()
 }
 
-/// Which channels the only one is for by this name.
+/// Which channels this name means for a single channel.
 fn mono_of_text(text: &str) -> Option<Mono>
     ensures { result ≡ mono_in text.now }
 {
@@ -164,7 +164,7 @@ fn mono_of_text(text: &str) -> Option<Mono>
     }
 }
 
-/// Whether a use is named for the status that a header asks for, and a preset gives another status.
+/// Whether a use is named for the status of a header, although a preset gives another status.
 pub(crate) fn has_preset_beside_use(options: &ArgMatches<'_>) -> bool
     ensures { result ≡ has_preset_beside_use (options_of options.now) }
 {
@@ -181,7 +181,7 @@ pub(crate) fn channels(options: &ArgMatches<'_>) -> Option<Channels>
     channels_of_text(text)
 }
 
-/// Whether channels are chosen by a text that names no two of them.
+/// Whether channels are chosen by a text that is not two channels.
 pub(crate) fn has_unknown_channels(options: &ArgMatches<'_>) -> bool
     ensures { result ≡ has_unknown_channels (options_of options.now) }
 {
@@ -191,7 +191,7 @@ pub(crate) fn has_unknown_channels(options: &ArgMatches<'_>) -> bool
     channels_of_text(text).is_none()
 }
 
-/// The two channels whose numbers, from 1 on, a text has with a comma between them.
+/// The two channels of a text of two numbers, from 1 on, with a comma between them.
 fn channels_of_text(text: &str) -> Option<Channels>
     ensures { result ≡ channels_in text.now }
 {
@@ -201,7 +201,7 @@ fn channels_of_text(text: &str) -> Option<Channels>
     }
 }
 
-/// Both channels, where there are both.
+/// Both channels, if there are both.
 fn channels_of_two(first: Option<u16>, second: Option<u16>) -> Option<Channels>
     ensures { result ≡ channels_of_two first second }
 {
@@ -215,7 +215,7 @@ fn channels_of_two(first: Option<u16>, second: Option<u16>) -> Option<Channels>
     }
 }
 
-/// The channel whose number, from 1 on, a text is.
+/// The channel of a text that is its number, from 1 on.
 fn channel_of_text(text: &str) -> Option<u16>
     ensures { result ≡ channel_in text.now }
 {

@@ -6,7 +6,7 @@ ghost use Rattle.aes3_cli_arguments.specs.Jobs.{has_unknown_words, options_of, w
 use aes3_forms_words::Words;
 use clap::ArgMatches;
 
-/// The form that the options give a block file's words: its own where none is named.
+/// The form of a block file's words by the options: its own if they name none.
 pub(crate) fn words(options: &ArgMatches<'_>) -> Words
     ensures { result ≡ words_by (options_of options.now) }
 {
@@ -16,7 +16,7 @@ pub(crate) fn words(options: &ArgMatches<'_>) -> Words
     }
 }
 
-/// The form that they name.
+/// The form that the options name.
 fn words_if_named(options: &ArgMatches<'_>) -> Option<Words>
     ensures { result ≡ words_named (options_of options.now) }
 {
@@ -26,7 +26,7 @@ fn words_if_named(options: &ArgMatches<'_>) -> Option<Words>
     words_of_text(text)
 }
 
-/// Whether a form is named that there is none of.
+/// Whether an unknown form is named.
 pub(crate) fn has_unknown_words(options: &ArgMatches<'_>) -> bool
     ensures { result ≡ has_unknown_words (options_of options.now) }
 {

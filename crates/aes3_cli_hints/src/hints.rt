@@ -1,4 +1,4 @@
-//! Sentences for whoever sits at a terminal.
+//! Sentences for a person at a terminal.
 
 ghost use Rattle.std.specs.Prelude.{◌≡◌, ◌<◌, ◌≤◌, ◌||◌, IfSome, IsFalse, IsTrue, None, Some, length, not};
 ghost use Rattle.aes3_cell.specs.Ends.{Grew};
@@ -30,7 +30,7 @@ pub struct Terminals {
 }
 
 impl Terminals {
-    /// As the machine says.
+    /// As the system says.
     pub fn new(rt: &HostRuntime) -> Self {
         Terminals {
             input: rt.stdin().is_terminal(),
@@ -40,9 +40,9 @@ impl Terminals {
     }
 }
 
-/// Tells on standard error, where it is a terminal, what the program waits for and what a refusal
-/// means; and where it is none, but the words name a file, what that looks like. Once that has failed
-/// it tells nothing more.
+/// Writes on standard error what the program waits for and what an error means, if it is a
+/// terminal. If it is not, but the words name a file, it writes what that file looks like. Once
+/// writing has failed, it writes nothing more.
 #[derive(Drop)]
 pub struct Hints<T: Drop> {
     alloc: Global,
@@ -54,7 +54,7 @@ pub struct Hints<T: Drop> {
 }
 
 impl<T: Sink + Drop> Hints<T> {
-    /// Hints for these streams, told to `sink`, which is standard error.
+    /// Hints for these streams, written to `sink`, which is standard error.
     pub fn new(alloc: Global, sink: T, terminals: Terminals) -> Self
         ensures sink { result.sink ≡ sink }
         ensures terminals { result.terminals ≡ terminals }
@@ -71,7 +71,7 @@ impl<T: Sink + Drop> Hints<T> {
         }
     }
 
-    /// Takes it that a file is read in place of standard input.
+    /// Notes that a file is read instead of standard input.
     pub fn reads_file(&mut self)
         ensures sink { self.new.sink ≡ self.old.sink }
         ensures input { IsFalse self.new.terminals.input }
@@ -83,7 +83,7 @@ impl<T: Sink + Drop> Hints<T> {
         self.names_file = true;
     }
 
-    /// Takes it that a file is written in place of standard output.
+    /// Notes that a file is written instead of standard output.
     pub fn writes_file(&mut self)
         ensures sink { self.new.sink ≡ self.old.sink }
         ensures output { IsFalse self.new.terminals.output }
@@ -94,7 +94,7 @@ impl<T: Sink + Drop> Hints<T> {
         self.terminals.output = false;
     }
 
-    /// Watches this source for them, where there is a person to tell or a file is named.
+    /// Watches this source for the hints, if standard error is a terminal or a file is named.
     pub fn watch<S: Source + Drop>(&self, source: S) -> Watched<S>
         ensures { result.source ≡ source }
     {
@@ -102,9 +102,9 @@ impl<T: Sink + Drop> Hints<T> {
         Watched::new(self.alloc, source, is_on, self.terminals.errors)
     }
 
-    /// Tells to `sink`, which is standard error, how far this source has been read, where there is a
-    /// person to tell and it is a file; `len` is how many bytes that has, and `line` what reads it.
-    /// Whether a line of progress stands there is in `shown`.
+    /// Reports to `sink`, which is standard error, how far this source has been read, if standard
+    /// error is a terminal and the source is a file. `len` is the length of the file in bytes, and
+    /// `line` what reads it. `shown` says whether a line of progress is there.
     pub fn follow<'a, C: Clock + Drop, S: Source + Drop, E: Sink + Drop>(
         &self,
         clock: C,
@@ -126,9 +126,10 @@ impl<T: Sink + Drop> Hints<T> {
         Progress::new(self.alloc, clock, source, sink, shown, course)
     }
 
-    /// Says in a sentence what was refused of these words or their input, if anything was, and what
-    /// to do; or that the input looks like another kind than it was taken for. Where it is a file,
-    /// this is its name. Where standard error is no terminal it says only what the input looks like.
+    /// Says in a sentence what was wrong with these words or their input, if anything was, and what
+    /// to do. Or it says that the input looks like another kind than it was read as. `file` is the
+    /// name of the file that was read, if any. If standard error is no terminal, it says only what
+    /// is wrong with a WAV file, or what the input looks like.
     pub fn explain<S: Source + Drop>(
         &mut self,
         words: &[&str],
@@ -166,7 +167,7 @@ impl<T: Sink + Drop> Hints<T> {
         }
     }
 
-    /// Says what was refused where the words could not be read.
+    /// Says what was wrong if the words could not be read.
     pub fn explain_unread(&mut self)
         ensures silent { IsFalse self.old.terminals.errors
             → T.taken self.new.sink ≡ T.taken self.old.sink }
@@ -179,8 +180,8 @@ impl<T: Sink + Drop> Hints<T> {
         }
     }
 
-    /// Tells what was refused, where, and what to do: this, if it is known, or what is always told
-    /// of this refusal.
+    /// Says what was wrong, where, and what to do: `told`, if it is given, or else the advice for
+    /// this error.
     fn tell_refusal(&mut self, error: Refusal, place: Option<Place<'_>>, told: Option<&'static str>)
         requires { IfSome told (λ told. IsTrue (is_told told.now)) }
         ensures silent { IsFalse self.old.terminals.errors
@@ -195,8 +196,8 @@ impl<T: Sink + Drop> Hints<T> {
         }
     }
 
-    /// Tells what was refused, where, and this advice. Where memory is refused it tells the advice
-    /// alone.
+    /// Says what was wrong, where, and this advice. If there is no memory, it gives only the
+    /// advice.
     fn tell_advice(&mut self, error: Refusal, place: Option<Place<'_>>, advice: &str)
         ensures silent { IsFalse self.old.terminals.errors
             → T.taken self.new.sink ≡ T.taken self.old.sink }
@@ -211,7 +212,7 @@ impl<T: Sink + Drop> Hints<T> {
         self.tell("\n");
     }
 
-    /// Tells what the input looks like, if that is another kind than it was taken for.
+    /// Says what the input looks like, if that is another kind than it was read as.
     fn tell_looks<S: Source + Drop>(&mut self, words: &[&str], source: &Watched<S>)
         ensures silent { IsFalse (self.old.terminals.errors || self.old.names_file)
             → T.taken self.new.sink ≡ T.taken self.old.sink }
@@ -224,7 +225,7 @@ impl<T: Sink + Drop> Hints<T> {
         }
     }
 
-    /// Tells what of a WAV file was refused, where, and what to do.
+    /// Says what was wrong with a WAV file, where, and what to do.
     fn hint_refusal<S: Source + Drop>(&mut self, error: Refusal, source: &Watched<S>)
         ensures silent { IsFalse (self.old.terminals.errors || self.old.names_file)
             → T.taken self.new.sink ≡ T.taken self.old.sink }
@@ -239,7 +240,7 @@ impl<T: Sink + Drop> Hints<T> {
         self.hint("\n");
     }
 
-    /// Tells a text, where standard error is a terminal or a file is named.
+    /// Writes a text, if standard error is a terminal or a file is named.
     fn hint(&mut self, text: &str)
         ensures silent { IsFalse (self.old.terminals.errors || self.old.names_file)
             → T.taken self.new.sink ≡ T.taken self.old.sink }
@@ -252,7 +253,7 @@ impl<T: Sink + Drop> Hints<T> {
         }
     }
 
-    /// Tells a text, where standard error is a terminal.
+    /// Writes a text, if standard error is a terminal.
     fn tell(&mut self, text: &str)
         ensures silent { IsFalse self.old.terminals.errors
             → T.taken self.new.sink ≡ T.taken self.old.sink }
@@ -270,10 +271,10 @@ impl<T: Sink + Drop> Hints<T> {
     }
 }
 
-/// What to do where a file can't be read.
+/// What to do if a file can't be read.
 const UNREAD: &str = "is there such a file, may you read it, and is it no folder?";
 
-/// What was refused, and where. Where memory for it is refused there is none.
+/// What was wrong, and where; `None` if there is no memory.
 fn refused_text(alloc: Global, error: Refusal, place: Option<Place<'_>>) -> Option<String> {
     match error {
         Refusal::Run(error) => run_text(alloc, error, place),
@@ -285,10 +286,10 @@ fn refused_text(alloc: Global, error: Refusal, place: Option<Place<'_>>) -> Opti
     }
 }
 
-/// What was refused where a WAV file has one channel.
+/// What was wrong if a WAV file has one channel.
 const ONE_CHANNEL: &str = "the WAV file has 1 channel: ";
 
-/// What of a run was refused, and where.
+/// What was wrong with a run, and where.
 fn run_text(alloc: Global, error: RunError, place: Option<Place<'_>>) -> Option<String> {
     let text = match place {
         Some(Place::Byte(Position { line, column })) => {
@@ -303,8 +304,8 @@ fn run_text(alloc: Global, error: RunError, place: Option<Place<'_>>) -> Option<
     text.ok()
 }
 
-/// What to do with an input that looks like another kind than it was taken for, which was refused so
-/// or taken.
+/// What to do with an input that looks like another kind than it was read as, whether it was an
+/// error or not.
 fn looks_of<S: Source + Drop>(
     refusal: Option<Refusal>,
     job: Option<Job>,
@@ -318,12 +319,12 @@ fn looks_of<S: Source + Drop>(
     }
 }
 
-/// Whether a WAV file was refused for its header or its channels.
+/// Whether a WAV file was rejected for its header or its channels.
 fn is_of_wave(error: Refusal) -> bool {
     matches!(error, Refusal::Header(_) | Refusal::NoChannel { .. })
 }
 
-/// Where a refusal stands, as a person looks for it.
+/// The place of an error, as a person looks for it.
 #[derive(Clone, Copy)]
 enum Place<'a> {
     /// A byte of cell text.
@@ -332,11 +333,11 @@ enum Place<'a> {
     Option(&'static str),
     /// The file of this name.
     File(&'a str),
-    /// The input as a whole, a sound file: where in it the first sample is no matter.
+    /// The input as a whole, a sound file, if the place of the first sample does not matter.
     SoundFile,
 }
 
-/// Where to look for what was refused.
+/// Where to look for what was wrong.
 fn place_of<S: Source + Drop>(
     error: Refusal,
     job: Option<Job>,
@@ -353,7 +354,7 @@ fn place_of<S: Source + Drop>(
     }
 }
 
-/// The option that stands among the words with a text that is no channel status.
+/// The option among the words whose text is no channel status.
 fn bad_status_option(words: &[&str]) -> Option<&'static str> {
     if has_bad_status(words, "--status1") {
         Some("--status1")
@@ -364,7 +365,7 @@ fn bad_status_option(words: &[&str]) -> Option<&'static str> {
     }
 }
 
-/// Whether the option stands among the words with a text that is no channel status.
+/// Whether the option is among the words with a text that is no channel status.
 fn has_bad_status(words: &[&str], name: &str) -> bool {
     for at in 0..words.len() {
         match text_of_option(words, at, name) {
@@ -375,7 +376,8 @@ fn has_bad_status(words: &[&str], name: &str) -> bool {
     false
 }
 
-/// The text of the option, where the word of this number is it: the rest of that word or the next.
+/// The text of the option, if the word of this number is the option: the rest of that word or the
+/// next word.
 fn text_of_option<'a>(words: &[&'a str], at: usize, name: &str) -> Option<&'a str>
     requires { at < length words.now }
 {
@@ -385,8 +387,8 @@ fn text_of_option<'a>(words: &[&'a str], at: usize, name: &str) -> Option<&'a st
     }
 }
 
-/// How far a file of so many bytes has been read by a job; of a WAV file none is told, since what makes a
-/// block of it is not known before its header.
+/// The progress of a job in a file of `len` bytes. There is none for a WAV file, since before its
+/// header it is not known how many bytes make a block.
 fn course_of<C: Clock>(clock: &C, len: u64, job: &Job) -> Option<Course> {
     match (job, job.block_len()) {
         (Job::FromWav { .. }, _) => None,
@@ -395,7 +397,7 @@ fn course_of<C: Clock>(clock: &C, len: u64, job: &Job) -> Option<Course> {
     }
 }
 
-/// What is told before a job where standard input is a terminal, or isn't.
+/// The hint before a job, by whether standard input is a terminal.
 fn reads_hint(is_terminal: bool) -> &'static str
     ensures { result.now ≡ reads_hint is_terminal }
 {
@@ -406,7 +408,7 @@ fn reads_hint(is_terminal: bool) -> &'static str
     }
 }
 
-/// What is told before this job where standard output is a terminal, or isn't.
+/// The hint before this job, by whether standard output is a terminal.
 fn writes_hint(is_terminal: bool, job: &Job) -> &'static str
     ensures { result.now ≡ writes_hint is_terminal job.now }
 {

@@ -1,11 +1,11 @@
-//! What a person is told: what the program waits for, what a refusal means and what to do.
+//! Hints for a person: what the program waits for, what an error means and what to do.
 #![tactic(auto)]
 
-/// The sentences, and when they are told.
+/// The sentences, and when they are written.
 mod hints;
-/// What the first bytes of a refused input look like.
+/// What the first bytes of a rejected input look like.
 mod looks;
-/// What has to be known of the input.
+/// What the hints need to know of the input.
 mod watched;
 /// Whether samples look like those of another form.
 mod widths;

@@ -37,7 +37,7 @@ fn advice_on_sound(sound: SoundFile) -> &'static str
     }
 }
 
-/// What to do about this refusal of an input that begins so, if its looks tell.
+/// What to do about this error of an input that begins like this, if its looks say so.
 pub(crate) fn advice_by_looks(
     refusal: Refusal,
     job: Option<Job>,
@@ -58,7 +58,7 @@ pub(crate) fn reads_wave(job: Option<Job>) -> bool {
     matches!(job, Some(Job::FromWav { .. }))
 }
 
-/// What to do about this refusal of the header of a file of this kind, if that tells.
+/// What to do about this error of the header of a file of this kind, if that says so.
 fn advice_on_header(error: HeaderError, looks: FileKind) -> Option<&'static str>
     ensures { IfSome result (λ told. IsTrue (is_told told.now)) }
 {
@@ -69,7 +69,7 @@ fn advice_on_header(error: HeaderError, looks: FileKind) -> Option<&'static str>
     }
 }
 
-/// The same of a file that ends in its header.
+/// The same for a file that ends in its header.
 fn advice_on_end(looks: FileKind) -> Option<&'static str>
     ensures { IfSome result (λ told. IsTrue (is_told told.now)) }
 {
@@ -80,7 +80,7 @@ fn advice_on_end(looks: FileKind) -> Option<&'static str>
     }
 }
 
-/// The same of a file that is no WAV file.
+/// The same for a file that is no WAV file.
 fn advice_on_no_wave(looks: FileKind) -> Option<&'static str>
     ensures { IfSome result (λ told. IsTrue (is_told told.now)) }
 {
@@ -94,7 +94,7 @@ fn advice_on_no_wave(looks: FileKind) -> Option<&'static str>
     }
 }
 
-/// What to do about this refusal of a run over an input that begins so, if its looks tell.
+/// What to do about this error of a run over an input that begins like this, if its looks say so.
 fn advice_on_run(
     error: RunError,
     job: Option<Job>,
@@ -133,7 +133,7 @@ fn format_of(job: Job) -> Option<SampleFormat> {
     }
 }
 
-/// What to do about this refusal of an input of this kind, if that tells.
+/// What to do about this error of an input of this kind, if that says so.
 fn advice_on_kind(error: RunError, looks: FileKind, first: &[u8]) -> Option<&'static str>
     ensures { IfSome result (λ told. IsTrue (is_told told.now)) }
 {
@@ -144,7 +144,7 @@ fn advice_on_kind(error: RunError, looks: FileKind, first: &[u8]) -> Option<&'st
     }
 }
 
-/// What to do about this refusal of octets of no other kind, if they look like packed cells.
+/// What to do about this error of octets of no other kind, if they look like packed cells.
 fn advice_on_octets(error: RunError, first: &[u8]) -> Option<&'static str>
     ensures { IfSome result (λ told. IsTrue (is_told told.now)) }
 {
@@ -163,7 +163,7 @@ fn advice_on_octets(error: RunError, first: &[u8]) -> Option<&'static str>
     }
 }
 
-/// Whether it is none of the input's octets.
+/// Whether the error concerns no octets of the input.
 fn is_of_ends(error: RunError) -> bool {
     matches!(
         error,
@@ -171,7 +171,7 @@ fn is_of_ends(error: RunError) -> bool {
     )
 }
 
-/// The same of an input that is no sound file.
+/// The same for an input that is no sound file.
 fn advice_on_other(error: RunError, looks: FileKind) -> Option<&'static str>
     ensures { IfSome result (λ told. IsTrue (is_told told.now)) }
 {
@@ -206,7 +206,7 @@ fn advice_on_other(error: RunError, looks: FileKind) -> Option<&'static str>
     }
 }
 
-/// What to do where the first bytes of an input that a job took look like another kind.
+/// What to do if the first bytes of an input that a job accepted look like another kind.
 pub(crate) fn advice_on_taken(
     job: &Job,
     words: &[&str],
@@ -232,7 +232,7 @@ pub(crate) fn advice_on_taken(
     }
 }
 
-/// The same of a job that reads packed cells.
+/// The same for a job that reads packed cells.
 fn advice_on_packed(words: &[&str], looks: FileKind, first: &[u8]) -> Option<&'static str> {
     match looks {
         FileKind::CellText => Some("these are cells as text: leave `--raw-in` out"),
@@ -243,7 +243,7 @@ fn advice_on_packed(words: &[&str], looks: FileKind, first: &[u8]) -> Option<&'s
     }
 }
 
-/// Whether an input in this form has no cell: only separators, or only the octet that counts.
+/// Whether an input in this form has no cell: only separators, or only the last octet.
 fn has_no_cell(form: Form, words: &[&str], head: &[u8]) -> bool {
     match form {
         Form::Text => {

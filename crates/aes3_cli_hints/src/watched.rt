@@ -1,4 +1,4 @@
-//! What the input was, for whoever is told of a refusal.
+//! What the hints need to know of the input.
 
 ghost use Rattle.std.specs.Prelude.{◌≡◌, ◌+◌, ◌-◌, ◌≤◌, IfSome, fold, length, take};
 ghost use Rattle.aes3_cli_hints.specs.Places.{behind, one_more};
@@ -9,26 +9,25 @@ use std::alloc::Global;
 /// How many of the first bytes are kept.
 pub(crate) const HEAD_LEN: usize = 65_536;
 
-/// How many of them tell a kind of file.
+/// How many of them decide the kind of file.
 const FIRST_LEN: usize = 64;
 
-/// A source that keeps what a person has to be told of its bytes. Where nobody is told it keeps
-/// nothing.
+/// A source that keeps what the hints need of its bytes. If there are no hints it keeps nothing.
 #[derive(Drop)]
 pub struct Watched<S: Drop> {
     source: S,
     is_on: bool,
-    /// Whether it keeps where a byte stands in a text too, which takes a look at each.
+    /// Whether it also keeps the place of each byte in a text, for which it looks at all bytes.
     has_places: bool,
     head: Vec<u8>,
     /// The last bytes that the source gave.
     piece: Vec<u8>,
-    /// How many bytes it gave before these, and where the first of these stands.
+    /// How many bytes it gave before these, and the position of the first of these.
     before: u64,
     start: Position,
 }
 
-/// Where a byte of cell text stands. Both count from 1.
+/// The position of a byte in cell text. Both numbers count from 1.
 #[derive(Clone, Copy)]
 pub(crate) struct Position {
     pub line: u64,
@@ -39,7 +38,7 @@ impl Position {
     /// The first byte of all.
     const FIRST: Position = Position { line: 1, column: 1 };
 
-    /// Where the byte behind this one stands.
+    /// The position of the byte after this one.
     fn behind(self, byte: u8) -> Position
         ensures { result ≡ behind self byte }
     {
@@ -56,7 +55,7 @@ impl Position {
         }
     }
 
-    /// Where the byte behind these stands, of which this is the first.
+    /// The position of the byte after these; `self` is the position of the first of them.
     fn behind_all(self, bytes: &[u8]) -> Position
         ensures { result ≡ fold behind self bytes.now }
     {
@@ -69,7 +68,7 @@ impl Position {
 }
 
 impl<S: Source + Drop> Watched<S> {
-    /// Watches this source where it `is_on`, and keeps where its bytes stand if it `has_places`.
+    /// Watches this source if it `is_on`, and keeps the positions of its bytes if it `has_places`.
     pub fn new(alloc: Global, source: S, is_on: bool, has_places: bool) -> Self
         ensures source { result.source ≡ source }
         ensures on { result.is_on ≡ is_on }
@@ -91,12 +90,13 @@ impl<S: Source + Drop> Watched<S> {
         &self.head
     }
 
-    /// Those of them that tell what kind of file it is.
+    /// The first bytes that decide what kind of file it is.
     pub(crate) fn first(&self) -> &[u8] {
         &self.head[..self.head.len().min(FIRST_LEN)]
     }
 
-    /// Where the byte of this number stands in the text, if it was among the last that were given.
+    /// The position of the byte of this number in the text, if it was among the last bytes that
+    /// were given.
     pub(crate) fn position(&self, at: u64) -> Option<Position>
         ensures here { IfSome result (λ _. self.now.before ≤ at) }
         ensures position { IfSome result (λ position. position
@@ -107,8 +107,8 @@ impl<S: Source + Drop> Watched<S> {
         Some(self.start.behind_all(front))
     }
 
-    /// Keeps the bytes that were given in place of those before them. Where memory for them is
-    /// refused it keeps none.
+    /// Keeps the bytes that were given in place of those before them. If there is no memory for
+    /// them, it keeps none.
     fn keep(&mut self, bytes: &[u8])
         ensures source { self.new.source ≡ self.old.source }
         ensures start { self.new.start ≡ fold behind self.old.start self.old.piece.items }
@@ -119,8 +119,8 @@ impl<S: Source + Drop> Watched<S> {
         let _ = self.piece.extend_from_slice(bytes);
     }
 
-    /// Keeps the bytes that were given if they are among the first. Where memory for them is refused it
-    /// keeps none.
+    /// Keeps the bytes that were given if they are among the first. If there is no memory for them,
+    /// it keeps none.
     fn keep_first(&mut self, bytes: &[u8])
         ensures source { self.new.source ≡ self.old.source }
     {

@@ -1,16 +1,17 @@
 //! Whether samples look like those of another form than they were read as.
 //!
-//! What is heard moves little from one sample to the next, and the low bits of samples move at random.
-//! So samples look like a form where both channels move little in it, and those that were asked for
-//! look wrong where one of their channels moves as noise does. Samples of 16 bits read as 32 are the
-//! exception: the higher halves of these are a channel at double speed, and the lower ones the other.
+//! Audible sound moves little from one sample to the next, while the low bits of samples move at
+//! random. So samples look like a form if both channels move little in it. They look wrong in a
+//! form if one of their channels moves like noise. Samples of 16 bits read as 32 are the exception:
+//! the higher halves of these are a channel at double speed, and the lower halves the other
+//! channel.
 
 ghost use Rattle.std.specs.Prelude.{IfSome, IsTrue};
 ghost use Rattle.aes3_cli_hints.specs.Sentences.{is_told};
 
 use aes3_forms_samples::SampleFormat;
 
-/// The forms, the narrowest first: in a wider one samples of 16 bits can move little too.
+/// The forms, the narrowest first: samples of 16 bits can move little in a wider one too.
 const FORMATS: [SampleFormat; 4] = [
     SampleFormat::S16,
     SampleFormat::S24,
@@ -18,10 +19,11 @@ const FORMATS: [SampleFormat; 4] = [
     SampleFormat::S32,
 ];
 
-/// How far samples of a channel lie apart at least, of 65,536 steps, where they tell anything.
+/// The least range of the samples of a channel, of 65,536 steps, from which anything can be
+/// concluded.
 const LEAST_RANGE: u64 = 256;
 
-/// What to do where samples that were read in this form look like those of another.
+/// What to do if samples that were read in this form look like those of another.
 pub(crate) fn advice_on_width(format: SampleFormat, head: &[u8]) -> Option<&'static str>
     ensures { IfSome result (λ told. IsTrue (is_told told.now)) }
 {
@@ -31,7 +33,7 @@ pub(crate) fn advice_on_width(format: SampleFormat, head: &[u8]) -> Option<&'sta
     }
 }
 
-/// Another form than the one that was asked for, if the samples look like it.
+/// Another form than this one, if the samples look like it.
 fn format_by_looks(format: SampleFormat, head: &[u8]) -> Option<SampleFormat> {
     let read = Samples::of(format, head);
     for other in FORMATS {
@@ -42,7 +44,7 @@ fn format_by_looks(format: SampleFormat, head: &[u8]) -> Option<SampleFormat> {
     None
 }
 
-/// Whether they look like samples of this form, and not like those of the form that was asked for.
+/// Whether they look like samples of `other`, and not like those of the form that was asked for.
 fn looks_better(other: SampleFormat, head: &[u8], format: SampleFormat, read: Samples) -> bool {
     let samples = Samples::of(other, head);
     if !samples.is_possible || !samples.first.moves_little() || !samples.second.moves_little() {
@@ -55,7 +57,7 @@ fn looks_better(other: SampleFormat, head: &[u8], format: SampleFormat, read: Sa
     }
 }
 
-/// What to do where samples are of this form.
+/// What to do if samples are of this form.
 fn advice_on(format: SampleFormat) -> &'static str
     ensures { IsTrue (is_told result.now) }
 {
@@ -79,7 +81,7 @@ struct Samples {
 }
 
 impl Samples {
-    /// What these bytes have, taken for samples in this form.
+    /// The samples of these bytes, read in this form.
     fn of(format: SampleFormat, head: &[u8]) -> Self {
         let mut samples = Samples {
             first: Channel::NONE,
@@ -96,7 +98,7 @@ impl Samples {
     }
 }
 
-/// The byte of this number; 0 where there is none.
+/// The byte of this number; 0 if there is none.
 fn byte_at(sample: &[u8], at: usize) -> u8 {
     match sample.get(at) {
         Some(byte) => *byte,
@@ -104,7 +106,7 @@ fn byte_at(sample: &[u8], at: usize) -> u8 {
     }
 }
 
-/// The highest 16 bits of a sample, from 0, where silence is 32,768.
+/// The highest 16 bits of a sample as a number from 0 on, with silence at 32,768.
 fn high_bits(format: SampleFormat, sample: &[u8]) -> u16 {
     let at = match format {
         SampleFormat::S16 => 0,
@@ -115,7 +117,7 @@ fn high_bits(format: SampleFormat, sample: &[u8]) -> u16 {
     bits ^ 0x8000
 }
 
-/// Whether the byte above the 24 bits of a sample is its sign, where the form has such a byte.
+/// Whether the byte above the 24 bits of a sample is its sign, if the form has such a byte.
 fn carries_sign(format: SampleFormat, sample: &[u8]) -> bool {
     match format {
         SampleFormat::S24In32 => {
@@ -135,7 +137,7 @@ struct Channel {
     /// The sum of the distances from one sample to the next, and from silence.
     moved: u64,
     sizes: u64,
-    /// How many samples there are, and how many differ from the one before.
+    /// How many samples there are, and how many of them differ from the one before.
     count: u64,
     changes: u64,
 }
@@ -167,20 +169,20 @@ impl Channel {
         self.count = self.count.saturating_add(1);
     }
 
-    /// Whether the samples lie far enough apart to tell anything.
+    /// Whether the range of the samples is large enough to conclude anything.
     fn tells(self) -> bool {
         u64::from(self.most.saturating_sub(self.least)) >= LEAST_RANGE
     }
 
-    /// Whether they move by less than two fifths of their size, and do so, as what is heard does.
+    /// Whether they move, but by less than two fifths of their size, as audible sound does.
     fn moves_little(self) -> bool {
         self.tells()
             && self.moved.saturating_mul(5) < self.sizes.saturating_mul(2)
             && self.changes.saturating_mul(4) >= self.count
     }
 
-    /// Whether they move by four fifths to seventeen tenths of their size: noise does so by four thirds
-    /// to 1.42.
+    /// Whether they move by four fifths to seventeen tenths of their size. Noise does so by four
+    /// thirds to 1.42.
     fn is_noise(self) -> bool {
         self.tells()
             && self.moved.saturating_mul(5) > self.sizes.saturating_mul(4)

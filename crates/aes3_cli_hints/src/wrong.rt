@@ -3,7 +3,7 @@
 use aes3_wave::{Cause, HeaderError};
 use std::alloc::Global;
 
-/// What is wrong with a header, and where. Where memory for it is refused there is none.
+/// What is wrong with a header, and where; `None` if there is no memory.
 pub(crate) fn wrong_of(alloc: Global, error: HeaderError) -> Option<String> {
     let at = error.at;
     let text = match error.cause {
@@ -25,7 +25,7 @@ pub(crate) fn wrong_of(alloc: Global, error: HeaderError) -> Option<String> {
     text.ok()
 }
 
-/// What is wrong where that has no number.
+/// What is wrong, for causes without a number.
 fn what_of(cause: Cause) -> &'static str {
     match cause {
         Cause::NotRiff => "this does not begin as a WAV file",

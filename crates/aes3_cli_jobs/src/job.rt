@@ -1,4 +1,4 @@
-//! What the program is asked to do.
+//! The jobs of the program.
 
 ghost use Rattle.std.specs.Prelude.{◌≡◌};
 ghost use Rattle.aes3_cli_jobs.specs.Forms.{block_len, cells_len, finds_faults, reads_packed, writes_packed};
@@ -10,21 +10,21 @@ use aes3_forms_words::Words;
 use aes3_status::Change;
 use aes3_wave::{Channels, Mono};
 
-/// How many bytes of a block file make a block: 384 words of four.
+/// How many bytes of a block file make a block: 384 words of four bytes.
 const BLOCK_FILE_LEN: u64 = 1536;
 
-/// How many bytes of packed cells do: 24,576 cells, eight a byte.
+/// How many bytes of packed cells make a block: 24,576 cells, eight in each byte.
 const PACKED_LEN: u64 = 3072;
 
-/// What the program is asked to do.
+/// A job of the program.
 #[derive(Clone, Copy, PartialEq, Eq)]
 pub enum Job {
-    /// Block file to cells, its words in this form.
+    /// Block file to cells; the words of the file have this form.
     Encode {
         output: Form,
         words: Words,
     },
-    /// Cells to the normal stream of blocks of theirs.
+    /// Cells to the normal stream of some of their blocks.
     Stream {
         input: Form,
         output: Form,
@@ -35,17 +35,18 @@ pub enum Job {
         input: Form,
         work: ReadWork,
     },
-    /// Samples in a form to a block file, with channel status, its words in this form; where
-    /// `exact`, of 24 bits alone.
+    /// Samples in a form to a block file with channel status, whose words have this form. If
+    /// `exact` is true, samples of more than 24 bits are errors.
     FromPcm {
         format: SampleFormat,
         exact: bool,
         change: Change,
         words: Words,
     },
-    /// Two channels of a WAV file to a block file, the first two where none are chosen, or the only one as
-    /// `mono` says; where `exact`, of 24 bits alone. The channel status says what the header does, for consumer or professional
-    /// use, where the change gives none; the words have this form.
+    /// Two channels of a WAV file to a block file, whose words have this form. If no channels are
+    /// chosen they are the first two, or a single channel as `mono` says. If `exact` is true,
+    /// samples of more than 24 bits are errors. If the change gives no channel status, it is made
+    /// for the header, for consumer or professional use.
     FromWav {
         channels: Option<Channels>,
         mono: Mono,
@@ -56,7 +57,7 @@ pub enum Job {
     },
 }
 
-/// How many bytes of cells in this form make a block; none of text, whose line ends don't count.
+/// How many bytes of cells in this form make a block; `None` for text, whose line ends don't count.
 fn cells_len(form: Form) -> Option<u64>
     ensures { result ≡ cells_len form }
 {
@@ -67,7 +68,7 @@ fn cells_len(form: Form) -> Option<u64>
 }
 
 impl Job {
-    /// Whether it reads packed cells.
+    /// Whether the job reads packed cells.
     pub fn reads_packed(&self) -> bool
         ensures { result ≡ reads_packed self.now }
     {
@@ -77,7 +78,7 @@ impl Job {
         }
     }
 
-    /// Whether it writes packed cells.
+    /// Whether the job writes packed cells.
     pub fn writes_packed(&self) -> bool
         ensures { result ≡ writes_packed self.now }
     {
@@ -89,8 +90,8 @@ impl Job {
         }
     }
 
-    /// How many bytes of its input make a block; none of cells as text, and of a WAV file, whose header says
-    /// that.
+    /// How many bytes of its input make a block. `None` for cells as text, and for a WAV file,
+    /// whose header determines it.
     pub fn block_len(&self) -> Option<u64>
         ensures { result ≡ block_len self.now }
     {
@@ -102,8 +103,8 @@ impl Job {
         }
     }
 
-    /// Whether it looks for faults, so that its exit status is 1 if it finds any: `check`, `watch` and
-    /// `info` do.
+    /// Whether the job looks for faults, so that its exit status is 1 if it finds any: `check`,
+    /// `watch` and `info` do.
     pub fn finds_faults(&self) -> bool
         ensures { result ≡ finds_faults self.now }
     {

@@ -1,11 +1,11 @@
-//! What the program can be asked to do, and whoever is told beside the streams how that goes on.
+//! The jobs of the program, and observers of their progress besides the streams.
 #![tactic(auto)]
 
 /// The jobs.
 mod job;
-/// Whoever is told how a job goes on.
+/// Observers of a job.
 mod observer;
-/// Why a job is refused.
+/// Why a job is rejected.
 mod refusal;
 /// What is done with the cells that a job reads.
 mod work;

@@ -6,11 +6,11 @@ ghost use Rattle.aes3_cli_jobs.specs.Hearing.{Hearing, with_job, with_refusal};
 use crate::job::Job;
 use crate::refusal::Refusal;
 
-/// Hears how a run goes on. It has neither the input nor the output, and standard error gets its lines
-/// without it.
+/// Observes how a run proceeds. It has neither the input nor the output, and the run writes its
+/// lines to standard error itself.
 ///
-/// The contract speaks of all bytes that it has written (`told`, if they are known), of whether it is one
-/// that writes nothing (`is_silent`), and of what it has heard (`heard`).
+/// The contract speaks of all bytes that it has written (`told`, if they are known), of whether it
+/// writes nothing (`is_silent`), and of what it has observed (`heard`).
 pub trait Observer {
     ghost told: { Self → Option (List ℕ) };
 
@@ -25,7 +25,7 @@ pub trait Observer {
         ensures heard { (hearing : Hearing) → heard self.old hearing
             → heard self.new (with_job job.now hearing) };
 
-    /// The line of this refusal has been written.
+    /// The line of this error has been written.
     fn refused(&mut self, error: Refusal)
         ensures told { told self.new ≡ told self.old }
         ensures same { is_silent self.new ≡ is_silent self.old }
@@ -33,7 +33,7 @@ pub trait Observer {
             → heard self.new (with_refusal (Some error) hearing) };
 }
 
-/// An observer that looks away.
+/// An observer that ignores everything.
 #[derive(Clone, Copy)]
 pub struct Nobody;
 
@@ -42,7 +42,7 @@ impl Observer for Nobody {
 
     ghost is_silent = { λ _. true };
 
-    // It keeps nothing, so whatever was heard is as good as anything else.
+    // It keeps nothing, so anything holds of what it has observed.
     ghost heard = { λ _ _. ⊤ };
 
     fn begins(&mut self, _job: &Job) {}

@@ -1,4 +1,4 @@
-//! Why a command line or its job is refused.
+//! Why a command line or its job is rejected.
 
 ghost use Rattle.std.specs.Prelude.{◌≡◌};
 ghost use Rattle.aes3_cli_jobs.specs.Refusals.{number_of_refusal, place_of_refusal};
@@ -6,19 +6,19 @@ ghost use Rattle.aes3_cli_jobs.specs.Refusals.{number_of_refusal, place_of_refus
 use aes3_cell::RunError;
 use aes3_wave::HeaderError;
 
-/// Why a command line or its job is refused.
+/// Why a command line or its job is rejected.
 #[derive(Clone, Copy, PartialEq, Eq)]
 pub enum Refusal {
-    /// As a run over cells, words or samples is.
+    /// An error of a run over cells, words or samples.
     Run(RunError),
     /// The header of a WAV file is wrong or of a format that is not read, and where.
     Header(HeaderError),
-    /// A channel is asked for that a WAV file does not have: how many it has.
+    /// A WAV file does not have a chosen channel; `channels` is how many it has.
     NoChannel { channels: u16 },
 }
 
 impl Refusal {
-    /// Its number, 1 to 15, as the program prints it.
+    /// The number of the error, 1 to 15, as the program prints it.
     pub fn number(&self) -> u8
         ensures { result ≡ number_of_refusal self.now }
     {
@@ -29,8 +29,8 @@ impl Refusal {
         }
     }
 
-    /// Where what is wrong stands: for a run its place, for a header an octet of the file, from 0, and for
-    /// a channel how many the file has.
+    /// The place of the error. For a run it is the run's. For a header it is an octet of the file,
+    /// counted from 0. For a channel it is how many channels the file has.
     pub fn place(&self) -> Option<u64>
         ensures { result ≡ place_of_refusal self.now }
     {

@@ -10,22 +10,22 @@ use aes3_status::{CarriedBits, Change};
 use aes3_status_text::{Detail, Lines, Notation, Style};
 use aes3_wave::Depth;
 
-/// Of which blocks a normal stream is written, and how they are changed.
+/// Which blocks are written as a normal stream, and how they are changed.
 #[derive(Clone, Copy, PartialEq, Eq)]
 pub enum StreamWork {
     /// All blocks.
     Normal,
     /// `count` blocks, the first of which has the number `from`.
     Cut { from: u64, count: u64 },
-    /// All blocks, with other channel status, validity and user bits; where `exact`, up to the first
-    /// block whose status leaves out a setting.
+    /// All blocks, with changed channel status, validity and user bits. If `exact` is true, only up
+    /// to the first block whose status leaves out a setting.
     Rewrite { change: Change, exact: bool },
 }
 
-/// What is written of cells that is no cells.
+/// Output that is made from cells and is not cells.
 #[derive(Clone, Copy, PartialEq, Eq)]
 pub enum ReadWork {
-    /// A block file, its words in this form.
+    /// A block file whose words have this form.
     Decode {
         words: Words,
     },
@@ -33,16 +33,16 @@ pub enum ReadWork {
     Check {
         lines: Lines,
     },
-    /// The same, and a line for each gap, cells that lie in no whole block.
+    /// The same, and a line for each gap: cells that lie in no whole block.
     Account {
         lines: Lines,
     },
-    /// A line where what is known of a line changes: locked, lost, back, slipped and its end, in
-    /// this style.
+    /// A line if what is known of a line changes: locked, lost, back, slipped and its end, in this
+    /// style.
     Watch {
         style: Style,
     },
-    /// The same, and a line of what was counted so far for each `every` cells, from 1 to 2^40.
+    /// The same, and a line of counts for each `every` cells, from 1 to 2^40.
     WatchSums {
         style: Style,
         every: u64,
@@ -51,17 +51,18 @@ pub enum ReadWork {
     Info {
         notation: Notation,
     },
-    /// Two lines of channel status for each block, with this behind them.
+    /// Two lines of channel status for each block, followed by this detail.
     Show {
         detail: Detail,
     },
-    /// Those of them whose status differs from that of the block before.
+    /// Those of these lines whose status differs from that of the block before.
     ShowChanges {
         detail: Detail,
     },
     /// A line for each preamble.
     Scan,
-    /// The samples of blocks, in this form; where `valid`, with zero for those that are not.
+    /// The samples of blocks, in this form. If `valid` is true, zero for samples that are not
+    /// valid.
     ToPcm {
         format: SampleFormat,
         valid: bool,
@@ -71,27 +72,28 @@ pub enum ReadWork {
         format: SampleFormat,
     },
     /// The samples of blocks, in this form, with frames between them that fill the time which no
-    /// block gives; where `marked`, of blocks with wrong parity bits too, and these subframes are
-    /// filled.
+    /// block covers. If `marked` is true, blocks with wrong parity bits are given too, with the
+    /// wrong subframes filled.
     ToFilledPcm {
         format: SampleFormat,
         fill: Fill,
         marked: bool,
     },
-    /// A WAV file of the samples of blocks, with this width; where `valid`, with zero for those that are
-    /// not. Its sampling frequency is this in hertz, or else that which the first block names.
+    /// A WAV file of the samples of blocks, with this width. If `valid` is true, zero for samples
+    /// that are not valid. Its sampling frequency is `rate` in hertz, or else the one that the
+    /// first block names.
     ToWav {
         depth: Depth,
         rate: Option<u32>,
         valid: bool,
     },
-    /// Such a file of the samples up to the first block that would lose bits.
+    /// Such a file with the samples up to the first block that would lose bits.
     ToExactWav {
         depth: Depth,
         rate: Option<u32>,
     },
-    /// Such a file with frames between blocks that fill the time which no block gives; where `marked`,
-    /// of blocks with wrong parity bits too, and these subframes are filled.
+    /// Such a file with frames between blocks that fill the time which no block covers. If `marked`
+    /// is true, blocks with wrong parity bits are given too, with the wrong subframes filled.
     ToFilledWav {
         depth: Depth,
         rate: Option<u32>,
@@ -106,7 +108,7 @@ pub enum ReadWork {
 }
 
 impl ReadWork {
-    /// Whether it looks for faults.
+    /// Whether the work looks for faults.
     pub(crate) fn finds_faults(&self) -> bool
         ensures { result ≡ read_finds_faults self.now }
     {
@@ -120,7 +122,7 @@ impl ReadWork {
         )
     }
 
-    /// The width of the samples of the WAV file that is written; none where none is.
+    /// The width of the samples of the WAV file that is written; `None` if none is written.
     pub fn wave_depth(&self) -> Option<Depth>
         ensures { result ≡ wave_depth self.now }
     {

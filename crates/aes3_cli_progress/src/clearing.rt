@@ -1,4 +1,4 @@
-//! What is written where a line of progress may stand.
+//! A sink that clears the line of progress before it writes.
 
 ghost use Rattle.std.specs.Prelude.{◌≡◌, ◌≤◌, ◌<◌, ◌+◌, ◌^◌, IfOk, IsFalse, OnErr, length, take};
 ghost use Rattle.std.specs.Option.{is_some};
@@ -8,7 +8,7 @@ use crate::progress::ERASE;
 use aes3_cell::{Fault, Sink, write_all};
 use std::cell::Cell;
 
-/// A sink that takes away what is told of a file's progress before anything is written there.
+/// A sink that erases a file's line of progress before anything is written in its place.
 #[derive(Drop)]
 pub struct Clearing<'a, T: Drop, E: Drop> {
     sink: T,
@@ -18,8 +18,8 @@ pub struct Clearing<'a, T: Drop, E: Drop> {
 }
 
 impl<'a, T: Sink + Drop, E: Sink + Drop> Clearing<'a, T, E> {
-    /// Writes to `sink`, and before that to `errors`, which is standard error, if a line is `shown`
-    /// there and it `is_on`, since the sink is a terminal.
+    /// Writes to `sink`. If a line is `shown` on standard error, it is erased before, through
+    /// `errors`, but only if this sink `is_on`, because it is a terminal.
     pub fn new(sink: T, errors: E, shown: &'a Cell<bool>, is_on: bool) -> Self
         ensures sink { result.sink ≡ sink }
         ensures errors { result.errors ≡ errors }

@@ -1,7 +1,7 @@
-//! How far a long file has been read, told at a terminal, and what takes that line away again.
+//! The progress of reading a long file, on a terminal, and erasing that line.
 #![tactic(auto)]
 
-/// What is written where a line of progress may stand.
+/// A sink that clears the line of progress before it writes.
 mod clearing;
 /// How far a file has been read.
 mod progress;

@@ -1,4 +1,4 @@
-//! How far a long file has been read, told at a terminal.
+//! The progress of reading a long file, on a terminal.
 
 ghost use Rattle.std.specs.Prelude.{◌≡◌, ◌≤◌, ◌<◌, ◌+◌, ◌^◌, ◌↔◌, IsTrue, IfOk, OnErr, None, length, take};
 ghost use Rattle.aes3_cell.specs.Ends.{Grew};
@@ -10,24 +10,24 @@ use std::alloc::Global;
 use std::cell::Cell;
 use std::time::{Clock, Instant};
 
-/// What takes away the rest of a terminal's line, from where the cursor stands on.
+/// The sequence that erases a terminal's line from the cursor on.
 pub(crate) const ERASE: &[u8] = b"\x1B[K";
 
-/// How many hundredths of a file of `len` bytes are read with its first `bytes`.
+/// How many percent of a file of `len` bytes its first `bytes` bytes are.
 fn percent(bytes: u64, len: u64) -> u128
     ensures { result ≡ percent bytes len }
 {
     (u128::from(bytes) * 100 / u128::from(len.max(1))).min(100)
 }
 
-/// How many millions of bytes a second these are, read in so many microseconds.
+/// How many millions of bytes per second these bytes are, read in `micros` microseconds.
 fn rate(bytes: u64, micros: u128) -> u128
     ensures { result ≡ rate bytes micros }
 {
     u128::from(bytes) / micros.max(1)
 }
 
-/// How far a file has been read that is told of.
+/// The progress of reading a file, as it is reported.
 #[derive(Clone, Copy)]
 pub struct Course {
     begun: Instant,
@@ -36,12 +36,12 @@ pub struct Course {
     /// How many bytes were read, and how many of them count.
     bytes: u64,
     counted: u64,
-    /// The second in which it was last told, from the beginning.
+    /// The second, from the beginning, in which it was last reported.
     second: u64,
 }
 
 impl Course {
-    /// That of a file of `len` bytes, begun now. Where there is no clock there is none.
+    /// The progress of a file of `len` bytes, begun now; `None` without a clock.
     pub fn new(clock: &impl Clock, len: u64, unit: Unit) -> Option<Self> {
         let begun = Instant::now(clock).ok()?;
         Some(Course {
@@ -54,7 +54,7 @@ impl Course {
         })
     }
 
-    /// The course with these bytes behind the others.
+    /// The progress after these bytes.
     fn with(self, bytes: &[u8]) -> Self {
         Course {
             bytes: self.bytes.saturating_add(bytes.len() as u64),
@@ -63,8 +63,7 @@ impl Course {
         }
     }
 
-    /// The line that tells it; the cursor then stands where it began. Where memory for it is refused
-    /// there is none.
+    /// The line of progress; the cursor then is at its beginning. `None` if there is no memory.
     fn line(self, alloc: Global, micros: u128) -> Option<String> {
         let percent = percent(self.bytes, self.len);
         let rate = rate(self.bytes, micros);
@@ -79,8 +78,8 @@ impl Course {
     }
 }
 
-/// A source that tells at a terminal how far it has been read, once a second, where it is a file. It
-/// takes the line away at the end.
+/// A source that reports on a terminal how far it has been read, once a second, if it is a file. It
+/// erases the line at the end.
 #[derive(Drop)]
 pub struct Progress<'a, C: Drop, S: Drop, T: Drop> {
     alloc: Global,
@@ -92,8 +91,8 @@ pub struct Progress<'a, C: Drop, S: Drop, T: Drop> {
 }
 
 impl<'a, C: Clock + Drop, S: Source + Drop, T: Sink + Drop> Progress<'a, C, S, T> {
-    /// Tells to `sink`, which is standard error, of this source, if it is in such a course. Whether a
-    /// line stands there is in `shown`.
+    /// Reports to `sink`, which is standard error, on this source, if there is a `course`. `shown`
+    /// says whether a line is there.
     pub fn new(
         alloc: Global,
         clock: C,
@@ -116,14 +115,14 @@ impl<'a, C: Clock + Drop, S: Source + Drop, T: Sink + Drop> Progress<'a, C, S, T
         }
     }
 
-    /// The source that it tells of.
+    /// The source that it reports on.
     pub fn source(&self) -> &S
         ensures { result.now ≡ self.now.source }
     {
         &self.source
     }
 
-    /// Takes the line away.
+    /// Erases the line.
     pub fn end(&mut self)
         ensures silent { self.old.course ≡ None → T.taken self.new.sink ≡ T.taken self.old.sink }
         ensures source { self.new.source ≡ self.old.source }
@@ -135,7 +134,7 @@ impl<'a, C: Clock + Drop, S: Source + Drop, T: Sink + Drop> Progress<'a, C, S, T
         }
     }
 
-    /// Goes on in the course with the bytes that were read, and tells it where a second has begun.
+    /// Counts the bytes that were read, and reports if a new second has begun.
     fn go_on(&mut self, bytes: &[u8])
         ensures silent { self.old.course ≡ None → T.taken self.new.sink ≡ T.taken self.old.sink }
         ensures off { self.old.course ≡ None → self.new.course ≡ None }
@@ -157,7 +156,7 @@ impl<'a, C: Clock + Drop, S: Source + Drop, T: Sink + Drop> Progress<'a, C, S, T
         self.course = Some(course);
     }
 
-    /// Tells this, unless that has failed before.
+    /// Writes these bytes, unless writing has failed before.
     fn tell(&mut self, bytes: &[u8])
         ensures source { self.new.source ≡ self.old.source }
         ensures course { self.new.course ≡ self.old.course }

@@ -1,16 +1,16 @@
-//! What a file has, and which of its bytes count.
+//! What a file consists of, and which of its bytes count.
 
 /// How many cells make a block.
 const CELLS: u64 = 24_576;
 
-/// What a file has.
+/// What a file consists of.
 #[derive(Clone, Copy)]
 pub enum Unit {
-    /// Blocks of so many bytes, which `aes3` reads.
+    /// Blocks of this number of bytes, which `aes3` reads.
     Bytes(u64),
     /// Cells as text, which `aes3` reads; line ends don't count.
     Cells,
-    /// Samples of a capture, which `aes3-cells` reads: how many blocks these are is not known.
+    /// Samples of a capture, which `aes3-cells` reads: the number of blocks is not known.
     Samples,
 }
 
@@ -26,7 +26,7 @@ impl Unit {
         }
     }
 
-    /// How many blocks so many bytes that count are.
+    /// How many blocks this number of counted bytes is.
     pub(crate) fn blocks(self, counted: u64) -> u64 {
         let block_len = match self {
             Unit::Bytes(len) => len,

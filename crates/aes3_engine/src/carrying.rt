@@ -1,4 +1,4 @@
-//! Cells to the bits that the subframes of their blocks carry behind their audio.
+//! Cells to the V, U or C bits of their blocks.
 
 ghost use Rattle.std.specs.Prelude.{◌≡◌, ℕ, ◌+◌, ◌<◌, ◌≤◌, ◌^◌, List, [], Bool, IfOk};
 ghost use Rattle.std.specs.List.{All};
@@ -17,7 +17,7 @@ use aes3_cell::{Counts, Fault, Form, RunError, Sink, Source, write_all};
 use aes3_lock_runs::{BlockWriter, run_blocks};
 use aes3_status::CarriedBits;
 
-/// The bits of a channel in a block, as octets.
+/// The V, U or C bits of a channel in a block, as octets.
 fn carried(block: &Block, bits: CarriedBits, channel: Channel) -> [u8; 24]
     ensures { result ≡ carried bits channel block.now }
 {
@@ -28,7 +28,7 @@ fn carried(block: &Block, bits: CarriedBits, channel: Channel) -> [u8; 24]
     }
 }
 
-/// Writes the bits that a channel carries in blocks.
+/// Writes the bits of one kind that a channel carries in blocks.
 #[derive(Drop)]
 struct CarriedBlocks {
     bits: CarriedBits,
@@ -49,14 +49,14 @@ impl BlockWriter for CarriedBlocks {
     }
 }
 
-/// Reads cells from any cell on, and writes the bits that one channel carries in the blocks that
-/// stand whole and closed in them: the validity bits, the user bits or the channel status of its
-/// 192 subframes are 24 octets a block. Bit `i % 8` of octet `i / 8` is the bit of frame `i`, bit 0
-/// the lowest (AES3-1, AES3-2, IEC 60958-1).
+/// Reads cells from any cell on, and writes the bits that one channel carries in the whole, closed
+/// blocks in them. These are the validity bits, the user bits or the channel status, 24 octets for
+/// each block. Bit `i % 8` of octet `i / 8` is the bit of frame `i`, bit 0 the lowest (AES3-1,
+/// AES3-2, IEC 60958-1).
 ///
 /// # Errors
-/// Those of `normalise`; then the bits are written of the blocks that were decided before, and
-/// after `Write` a front of them.
+/// Those of `normalise`. The bits of the blocks that were decided before are written; after
+/// `Write`, a front of them.
 pub fn to_bits<S: Source, T: Sink>(
     source: &mut S,
     sink: &mut T,
@@ -69,17 +69,17 @@ pub fn to_bits<S: Source, T: Sink>(
     requires sink_room { T.failed sink.old + 1 < 2 ^ 64 }
     requires limit { max_bytes ≤ 2 ^ 40 }
 
-    // Where it answers Ok, exactly these bits of the blocks that stand whole and closed in the
-    // input are written, block behind block.
+    // If it returns Ok, exactly these bits of the whole, closed blocks in the input are written,
+    // one block after the other.
     ensures bits { IfOk result (λ _. (b : List ℕ) → Told (S.given source.old) (S.given source.new) b
         → Grew (T.taken sink.old) (T.taken sink.new)
         (all_carried bits channel (blocks (cells_of input b)))) }
-    // What `encode` writes of blocks gives their bits.
+    // From what `encode` writes for blocks it writes their bits.
     ensures back { IfOk result (λ _. (bs : List (List (List Bool))) → All IsBlock bs
         → Told (S.given source.old) (S.given source.new) (written_stream input bs)
         → Grew (T.taken sink.old) (T.taken sink.new) (all_carried bits channel bs)) }
-    // It is a run over cells: Ok is owed, a refusal has its cause, and what was decided before it
-    // is written.
+    // A run over cells: it returns Ok if it can. An error has its cause, and what was decided
+    // before it is written.
     ensures run { CellRun max_bytes input (record {
       whole = λ c. all_carried bits channel (blocks c);
       begun = λ c. all_carried bits channel (decided_blocks c);

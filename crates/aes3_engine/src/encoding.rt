@@ -19,8 +19,8 @@ use aes3_block::{BLOCK_BYTES, BLOCK_CELLS, Block, BlockFile, SLOTS, fill_block_c
 use aes3_cell::{Counts, Fault, Form, Level, RunError, Sink, Source, put_ending, put_words};
 use aes3_input::{Input, convert};
 
-/// Writes the cells of each block in a form, and counts the blocks. The cells are made in words
-/// that it keeps, which so are cleared once.
+/// Writes the cells of each block in a form, and counts the blocks. It keeps the words for the
+/// cells, so that they are cleared only once.
 #[derive(Drop)]
 pub(crate) struct Encoder {
     pub(crate) output: Form,
@@ -32,7 +32,7 @@ pub(crate) fn blank_cells() -> [u64; SLOTS] {
     [0; SLOTS]
 }
 
-/// Writes the cells of a block, which it makes in `cells`.
+/// Makes the cells of a block in `cells`, and writes them.
 fn put_cells<T: Sink>(
     output: Form,
     block: &Block,
@@ -74,8 +74,8 @@ fn take_byte<T: Sink>(
     }
 }
 
-/// Takes the four bytes that a piece begins with, where a reader takes them as a word; says whether
-/// it did.
+/// Takes the first four bytes of a piece if the reader takes them as a word. Returns whether it
+/// did.
 fn feed_front(file: &mut BlockFile, piece: &[u8]) -> bool
     requires { file.old.seen + length piece.now ≤ 2 ^ 40 }
     ensures bound { result ≡ true → 4 ≤ length piece.now }
@@ -88,7 +88,7 @@ fn feed_front(file: &mut BlockFile, piece: &[u8]) -> bool
     }
 }
 
-/// Takes the bytes of a whole block that a piece begins with, where a reader takes them as one.
+/// Takes the bytes of a whole block at the front of a piece, if the reader takes them as one.
 fn feed_block(file: &mut BlockFile, piece: &[u8]) -> Option<Block>
     requires { file.old.seen + length piece.now ≤ 2 ^ 40 }
     ensures bound { IfSome result (λ _. BLOCK_BYTES ≤ length piece.now) }
@@ -102,8 +102,8 @@ fn feed_block(file: &mut BlockFile, piece: &[u8]) -> Option<Block>
     }
 }
 
-/// Takes a word's four bytes where they neither are a fault nor end a block, else one byte; answers
-/// how many.
+/// Takes a word's four bytes if they are no fault and end no block, else one byte. Returns how
+/// many.
 fn take_few<T: Sink>(
     file: &mut BlockFile,
     encoder: &mut Encoder,
@@ -128,8 +128,8 @@ fn take_few<T: Sink>(
 impl Input<Encoder> for BlockFile {
     ghost state = { λ file encoder. encoding_state encoder.output file encoder.blocks };
 
-    /// Takes the bytes of a whole block where none is begun and its words are lawful, else a word's
-    /// or one.
+    /// Takes the bytes of a whole block if no block is begun and its words are valid, else those of
+    /// a word or one byte.
     fn take_front<T: Sink>(
         &mut self,
         encoder: &mut Encoder,
@@ -159,13 +159,16 @@ impl Input<Encoder> for BlockFile {
     }
 }
 
-/// Writes the cells of a block file's blocks, one block behind the other in the normal polarity:
-/// the level before the first is `Low` (AES3-3, IEC 60958-1).
+/// Writes the cells of the blocks of a block file, one after the other, in the normal polarity: the
+/// level before the first cell is `Low` (AES3-3, IEC 60958-1).
 ///
 /// # Errors
-/// `BadCode`, `BadParity` and `BadLength` where the input is no block file, `TooLong` where it has
-/// more than `max_bytes` bytes, `Read` and `Write` where an end failed. Then the blocks that were
-/// whole before are written without an ending, and after `Write` a front of the output.
+/// - `BadCode`, `BadParity` and `BadLength` if the input is no block file.
+/// - `TooLong` if it has more than `max_bytes` bytes.
+/// - `Read` and `Write` if the input or output failed.
+///
+/// The blocks that were whole before are written without an ending; after `Write`, a front of the
+/// output.
 pub fn encode<S: Source, T: Sink>(
     source: &mut S,
     sink: &mut T,
@@ -176,7 +179,7 @@ pub fn encode<S: Source, T: Sink>(
     requires sink_room { T.failed sink.old + 1 < 2 ^ 64 }
     requires limit { max_bytes ≤ 2 ^ 40 }
 
-    // Where it answers Ok, the input was a block file and the cells of its blocks are written.
+    // If it returns Ok, the input was a block file and the cells of its blocks are written.
     ensures cells { IfOk result (λ _. (blocks : List (List (List Bool))) → All IsBlock blocks
         → Told (S.given source.old) (S.given source.new) (file blocks)
         → Grew (T.taken sink.old) (T.taken sink.new) (written output (stream Level.Low blocks))) }
@@ -184,19 +187,19 @@ pub fn encode<S: Source, T: Sink>(
         → Told (S.given source.old) (S.given source.new) b
         → Grew (T.taken sink.old) (T.taken sink.new)
         (written output (stream Level.Low (file_blocks b)))) }
-    // What `decode` writes of cells gives what `normalise` writes of them.
+    // From what `decode` writes for cells it writes what `normalise` writes for them.
     ensures decoded { IfOk result (λ _. (c : List Level)
         → Told (S.given source.old) (S.given source.new) (file (blocks c))
         → Grew (T.taken sink.old) (T.taken sink.new) (written output (normal c))) }
     ensures passed_on { IfOk result (λ _. T.passed sink.new ≡ T.taken sink.new) }
 
-    // It owes Ok where the input is a block file that fits, and neither end failed.
+    // It returns Ok if the input is a block file that fits, and neither input nor output failed.
     ensures owed { (b : List ℕ) → Told (S.given source.old) (S.given source.new) b → IsBlockFile b
         → length b ≤ max_bytes
         → S.failed source.new ≡ S.failed source.old → T.failed sink.new ≡ T.failed sink.old
         → IsOk result }
 
-    // What it answers to every input, and has written then.
+    // What it returns for every input, and what it has written then.
     ensures run { InputRun (encoded_file output) max_bytes (S.has_ended source.new)
         (movement_of S.given S.failed source.old source.new)
         (movement_of T.taken T.failed sink.old sink.new) result }

@@ -21,18 +21,18 @@ use aes3_forms_samples::SampleFormat;
 use aes3_lock::{Ending, Lock};
 use aes3_lock_runs::{Reporter, run_reports};
 
-/// What a run answers that gives blocks exactly.
+/// The result of a run that gives blocks exactly.
 #[derive(Clone, Copy)]
 pub struct Exact {
-    /// What it counted, of the blocks behind the first that it did not give too.
+    /// Its counts, including the blocks after the first one that it did not give.
     pub counts: Counts,
-    /// The place of the first block that would have lost something, bits of its samples or settings
-    /// for its status: it is not written, and nothing behind it is.
+    /// The place of the first block that would have lost something: bits of its samples, or
+    /// settings for its status. Neither that block nor what follows it is written.
     pub refused: Option<u64>,
 }
 
-/// Writes the samples of blocks in 16 bits, up to the first that would lose bits. It has no other
-/// form, so that what it found tells of no form that it might have had.
+/// Writes the samples of blocks in 16 bits, up to the first block that would lose bits. It has this
+/// form only, so that its result depends on no form.
 #[derive(Drop)]
 pub struct ExactBlocks {
     /// The place of the first block that would have lost bits.
@@ -47,7 +47,7 @@ impl ExactBlocks {
         ExactBlocks { refused: None }
     }
 
-    /// Writes the samples of a block at a place where they lose nothing, and nothing has before.
+    /// Writes the samples of a block at a place, if they lose nothing and no samples before did.
     ///
     /// # Errors
     /// The sink's fault; then it has taken a front of the bytes.
@@ -131,7 +131,7 @@ fn to_exact_16<S: Source, T: Sink>(
     })
 }
 
-/// Does what [`to_exact_pcm`] does, in a form that holds 24 bits, where no sample loses any.
+/// Does what [`to_exact_pcm`] does, in a form that holds 24 bits, so that no sample loses any.
 fn to_exact_24<S: Source, T: Sink>(
     source: &mut S,
     sink: &mut T,
@@ -155,9 +155,9 @@ fn to_exact_24<S: Source, T: Sink>(
     })
 }
 
-/// Reads cells from any cell on, and writes the samples of the blocks that stand whole and closed
-/// in them as `to_pcm` does, but only up to the first block whose samples would lose bits in this
-/// form, which is told at the end: in 16 bits one of more than 16. The input is read to its end.
+/// Writes the samples of blocks as `to_pcm` does, but only up to the first block whose samples
+/// would lose bits in this form. In 16 bits, that is a block with a sample of more than 16 bits.
+/// Its place is returned at the end: the input is read to its end.
 ///
 /// # Errors
 /// Those of `to_pcm`.
@@ -172,12 +172,12 @@ pub fn to_exact_pcm<S: Source, T: Sink>(
     requires sink_room { T.failed sink.old + 1 < 2 ^ 64 }
     requires limit { max_bytes ≤ 2 ^ 40 }
 
-    // Where it refuses no block, the samples of all blocks are written, as by `to_pcm`.
+    // If no block is refused, the samples of all blocks are written, as by `to_pcm`.
     ensures all { IfOk result (λ exact. (b : List ℕ) → exact.refused ≡ None
         → Told (S.given source.old) (S.given source.new) b
         → Grew (T.taken sink.old) (T.taken sink.new)
         (narrowed format (samples (blocks (cells_of input b))))) }
-    // What it answers to every input, and has written then.
+    // What it returns for every input, and what it has written then.
     ensures run { InputRun (exact_cells input format) max_bytes (S.has_ended source.new)
         (movement_of S.given S.failed source.old source.new)
         (movement_of T.taken T.failed sink.old sink.new) result }

@@ -1,4 +1,4 @@
-//! Cells to samples that keep time: frames between whole blocks fill the time that no block gives.
+//! Cells to samples that keep time: frames between whole blocks fill the time that no block covers.
 
 ghost use Rattle.std.specs.Prelude.{◌≡◌, ℕ, ◌+◌, ◌-◌, ◌*◌, ◌/◌, ◌<◌, ◌≤◌, ◌^◌, ◌++◌, List, [], ◌∷◌, Bool};
 ghost use Rattle.std.specs.Prelude.{IfOk, Some, None, drop, false, length};
@@ -27,36 +27,36 @@ use aes3_frame::Fill;
 use aes3_lock::{Ending, Lock};
 use aes3_lock_runs::{Reporter, run_reports};
 
-/// How many cells a frame has, how many bytes its samples, and how many frames a block has (AES3-3).
+/// The cells of a frame, the bytes of its samples, and the frames of a block (AES3-3).
 const FRAME_CELLS: u64 = 128;
 
 const FRAME_BYTES: usize = 8;
 
 const BLOCK_FRAMES: u64 = 192;
 
-/// What a run has counted that fills time between blocks.
+/// The counts of a run that fills time between blocks.
 #[derive(Clone, Copy)]
 pub struct Filled {
     /// The counts of any run over cells.
     pub counts: Counts,
-    /// Frames that stand between blocks, where none gives the time.
+    /// Frames written between blocks, for time that no block covers.
     pub frames: u64,
     /// Marked blocks that are given.
     pub marked: u64,
 }
 
-/// How far samples of 32 bits have come.
+/// The progress of writing samples of 32 bits.
 #[derive(Clone, Copy)]
 struct Progress {
     /// The place of the first block.
     first: u64,
     /// How many frames there are from it on.
     frames: u64,
-    /// The samples of a frame that fills.
+    /// The samples of a frame of filling.
     frame: [u8; FRAME_BYTES],
 }
 
-/// How many frames stand before a block at a place, where the first block is at place `first`.
+/// How many frames there are before a block at place `at`, if the first block is at place `first`.
 fn frames_between(first: u64, at: u64) -> u64
     ensures count { result ≡ frames_between first at }
     ensures few { result < 2 ^ 58 }
@@ -65,7 +65,7 @@ fn frames_between(first: u64, at: u64) -> u64
     cells / FRAME_CELLS + cells % FRAME_CELLS / (FRAME_CELLS / 2)
 }
 
-/// How many frames are beside those of so many blocks, and of so many marked ones.
+/// How many of these frames belong neither to a block nor to a marked block.
 fn beside_blocks(frames: u64, blocks: u64, marked: u64) -> u64
     ensures { (beside : ℕ) → frames ≡ block_frames * (blocks + marked) + beside
         → result ≡ beside }
@@ -75,7 +75,7 @@ fn beside_blocks(frames: u64, blocks: u64, marked: u64) -> u64
         .saturating_sub(BLOCK_FRAMES.saturating_mul(marked))
 }
 
-/// The samples of a frame that fills the time behind the samples of a block.
+/// The samples of a frame that fills the time after the samples of a block.
 fn filling(fill: Fill, samples: &[u8; BLOCK_BYTES]) -> [u8; FRAME_BYTES]
     ensures { (b : List (List Bool)) → samples.now ≡ block_samples b → result ≡ filling fill b }
 {
@@ -87,7 +87,7 @@ fn filling(fill: Fill, samples: &[u8; BLOCK_BYTES]) -> [u8; FRAME_BYTES]
     frame
 }
 
-/// Writes a frame so many times.
+/// Writes a frame `count` times.
 ///
 /// # Errors
 /// The sink's fault; then it has taken a front of the bytes.
@@ -101,7 +101,7 @@ fn put_frames<T: Sink>(sink: &mut T, frame: &[u8], count: u64) -> Result<(), Fau
     Ok(())
 }
 
-/// Writes a frame of samples of 32 bits in this form so many times.
+/// Writes a frame of samples of 32 bits in this form `count` times.
 ///
 /// # Errors
 /// The sink's fault; then it has taken a front of the bytes.
@@ -143,8 +143,8 @@ impl FilledBlocks {
         }
     }
 
-    /// How many frames fill the time between the blocks that it has written, so many whole and so
-    /// many marked ones: of all frames those that are of no block.
+    /// How many frames fill the time between the blocks that it has written, `blocks` whole ones
+    /// and `marked` marked ones: all frames that belong to no block.
     pub fn frames(&self, blocks: u64, marked: u64) -> u64
         ensures { (xs : List Placed) → Apart 0 xs
             → self.now.progress ≡ progress_of self.now.fill xs
@@ -174,7 +174,7 @@ impl FilledBlocks {
         }
     }
 
-    /// Takes note that the samples of a block at a place are written.
+    /// Notes that the samples of a block at a place are written.
     fn note(&mut self, at: u64, samples: &[u8; BLOCK_BYTES])
         ensures fill { self.new.fill ≡ self.old.fill }
         ensures format { self.new.format ≡ self.old.format }
@@ -193,7 +193,7 @@ impl FilledBlocks {
         });
     }
 
-    /// Writes the samples of a block at a place behind what fills the time before it.
+    /// Writes what fills the time before a block at a place, and then its samples.
     ///
     /// # Errors
     /// The sink's fault; then it has taken a front of the bytes.
@@ -313,15 +313,17 @@ fn fill_given<S: Source, T: Sink>(
     }
 }
 
-/// Reads cells from any cell on, and writes samples that keep time: those of the blocks that stand
-/// whole and closed in them, as `to_pcm` does, and before each but the first as many frames as bring
-/// the frames from the first block on to the whole number nearest to its cells from there over 128,
-/// a half going up. Each is zero, or the last frame of the block before. Behind the last block
-/// nothing is written, as no block tells that time goes on. It answers how many frames it has
-/// written that are of no block, too.
+/// Reads cells from any cell on, and writes samples that keep time. Those of the whole, closed
+/// blocks in them are written as by `to_pcm`, with frames of filling before each block but the
+/// first. So the number of frames from the first block on is the number of cells from there divided
+/// by 128, rounded to the nearest, a half up.
 ///
-/// Where `marked` says so, a marked block is given as a whole one is, but each of its subframes of
-/// wrong parity is filled as time is: its sample is zero, or the one that stands before it in its
+/// A frame of filling is zero, or the last frame of the block before. After the last block nothing
+/// is written, as no later block shows how much time passes. The number of frames of filling is
+/// returned too.
+///
+/// If `marked` is true, a marked block is given like a whole one, but its subframes with wrong
+/// parity are filled as time is. The sample of such a subframe is zero, or the one before it in its
 /// channel.
 ///
 /// # Errors
@@ -339,36 +341,37 @@ pub fn to_filled_pcm<S: Source, T: Sink>(
     requires sink_room { T.failed sink.old + 1 < 2 ^ 64 }
     requires limit { max_bytes ≤ 2 ^ 40 }
 
-    // Where it answers Ok, exactly the blocks that are given of the input are written, as their
+    // If it returns Ok, exactly the blocks of the input that are given are written, as their
     // samples, with what fills the time between them.
     ensures samples { IfOk result (λ _. (b : List ℕ)
         → Told (S.given source.old) (S.given source.new) b
         → Grew (T.taken sink.old) (T.taken sink.new)
         (narrowed format (filled fill (given marked fill (cells_of input b)
         (reports (cells_of input b)))))) }
-    // Where no marked block is given, they are those that stand whole and closed in it.
+    // If no marked block is given, they are the whole, closed blocks in it.
     ensures whole { IfOk result (λ n. (b : List ℕ)
         → Told (S.given source.old) (S.given source.new) b
         → marked_given marked (reports (cells_of input b)) ≡ 0
         → Grew (T.taken sink.old) (T.taken sink.new)
         (narrowed format (filled fill (placed (reports (cells_of input b)))))) }
-    // Where these blocks stand in a row, too, these are the samples that `to_pcm` writes.
+    // If these blocks also follow each other in a row, these are the samples that `to_pcm` writes.
     ensures row { IfOk result (λ _. (b : List ℕ) (p : ℕ)
         → Told (S.given source.old) (S.given source.new) b
         → marked_given marked (reports (cells_of input b)) ≡ 0
         → InRow p (placed (reports (cells_of input b)))
         → Grew (T.taken sink.old) (T.taken sink.new)
         (narrowed format (samples (blocks (cells_of input b))))) }
-    // Each block's samples stand in time, to half a frame; behind those of the last is nothing.
+    // The samples of each block are in time, to half a frame. After those of the last nothing is
+    // written.
     ensures time { IfOk result (λ _. (b : List ℕ)
         → Told (S.given source.old) (S.given source.new) b
         → (o : List ℕ) × Grew (T.taken sink.old) (T.taken sink.new) (narrowed format o)
         × KeepsTime o (given marked fill (cells_of input b) (reports (cells_of input b)))) }
-    // The frames that are written are those of the blocks and those that it tells as filled.
+    // The frames that are written are those of the blocks and those that it counts as filled.
     ensures frames { IfOk result (λ n. WroteFrames format n
         (movement_of T.taken T.failed sink.old sink.new)) }
-    // It is a run over cells: Ok is owed, a refusal has its cause, and what was decided before it
-    // is written.
+    // A run over cells: it returns Ok if it can. An error has its cause, and what was decided
+    // before it is written.
     ensures run { InputRun (filled_cells input format fill marked) max_bytes
         (S.has_ended source.new) (movement_of S.given S.failed source.old source.new)
         (movement_of T.taken T.failed sink.old sink.new) result }

@@ -1,7 +1,7 @@
-//! Whole runs: an input converted to an output.
+//! Whole runs: conversions of an input to an output.
 #![tactic(auto)]
 
-/// From cells to the bits that subframes carry behind their audio.
+/// From cells to the V, U or C bits of their blocks.
 mod carrying;
 /// From a block file to cells.
 mod encoding;
@@ -9,13 +9,13 @@ mod encoding;
 mod exact_samples;
 /// From cells to samples that keep time.
 mod filling;
-/// The laws that samples and bits come back.
+/// The laws that samples and bits come back unchanged.
 pub mod laws;
 /// From cells to samples that keep time, with the marked blocks among them.
 mod mended;
 /// From cells to cells and block files: `normalise`, `decode` and `cut`.
 mod reading;
-/// Blocks with other channel status, validity bits and user bits.
+/// Blocks with changed channel status, validity bits and user bits.
 mod rewriting;
 /// From cells to cells of such blocks, up to the first that does not take all settings.
 mod rewriting_exactly;
@@ -25,7 +25,7 @@ mod rewriting_runs;
 mod samples;
 /// From samples to a block file.
 mod sampling;
-/// From cells to samples, with zero in place of each that is not valid.
+/// From cells to samples, with zero for each sample that is not valid.
 mod valid_samples;
 /// From a block file whose words are in another form to cells.
 mod word_encoding;

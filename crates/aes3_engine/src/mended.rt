@@ -18,20 +18,20 @@ use aes3_frame::Fill;
 use aes3_lock::{Ending, Lock};
 use aes3_lock_runs::{Listener, run_cells};
 
-/// Hears of cells, and writes the samples of the whole and the marked blocks on them, and what fills
-/// the time between.
+/// Listens to cells, and writes the samples of the whole and the marked blocks in them, and what
+/// fills the time between.
 #[derive(Drop)]
 pub struct MendedBlocks {
-    /// What writes them.
+    /// The writer of samples and filling.
     pub filled: FilledBlocks,
-    /// The last block, or that of zeros.
+    /// The last block, at first the block of zeros.
     before: Block,
     /// How many of the blocks are marked.
     pub marked: u64,
 }
 
 impl MendedBlocks {
-    /// A listener that has heard of no cell.
+    /// A listener before the first cell.
     pub fn new(fill: Fill, format: SampleFormat) -> Self
         ensures fill { result.filled.fill ≡ fill }
         ensures format { result.filled.format ≡ format }
@@ -46,7 +46,7 @@ impl MendedBlocks {
         }
     }
 
-    /// Writes the samples of a block at a place behind what fills the time before it.
+    /// Writes what fills the time before a block at a place, and then its samples.
     ///
     /// # Errors
     /// The sink's fault; then it has taken a front of the bytes.
@@ -63,7 +63,7 @@ impl MendedBlocks {
         Ok(())
     }
 
-    /// Writes what an ending gives that a lock has just answered.
+    /// Writes what an ending gives that a lock has just returned.
     ///
     /// # Errors
     /// The sink's fault; then it has taken a front of the bytes.

@@ -1,4 +1,4 @@
-//! Cells to blocks, written again as cells or as a block file.
+//! Cells to blocks, written as cells or as a block file.
 
 ghost use Rattle.std.specs.Prelude.{◌≡◌, ◌≢◌, ℕ, ◌+◌, ◌<◌, ◌≤◌, ◌^◌, ◌↔◌, ◌⊎◌, List, [], Bool, Err};
 ghost use Rattle.std.specs.Prelude.{length, map, take, IfOk, IfErr, IsOk, OnErr, IsTrue};
@@ -94,15 +94,17 @@ impl BlockWriter for CutBlocks {
     }
 }
 
-/// Reads cells from any cell on, and writes the blocks that stand whole and closed in them as one
-/// lawful line in the normal polarity: the level before its first cell is `Low` (AES3-3, IEC
-/// 60958-1).
+/// Reads cells from any cell on, and writes the whole, closed blocks in them as one valid line in
+/// the normal polarity. The level before its first cell is `Low` (AES3-3, IEC 60958-1).
 ///
 /// # Errors
-/// `BadCell` where a byte of cell text is neither a cell nor a separator, `BadPadding` where packed
-/// cells end wrongly, `TooLong` where the input has more than `max_bytes` bytes, `Read` and `Write`
-/// where an end failed. Then the blocks are written that were decided before, without an ending,
-/// and after `Write` a front of the output.
+/// - `BadCell` if a byte of cell text is neither a cell nor a separator.
+/// - `BadPadding` if packed cells end wrongly.
+/// - `TooLong` if the input has more than `max_bytes` bytes.
+/// - `Read` and `Write` if the input or output failed.
+///
+/// The blocks that were decided before are written without an ending; after `Write`, a front of the
+/// output.
 pub fn normalise<S: Source, T: Sink>(
     source: &mut S,
     sink: &mut T,
@@ -114,19 +116,19 @@ pub fn normalise<S: Source, T: Sink>(
     requires sink_room { T.failed sink.old + 1 < 2 ^ 64 }
     requires limit { max_bytes ≤ 2 ^ 40 }
 
-    // Where it answers Ok, exactly the blocks that stand whole and closed in the input are written,
-    // as their normal stream.
+    // If it returns Ok, exactly the whole, closed blocks in the input are written, as their normal
+    // stream.
     ensures normal { IfOk result (λ _. (b : List ℕ)
         → Told (S.given source.old) (S.given source.new) b
         → Grew (T.taken sink.old) (T.taken sink.new) (written output (normal (cells_of input b)))) }
-    // From any starting cell of a lawful stream these are its whole blocks that begin there or
+    // From any starting cell of a valid stream these are its whole blocks that begin there or
     // later.
     ensures piece { IfOk result (λ _. (s : Level) (bs : List (List (List Bool))) (i j : ℕ)
         (b : List ℕ) → Told (S.given source.old) (S.given source.new) b
         → IsPiece s bs i j (cells_of input b) → Grew (T.taken sink.old) (T.taken sink.new)
         (written_stream output (whole_blocks bs i j))) }
     // With up to three cells of the piece changed they are those blocks, each as the changed cells
-    // in it and directly behind it leave it.
+    // in it and directly after it leave it.
     ensures damaged { IfOk result (λ _. (s : Level) (bs : List (List (List Bool))) (i j : ℕ)
         (c : List Level) (b : List ℕ) → Told (S.given source.old) (S.given source.new) b
         → IsPiece s bs i j c → length (cells_of input b) ≡ length c → apart c (cells_of input b) ≤ 3
@@ -145,8 +147,8 @@ pub fn normalise<S: Source, T: Sink>(
         → IsPiece s bs i j c → (k : ℕ) → k < length c → cells_of input b ≡ without k c
         → Grew (T.taken sink.old) (T.taken sink.new)
         (written_stream output (given_blocks (after_loss (i + k)) bs i j))) }
-    // Two inputs carry equal block lists exactly if their outputs are equal, and the normal form of
-    // an output is that output.
+    // Two inputs have the same blocks exactly if their outputs are equal, and the normal form of an
+    // output is that output.
     ensures tells { (c d : List Level) → written output (normal c) ≡ written output (normal d)
         ↔ blocks c ≡ blocks d }
     ensures again { IfOk result (λ _. (c : List Level)
@@ -163,13 +165,13 @@ pub fn normalise<S: Source, T: Sink>(
         × (T.failed sink.new ≡ T.failed sink.old)) }
     ensures passed_on { IfOk result (λ _. T.passed sink.new ≡ T.taken sink.new) }
 
-    // It owes Ok where the input is in its form and fits, and neither end failed.
+    // It returns Ok if the input is in its form and fits, and neither input nor output failed.
     ensures owed { (b : List ℕ) → Told (S.given source.old) (S.given source.new) b → IsInput input b
         → length b ≤ max_bytes
         → S.failed source.new ≡ S.failed source.old → T.failed sink.new ≡ T.failed sink.old
         → IsOk result }
 
-    // A refusal has its cause, and what was decided before it is written.
+    // An error has its cause, and what was decided before it is written.
     ensures cause { IfErr result (λ error. (b : List ℕ)
         → Told (S.given source.old) (S.given source.new) b
         → IsCause input max_bytes b (S.has_ended source.new) error) }
@@ -190,7 +192,8 @@ pub fn normalise<S: Source, T: Sink>(
     ensures few { (b : List ℕ) → Told (S.given source.old) (S.given source.new) b
         → length b ≤ max_bytes + 1 }
 
-    // All that in one, of a source that tells no bytes too: no end failed but the one it was refused for.
+    // All that in one, also for a source that does not report its bytes: nothing failed but what
+    // the error says.
     ensures run { CellRun max_bytes input (record {
       whole = λ c. written output (normal c);
       begun = λ c. begun_stream output (decided_blocks c);
@@ -201,12 +204,11 @@ pub fn normalise<S: Source, T: Sink>(
     run_blocks(source, sink, max_bytes, input, NormalBlocks { output })
 }
 
-/// Reads cells from any cell on, and writes the blocks that stand whole and closed in them as a
-/// block file.
+/// Reads cells from any cell on, and writes the whole, closed blocks in them as a block file.
 ///
 /// # Errors
-/// Those of `normalise`; then the blocks are written that were decided before, and after `Write` a
-/// front of their file.
+/// Those of `normalise`. The blocks that were decided before are written; after `Write`, a front of
+/// their file.
 pub fn decode<S: Source, T: Sink>(
     source: &mut S,
     sink: &mut T,
@@ -217,16 +219,15 @@ pub fn decode<S: Source, T: Sink>(
     requires sink_room { T.failed sink.old + 1 < 2 ^ 64 }
     requires limit { max_bytes ≤ 2 ^ 40 }
 
-    // Where it answers Ok, exactly the blocks that stand whole and closed in the input are written,
-    // as their file.
+    // If it returns Ok, exactly the whole, closed blocks in the input are written, as their file.
     ensures file { IfOk result (λ _. (b : List ℕ) → Told (S.given source.old) (S.given source.new) b
         → Grew (T.taken sink.old) (T.taken sink.new) (file (blocks (cells_of input b)))) }
-    // What `encode` writes of blocks gives their file back.
+    // From what `encode` writes for blocks it writes their file.
     ensures back { IfOk result (λ _. (bs : List (List (List Bool))) → All IsBlock bs
         → Told (S.given source.old) (S.given source.new) (written_stream input bs)
         → Grew (T.taken sink.old) (T.taken sink.new) (file bs)) }
-    // It is a run over cells: Ok is owed, a refusal has its cause, and what was decided before it
-    // is written.
+    // A run over cells: it returns Ok if it can. An error has its cause, and what was decided
+    // before it is written.
     ensures run { CellRun max_bytes input (record {
       whole = λ c. file (blocks c);
       begun = λ c. file (decided_blocks c);
@@ -253,12 +254,12 @@ pub fn decode_words<S: Source, T: Sink>(
     requires sink_room { T.failed sink.old + 1 < 2 ^ 64 }
     requires limit { max_bytes ≤ 2 ^ 40 }
 
-    // What `encode` writes of blocks gives their file in these words.
+    // From what `encode` writes for blocks it writes their file in these words.
     ensures back { IfOk result (λ _. (bs : List (List (List Bool))) → All IsBlock bs
         → Told (S.given source.old) (S.given source.new) (written_stream input bs)
         → Grew (T.taken sink.old) (T.taken sink.new) (words_file words bs)) }
-    // It is a run over cells: where it answers Ok, exactly the blocks that stand whole and closed in
-    // the input are written, as their file.
+    // A run over cells: if it returns Ok, exactly the whole, closed blocks in the input are
+    // written, as their file.
     ensures run { CellRun max_bytes input (record {
       whole = λ c. words_file words (blocks c);
       begun = λ c. words_file words (decided_blocks c);
@@ -270,8 +271,8 @@ pub fn decode_words<S: Source, T: Sink>(
     run_blocks(source, sink, max_bytes, input, FileBlocks { words })
 }
 
-/// Reads cells from any cell on, and of the blocks that stand whole and closed in them writes
-/// `count` from number `from` on, counted from 0, as `normalise` does.
+/// Reads cells from any cell on, and writes some of the whole, closed blocks in them as `normalise`
+/// does: `count` blocks from number `from` on, counted from 0.
 ///
 /// # Errors
 /// Those of `normalise`.
@@ -288,12 +289,12 @@ pub fn cut<S: Source, T: Sink>(
     requires sink_room { T.failed sink.old + 1 < 2 ^ 64 }
     requires limit { max_bytes ≤ 2 ^ 40 }
 
-    // Where it answers Ok, exactly the blocks asked for are written, as their normal stream.
+    // If it returns Ok, exactly the selected blocks are written, as their normal stream.
     ensures cut { IfOk result (λ _. (b : List ℕ) → Told (S.given source.old) (S.given source.new) b
         → Grew (T.taken sink.old) (T.taken sink.new)
         (written_stream output (cut_blocks from count (blocks (cells_of input b))))) }
-    // It is a run over cells: Ok is owed, a refusal has its cause, and what was decided before it
-    // is written.
+    // A run over cells: it returns Ok if it can. An error has its cause, and what was decided
+    // before it is written.
     ensures run { CellRun max_bytes input (record {
       whole = λ c. written_stream output (cut_blocks from count (blocks c));
       begun = λ c. begun_stream output (cut_blocks from count (decided_blocks c));

@@ -1,4 +1,4 @@
-//! Blocks with other channel status, V and U bits.
+//! Blocks with changed channel status, V and U bits.
 
 ghost use Rattle.std.specs.Prelude.{◌≡◌, length};
 ghost use Rattle.aes3_frame.specs.Blocks.{IsBlock};
@@ -10,7 +10,7 @@ ghost use Rattle.aes3_engine.specs.Rewriting.{with_bits_given, with_status_chang
 use aes3_block::{Block, Channel};
 use aes3_status::{Change, Settings, Status, set_fields, with_check};
 
-/// The bytes of a channel's bits that are all this one.
+/// The bytes of a channel's bits that all have this value.
 #[tactic(auto, unfolding(aes3_frame::specs::Statuses::status_len))]
 fn all_bits(bit: bool) -> [u8; 24]
     ensures { result ≡ all_bits bit }
@@ -18,7 +18,7 @@ fn all_bits(bit: bool) -> [u8; 24]
     if bit { [u8::MAX; 24] } else { [0; 24] }
 }
 
-/// Sets each validity bit of a channel, where one is given.
+/// Sets all validity bits of a channel to a value, if one is given.
 fn set_validity(block: &mut Block, channel: Channel, bit: Option<bool>)
     ensures { block.new ≡ set_validity channel bit block.old }
 {
@@ -27,7 +27,7 @@ fn set_validity(block: &mut Block, channel: Channel, bit: Option<bool>)
     }
 }
 
-/// Clears the user bits of a channel, where that is asked for.
+/// Clears the user bits of a channel, if asked.
 fn clear_user(block: &mut Block, channel: Channel, asked: bool)
     ensures { block.new ≡ set_user channel (cleared asked) block.old }
 {
@@ -46,7 +46,7 @@ fn set_bits(block: &mut Block, change: &Change)
     clear_user(block, Channel::Second, change.clear_user2);
 }
 
-/// The channel status of a channel. With it a contract learns that a block is whole.
+/// The channel status of a channel. The contract also says that the block is whole.
 fn channel_status(block: &Block, channel: Channel) -> [u8; 24]
     ensures status { result ≡ status_of block.now channel }
     ensures whole { IsBlock block.now }
@@ -55,7 +55,7 @@ fn channel_status(block: &Block, channel: Channel) -> [u8; 24]
     block.channel_status(channel)
 }
 
-/// Tells a contract what the type of a status says. It does nothing.
+/// Gives a proof the fact that this status has 24 bytes. It does nothing.
 fn know_status(status: &[u8])
     requires { length status.now ≡ 24 }
     ensures { IsStatus status.now }
@@ -72,7 +72,7 @@ fn mended_status(status: [u8; 24]) -> [u8; 24]
 }
 
 /// Changes the status of a channel. It is read and written once, whatever is set in it, and not
-/// written if it is right.
+/// written if it does not change.
 fn change_status(
     block: &mut Block,
     channel: Channel,

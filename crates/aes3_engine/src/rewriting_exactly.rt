@@ -1,5 +1,5 @@
 //! Cells to the normal stream of their blocks, with a change, up to the first block that does not
-//! take all settings of it.
+//! take all its settings.
 
 ghost use Rattle.std.specs.Prelude.{◌≡◌, ℕ, ◌+◌, ◌<◌, ◌≤◌, ◌^◌, ◌++◌, ◌||◌, List, [], ◌∷◌, Bool, false};
 ghost use Rattle.std.specs.Prelude.{IfOk, None, length};
@@ -29,8 +29,8 @@ use aes3_lock::{Ending, Lock};
 use aes3_lock_runs::{Reporter, run_reports};
 use aes3_status::{Change, KindPlaces, Settings, earlier, takes_all};
 
-/// Whether a block takes all settings of a channel, where some are given. The status that is given
-/// meets them, or else its own.
+/// Whether a block takes all settings of a channel, if there are any. They apply to the status that
+/// the change gives, or else to the block's own.
 fn takes_in(
     block: &Block,
     channel: Channel,
@@ -73,7 +73,7 @@ fn put_rewritten<T: Sink>(
     put_block(output, Level::Low, &block, sink)
 }
 
-/// Where the blocks of a run first have a status of each kind.
+/// The places of the first blocks of a run with a status of each kind.
 #[derive(Clone, Copy)]
 struct MetPlaces {
     first: KindPlaces,
@@ -81,7 +81,7 @@ struct MetPlaces {
 }
 
 impl MetPlaces {
-    /// Those of no block.
+    /// The places of a run without blocks.
     fn new() -> Self
         ensures { AreMetAt result [] }
     {
@@ -91,7 +91,7 @@ impl MetPlaces {
         }
     }
 
-    /// Takes note of one more block at a place.
+    /// Notes one more block at a place.
     fn add(&mut self, at: u64, block: &Block)
         ensures { (xs : List Placed) → AreMetAt self.old xs
             → AreMetAt self.new (xs ++ record { place = at; block = block.now } ∷ []) }
@@ -101,7 +101,7 @@ impl MetPlaces {
     }
 }
 
-/// The place of the first block that does not take all settings of a channel, where some are given.
+/// The place of the first block that does not take all settings of a channel, if there are any.
 fn first_refused_in(
     places: &KindPlaces,
     status: &Option<[u8; 24]>,
@@ -137,8 +137,8 @@ fn first_refused(met: &MetPlaces, change: &Change) -> Option<u64>
 }
 
 /// Writes changed blocks as cells in the normal polarity, up to the first that does not take all
-/// settings, and takes note of the statuses that all blocks have before. The place of that block is
-/// told from these behind the run.
+/// settings. It notes the statuses that all blocks had before the change. The place of that first
+/// block is derived from these after the run.
 #[derive(Drop)]
 struct ExactlyRewrittenBlocks {
     output: Form,
@@ -163,7 +163,7 @@ impl ExactlyRewrittenBlocks {
         }
     }
 
-    /// Writes a block at a place where it takes all settings, and all before have.
+    /// Writes a block at a place, if it takes all settings and all blocks before did.
     ///
     /// # Errors
     /// The sink's fault; then it has taken a front of the cells.
@@ -236,7 +236,8 @@ impl Reporter for ExactlyRewrittenBlocks {
     }
 }
 
-/// What a run answers that has counted so, over blocks that first have a status of each kind here.
+/// The result of a run with these counts, given the places of the first blocks with a status of
+/// each kind.
 fn answer(met: &MetPlaces, change: &Change, counts: Counts) -> Exact
     ensures { (form : Form) (b : List ℕ) → counts ≡ counts_of form b
         → AreMetAt met.now (placed (reports (cells_of form b)))
@@ -248,11 +249,13 @@ fn answer(met: &MetPlaces, change: &Change, counts: Counts) -> Exact
     }
 }
 
-/// Reads cells from any cell on, and writes the blocks that stand whole and closed in them as
-/// `rewrite` does, but only up to the first block that does not take all settings of the change,
-/// whose place it answers: neither that block nor what is behind it is written. The input is read to its end. A block takes all settings of a channel if
-/// its status, or the one that it is given, takes one of the two settings of each text, and those
-/// of four bytes where it is professional behind them.
+/// Writes blocks as `rewrite` does, but only up to the first block that does not take all settings
+/// of the change. It returns the place of that block; neither the block nor what follows it is
+/// written. The input is read to its end.
+///
+/// A block takes all settings of a channel if its status, or the one that it is given, takes one of
+/// the two settings of each text. If fields of four bytes are set too, the status also has to be
+/// professional after the others.
 ///
 /// # Errors
 /// Those of `rewrite`.
@@ -268,12 +271,12 @@ pub fn rewrite_exactly<S: Source, T: Sink>(
     requires sink_room { T.failed sink.old + 1 < 2 ^ 64 }
     requires limit { max_bytes ≤ 2 ^ 40 }
 
-    // Where it refuses no block, it writes exactly what `rewrite` does.
+    // If no block is refused, it writes exactly what `rewrite` does.
     ensures all { IfOk result (λ n. (b : List ℕ) → n.refused ≡ None
         → Told (S.given source.old) (S.given source.new) b
         → Grew (T.taken sink.old) (T.taken sink.new)
         (written_stream output (rewritten_blocks change.now (blocks (cells_of input b))))) }
-    // What it answers to every input, and has written then.
+    // What it returns for every input, and what it has written then.
     ensures run { InputRun (exactly_rewritten_cells input output change.now) max_bytes
         (S.has_ended source.new) (movement_of S.given S.failed source.old source.new)
         (movement_of T.taken T.failed sink.old sink.new) result }

@@ -1,4 +1,4 @@
-//! Cells to the normal stream of their blocks, with other channel status, V and U bits.
+//! Cells to the normal stream of their blocks, with changed channel status, V and U bits.
 
 ghost use Rattle.std.specs.Prelude.{◌≡◌, ℕ, ◌+◌, ◌<◌, ◌≤◌, ◌^◌, ◌++◌, List, [], ◌∷◌, Bool, false};
 ghost use Rattle.std.specs.Prelude.{IfOk, get_or, length, map, take};
@@ -40,7 +40,7 @@ fn status_bit(block: &Block, channel: Channel, frame: usize) -> bool
     }
 }
 
-/// The bits of a channel's status that tell which settings it takes.
+/// The bits of a channel's status that decide which settings it takes.
 #[inline(always)]
 pub(crate) fn bits_that_tell(block: &Block, channel: Channel) -> [bool; TELLING_BITS]
     ensures { result ≡ telling_bits (status_of block.now channel) }
@@ -63,7 +63,7 @@ struct MetKinds {
 }
 
 impl MetKinds {
-    /// Those of no block.
+    /// The kinds of a run without blocks.
     fn new() -> Self
         ensures { AreMet result [] }
     {
@@ -73,7 +73,7 @@ impl MetKinds {
         }
     }
 
-    /// Takes note of one more block.
+    /// Notes one more block.
     fn add(&mut self, block: &Block)
         ensures { (bs : List (List (List Bool))) → AreMet self.old bs
             → AreMet self.new (bs ++ block.now ∷ []) }
@@ -83,8 +83,8 @@ impl MetKinds {
     }
 }
 
-/// Writes changed blocks as cells in the normal polarity, and takes note of the statuses that they
-/// have before. What a run takes of its settings is told from these behind it.
+/// Writes changed blocks as cells in the normal polarity, and notes the statuses that they had
+/// before. From these it is derived after the run which settings were taken.
 #[derive(Drop)]
 struct RewrittenBlocks {
     output: Form,
@@ -106,7 +106,7 @@ impl RewrittenBlocks {
         }
     }
 
-    /// Writes the block of these cells, and takes note of its statuses.
+    /// Writes the block of these cells, and notes its statuses.
     ///
     /// # Errors
     /// The sink's fault; then it has taken a front of the cells.
@@ -171,10 +171,10 @@ impl Reporter for RewrittenBlocks {
     }
 }
 
-/// What a run with a change answers.
+/// The result of a run with a change.
 #[derive(Clone, Copy, PartialEq, Eq)]
 pub struct Rewritten {
-    /// What it counts.
+    /// Its counts.
     pub counts: Counts,
     /// Which settings of channel 1 some block took.
     pub first: Taken,
@@ -182,8 +182,8 @@ pub struct Rewritten {
     pub second: Taken,
 }
 
-/// What blocks take of the settings of a channel, where some are given: of so many blocks with
-/// these kinds of status, which another may stand in for.
+/// Which settings of a channel the blocks take, if there are any, given the number of blocks and
+/// their kinds of status. Another status may replace theirs.
 fn taken_in(
     kinds: &Kinds,
     blocks: u64,
@@ -207,7 +207,7 @@ fn taken_in(
     }
 }
 
-/// What a run answers that has counted so, over blocks with these kinds of status.
+/// The result of a run with these counts, over blocks with these kinds of status.
 fn answer(met: &MetKinds, change: &Change, counts: Counts) -> Rewritten
     ensures { (form : Form) (b : List ℕ) → counts ≡ counts_of form b
         → AreMet met.now (wholes (reports (cells_of form b)))
@@ -230,12 +230,13 @@ fn answer(met: &MetKinds, change: &Change, counts: Counts) -> Rewritten
     }
 }
 
-/// Reads cells from any cell on, and writes the blocks that stand whole and closed in them as
-/// `normalise` does, each with the change: its validity bits and user bits are set (AES3-1, IEC
-/// 60958-1), then its statuses, then its fields, then, where it asks for that, professional status
-/// gets its check byte (AES3-2). Consumer status is never mended, and nothing else of a block
-/// changes. It answers which of the fields' settings some block took: those that no block took had
-/// no code for any status that met them, as fields for the other use have none.
+/// Reads cells from any cell on, and writes the whole, closed blocks in them as `normalise` does,
+/// each with the change. First its validity and user bits are set (AES3-1, IEC 60958-1), then its
+/// statuses, then its fields. Then, if the change asks for it, professional status gets its check
+/// byte (AES3-2); consumer status never does. Everything else in a block is unchanged.
+///
+/// It returns which settings some block took. A setting that no block took had no code for any
+/// status that it was applied to; for example, a field for the other use has none.
 ///
 /// # Errors
 /// Those of `normalise`.
@@ -251,12 +252,12 @@ pub fn rewrite<S: Source, T: Sink>(
     requires sink_room { T.failed sink.old + 1 < 2 ^ 64 }
     requires limit { max_bytes ≤ 2 ^ 40 }
 
-    // Where it answers Ok, exactly the changed blocks are written, as their normal stream.
+    // If it returns Ok, exactly the changed blocks are written, as their normal stream.
     ensures rewritten { IfOk result (λ _. (b : List ℕ)
         → Told (S.given source.old) (S.given source.new) b
         → Grew (T.taken sink.old) (T.taken sink.new)
         (written_stream output (rewritten_blocks change.now (blocks (cells_of input b))))) }
-    // It is a run over cells: Ok is owed and tells what the blocks take of the settings, a refusal
+    // A run over cells: it returns Ok if it can, with the settings that the blocks take. An error
     // has its cause, and what was decided before it is written.
     ensures run { InputRun (rewritten_cells input output change.now) max_bytes
         (S.has_ended source.new) (movement_of S.given S.failed source.old source.new)

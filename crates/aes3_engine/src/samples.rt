@@ -21,7 +21,7 @@ use aes3_cell::{Counts, Fault, Form, RunError, Sink, Source, write_all};
 use aes3_forms_samples::SampleFormat;
 use aes3_lock_runs::{BlockWriter, run_blocks};
 
-/// Writes samples of a block, which are of 32 bits, in this form; handed on as one buffer.
+/// Writes the samples of a block, which have 32 bits, in this form, as one buffer.
 ///
 /// # Errors
 /// The sink's fault; then it has taken a front of the bytes.
@@ -60,13 +60,14 @@ impl BlockWriter for SampleBlocks {
     }
 }
 
-/// Reads cells from any cell on, and writes the samples of the blocks that stand whole and closed
-/// in them: of each frame that of channel 1 and that of channel 2, in this form, lowest byte first,
-/// of the 24 audio bits (AES3-1, IEC 60958-1). With 16 bits the lowest 8 of them are dropped.
+/// Reads cells from any cell on, and writes the samples of the whole, closed blocks in them. For
+/// each frame it writes the sample of channel 1, then that of channel 2. A sample is made of the 24
+/// audio bits, in this form, lowest byte first (AES3-1, IEC 60958-1). In the form of 16 bits the
+/// lowest 8 of them are dropped.
 ///
 /// # Errors
-/// Those of `normalise`; then the samples are written of the blocks that were decided before, and
-/// after `Write` a front of them.
+/// Those of `normalise`. The samples of the blocks that were decided before are written; after
+/// `Write`, a front of them.
 pub fn to_pcm<S: Source, T: Sink>(
     source: &mut S,
     sink: &mut T,
@@ -78,27 +79,27 @@ pub fn to_pcm<S: Source, T: Sink>(
     requires sink_room { T.failed sink.old + 1 < 2 ^ 64 }
     requires limit { max_bytes ≤ 2 ^ 40 }
 
-    // Where it answers Ok, exactly the blocks that stand whole and closed in the input are written,
-    // as their samples.
+    // If it returns Ok, exactly the whole, closed blocks in the input are written, as their
+    // samples.
     ensures samples { IfOk result (λ _. (b : List ℕ)
         → Told (S.given source.old) (S.given source.new) b
         → Grew (T.taken sink.old) (T.taken sink.new)
         (narrowed format (samples (blocks (cells_of input b))))) }
-    // They are those of the blocks alone: of any line with the same blocks.
+    // They depend on the blocks alone: any line with the same blocks gives the same samples.
     ensures alone { IfOk result (λ _. (b : List ℕ) (bs : List (List (List Bool)))
         → Told (S.given source.old) (S.given source.new) b
         → blocks (cells_of input b) ≡ bs
         → Grew (T.taken sink.old) (T.taken sink.new) (narrowed format (samples bs))) }
-    // What `normalise` writes of cells gives the samples of the cells.
+    // From what `normalise` writes for cells it writes the samples of the cells.
     ensures normal { IfOk result (λ _. (c : List Level)
         → Told (S.given source.old) (S.given source.new) (written input (normal c))
         → Grew (T.taken sink.old) (T.taken sink.new) (narrowed format (samples (blocks c)))) }
-    // What `encode` writes of blocks gives their samples.
+    // From what `encode` writes for blocks it writes their samples.
     ensures back { IfOk result (λ _. (bs : List (List (List Bool))) → All IsBlock bs
         → Told (S.given source.old) (S.given source.new) (written_stream input bs)
         → Grew (T.taken sink.old) (T.taken sink.new) (narrowed format (samples bs))) }
-    // It is a run over cells: Ok is owed, a refusal has its cause, and what was decided before it
-    // is written.
+    // A run over cells: it returns Ok if it can. An error has its cause, and what was decided
+    // before it is written.
     ensures run { CellRun max_bytes input (record {
       whole = λ c. narrowed format (samples (blocks c));
       begun = λ c. narrowed format (samples (decided_blocks c));

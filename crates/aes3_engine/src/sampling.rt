@@ -29,12 +29,12 @@ use aes3_status::Change;
 /// How many bytes a sample of 32 bits has.
 const SAMPLE_BYTES: u64 = 4;
 
-/// How many bytes of a sound file's head are looked at.
+/// How many bytes of a sound file's header are checked.
 const SOUND_HEAD_BYTES: u64 = SOUND_HEAD_LEN as u64;
 
-/// Samples as they come, and the bytes of the block that they have begun: what `from_pcm_words`
-/// converts, for a run that makes its samples of other bytes. Its taker is the change of each
-/// block's channel status.
+/// Samples as they come, and the bytes of the current block. It does the conversion of
+/// `from_pcm_words`, for a run that makes its samples from other bytes. Its taker is the change of
+/// each block's channel status.
 #[derive(Drop)]
 pub struct SampleInput {
     format: SampleFormat,
@@ -43,14 +43,14 @@ pub struct SampleInput {
     words: Words,
     seen: u64,
     begun: [u8; BLOCK_BYTES],
-    /// How many bytes of it were taken.
+    /// How many bytes of the current block were taken.
     at: usize,
     ghost few: { at < block_len format },
     ghost room: { at < 1536 },
 }
 
-/// Where in a piece that begins at byte `at` of a sample a sample's lowest byte first isn't zero;
-/// looked for only where it is refused.
+/// The first place in a piece where a sample's lowest byte isn't zero, if that is an error. The
+/// piece begins at byte `at` of a sample.
 fn low_bits_in(exact: bool, piece: &[u8], at: usize) -> Option<usize>
     requires { at + length piece.now < 2 ^ 64 }
     ensures none { result ≡ None → exact ≡ true → (i : ℕ) → (at + i) % 4 ≡ 0
@@ -73,9 +73,10 @@ fn low_bits_in(exact: bool, piece: &[u8], at: usize) -> Option<usize>
     None
 }
 
-/// Writes the block of samples of 32 bits with its channel status, as a block file has it whose
-/// words are in this form.
-// One place for all forms of samples: where each form makes its own block, that is copied once more.
+/// Writes the block of samples of 32 bits with its channel status, as a block file with words in
+/// this form.
+// One place for all forms of samples: if each form made its own block, it would be copied once
+// more.
 #[inline(never)]
 fn put_widened<T: Sink>(
     samples: &[u8; BLOCK_BYTES],
@@ -124,7 +125,7 @@ impl Input<Change> for SampleInput {
     ghost state = { λ input change. sampling_state input.format input.exact
         input.words input.seen input.at input.begun change };
 
-    /// Takes what a piece has of the block that is begun.
+    /// Takes the part of a piece that belongs to the current block.
     fn take_front<T: Sink>(
         &mut self,
         change: &mut Change,
@@ -158,7 +159,7 @@ impl Input<Change> for SampleInput {
         }
     }
 
-    /// Fills the block that is begun up with zero samples.
+    /// Fills the current block up with zero samples.
     fn finish<T: Sink>(&mut self, change: &mut Change, sink: &mut T) -> Result<(), RunError> {
         let left = self.seen % self.format.frame_len() as u64;
         if left > 0 {
@@ -176,7 +177,7 @@ impl Input<Change> for SampleInput {
 }
 
 impl SampleInput {
-    /// How many bytes of the block that is begun have come.
+    /// How many bytes of the current block have come.
     pub fn begun_len(&self) -> usize
         ensures len { result ≡ self.now.at }
         ensures few { result < 1536 }
@@ -184,8 +185,8 @@ impl SampleInput {
         self.at
     }
 
-    /// Samples in this form, of which none has come; `exact` refuses those of more than 24 bits, and
-    /// `words` is the form of the words that are written.
+    /// Samples in this form, before the first. If `exact` is true, samples of more than 24 bits are
+    /// errors. `words` is the form of the words that are written.
     pub fn new(format: SampleFormat, exact: bool, words: Words) -> Self
         ensures format { result.format ≡ format }
         ensures exact { result.exact ≡ exact }
@@ -202,7 +203,7 @@ impl SampleInput {
         }
     }
 
-    /// Where in the next bytes a sample's lowest byte isn't zero, where that is refused.
+    /// The place in the next bytes where a sample's lowest byte isn't zero, if that is an error.
     fn low_bits_in(&self, piece: &[u8]) -> Option<usize>
         requires { length piece.now ≤ BLOCK_BYTES }
         ensures none { result ≡ None → asks_exact self.now.format self.now.exact ≡ true → (i : ℕ)
@@ -218,8 +219,8 @@ impl SampleInput {
         low_bits_in(self.format.asks_exact(self.exact), piece, at)
     }
 
-    /// Whether the head of a sound file ends in these first bytes of a block, of which no more than
-    /// `seen` were taken before.
+    /// Whether the header of a sound file ends in these first bytes of a block. No more than `seen`
+    /// bytes were taken before.
     fn has_header(&self, len: usize) -> bool
         requires { len ≤ BLOCK_BYTES }
         ensures yes { result ≡ true → (self.now.seen < SOUND_HEAD_BYTES)
@@ -231,17 +232,20 @@ impl SampleInput {
     }
 }
 
-/// Writes a block file of samples, each word of 32 bits with the lowest byte first, channel 1 and
-/// then channel 2 of each frame: the audio of a subframe is the highest 24 bits of its word
-/// (AES3-1, IEC 60958-1), V and U are 0. Channel status is what `change` makes of zeros, in each
-/// block. Behind the last sample the block is filled up with samples that are zero.
+/// Writes a block file of samples. Each sample is a word of 32 bits, lowest byte first, channel 1
+/// and then channel 2 of each frame. The audio of a subframe is the highest 24 bits of its word
+/// (AES3-1, IEC 60958-1); V and U are 0. The channel status of each block is what `change` makes of
+/// zeros. The last block is filled up with zero samples.
 ///
 /// # Errors
-/// `BadLength` where the input ends inside a frame, `BadSample` where `exact` is set and one of the
-/// lowest 8 bits of a word is too, `SoundHeader` where the input begins with the head of a sound file
-/// and no sample before its end was refused, `TooLong` where it has more than `max_bytes` bytes, `Read` and
-/// `Write` where an end failed. Then the blocks that were whole before are written, and after
-/// `Write` a front of the output.
+/// - `BadLength` if the input ends inside a frame.
+/// - `BadSample` if `exact` is true and one of the lowest 8 bits of a word is set.
+/// - `SoundHeader` if the input begins with the header of a sound file, and no sample before its
+///   end was an error.
+/// - `TooLong` if it has more than `max_bytes` bytes.
+/// - `Read` and `Write` if the input or output failed.
+///
+/// The blocks that were whole before are written; after `Write`, a front of the output.
 pub fn from_pcm<S: Source, T: Sink>(
     source: &mut S,
     sink: &mut T,
@@ -253,20 +257,20 @@ pub fn from_pcm<S: Source, T: Sink>(
     requires sink_room { T.failed sink.old + 1 < 2 ^ 64 }
     requires limit { max_bytes ≤ 2 ^ 40 }
 
-    // Where it answers Ok, the block file of the samples is written, filled up with zero samples to
+    // If it returns Ok, the block file of the samples is written, filled up with zero samples to
     // whole blocks.
     ensures file { IfOk result (λ _. (b : List ℕ) → Told (S.given source.old) (S.given source.new) b
         → Grew (T.taken sink.old) (T.taken sink.new) (pcm_file change.now b)) }
     ensures passed_on { IfOk result (λ _. T.passed sink.new ≡ T.taken sink.new) }
 
-    // It owes Ok where the input is whole frames, of 24 bits where that is asked, and no sound file,
-    // and fits, and neither end failed.
+    // It returns Ok if the input is whole frames, is no sound file and fits, and neither input nor
+    // output failed. If required, its samples must have at most 24 bits.
     ensures owed { (b : List ℕ) → Told (S.given source.old) (S.given source.new) b → IsPcm S32 exact b
         → length b ≤ max_bytes
         → S.failed source.new ≡ S.failed source.old → T.failed sink.new ≡ T.failed sink.old
         → IsOk result }
 
-    // What it answers to every input, and has written then.
+    // What it returns for every input, and what it has written then.
     ensures run { InputRun (sampled_file exact change.now) max_bytes (S.has_ended source.new)
         (movement_of S.given S.failed source.old source.new)
         (movement_of T.taken T.failed sink.old sink.new) result }
@@ -282,9 +286,9 @@ pub fn from_pcm<S: Source, T: Sink>(
     )
 }
 
-/// Does what `from_pcm` does, of samples in this form, and writes a block file whose words are in
-/// this form: the bits of an audio word that a sample in its form has not are 0. A sample that has 24 bits at
-/// most is never refused.
+/// Does what `from_pcm` does, with samples in this form, and writes a block file whose words are in
+/// this form. Audio bits that the samples don't have are 0. A sample of at most 24 bits is never an
+/// error.
 ///
 /// # Errors
 /// Those of `from_pcm`.
@@ -301,20 +305,20 @@ pub fn from_pcm_words<S: Source, T: Sink>(
     requires sink_room { T.failed sink.old + 1 < 2 ^ 64 }
     requires limit { max_bytes ≤ 2 ^ 40 }
 
-    // Where it answers Ok, the block file of the samples is written, filled up with zero samples to
+    // If it returns Ok, the block file of the samples is written, filled up with zero samples to
     // whole blocks.
     ensures file { IfOk result (λ _. (b : List ℕ) → Told (S.given source.old) (S.given source.new) b
         → Grew (T.taken sink.old) (T.taken sink.new) (pcm_words format words change.now b)) }
     ensures passed_on { IfOk result (λ _. T.passed sink.new ≡ T.taken sink.new) }
 
-    // It owes Ok where the input is whole frames, of 24 bits where that is asked, and no sound file,
-    // and fits, and neither end failed.
+    // It returns Ok if the input is whole frames, is no sound file and fits, and neither input nor
+    // output failed. If required, its samples must have at most 24 bits.
     ensures owed { (b : List ℕ) → Told (S.given source.old) (S.given source.new) b → IsPcm format exact b
         → length b ≤ max_bytes
         → S.failed source.new ≡ S.failed source.old → T.failed sink.new ≡ T.failed sink.old
         → IsOk result }
 
-    // What it answers to every input, and has written then.
+    // What it returns for every input, and what it has written then.
     ensures run { InputRun (sampled_words format exact words change.now) max_bytes (S.has_ended source.new)
         (movement_of S.given S.failed source.old source.new)
         (movement_of T.taken T.failed sink.old sink.new) result }

@@ -1,4 +1,4 @@
-//! Cells to the samples of their blocks, with zero in place of each that is not valid.
+//! Cells to the samples of their blocks, with zero for each sample that is not valid.
 
 ghost use Rattle.std.specs.Prelude.{◌≡◌, ℕ, ◌+◌, ◌<◌, ◌≤◌, ◌^◌, List, [], Bool, IfOk, map};
 ghost use Rattle.std.specs.List.{All};
@@ -22,7 +22,7 @@ use aes3_cell::{Counts, Fault, Form, RunError, Sink, Source};
 use aes3_forms_samples::SampleFormat;
 use aes3_lock_runs::{BlockWriter, run_blocks};
 
-/// A subframe with zero audio where its validity bit is 1.
+/// The subframe with zero audio if its validity bit is 1.
 fn silenced(subframe: Subframe) -> Subframe
     ensures { bits_of result ≡ silenced (bits_of subframe) }
 {
@@ -37,7 +37,7 @@ fn silenced(subframe: Subframe) -> Subframe
     }
 }
 
-/// Sets the audio of each subframe to zero whose validity bit is 1.
+/// Sets the audio of each subframe whose validity bit is 1 to zero.
 fn silence(block: &mut Block)
     ensures { block.new ≡ map silenced block.old }
 {
@@ -51,7 +51,7 @@ fn silence(block: &mut Block)
     }
 }
 
-/// Writes blocks as their samples in a form, with zero in place of each that is not valid.
+/// Writes blocks as their samples in a form, with zero for each sample that is not valid.
 #[derive(Drop)]
 pub struct ValidSampleBlocks {
     /// The form of the samples.
@@ -74,9 +74,8 @@ impl BlockWriter for ValidSampleBlocks {
     }
 }
 
-/// Reads cells from any cell on, and writes the samples of the blocks that stand whole and closed
-/// in them as `to_pcm` does, but zero for each whose validity bit is 1: it is not suitable for
-/// conversion to analogue (AES3-1, IEC 60958-1).
+/// Writes the samples of blocks as `to_pcm` does, but zero for each sample whose validity bit is 1.
+/// Such a sample is not suitable for conversion to analogue (AES3-1, IEC 60958-1).
 ///
 /// # Errors
 /// Those of `to_pcm`.
@@ -91,23 +90,23 @@ pub fn to_valid_pcm<S: Source, T: Sink>(
     requires sink_room { T.failed sink.old + 1 < 2 ^ 64 }
     requires limit { max_bytes ≤ 2 ^ 40 }
 
-    // Where it answers Ok, exactly the blocks that stand whole and closed in the input are written,
-    // as their samples, 0 where a V bit is 1.
+    // If it returns Ok, exactly the whole, closed blocks in the input are written, as their
+    // samples, 0 for each with a V bit of 1.
     ensures samples { IfOk result (λ _. (b : List ℕ)
         → Told (S.given source.old) (S.given source.new) b
         → Grew (T.taken sink.old) (T.taken sink.new)
         (narrowed format (valid_samples (blocks (cells_of input b))))) }
-    // Where no V bit of theirs is 1, these are the samples that `to_pcm` writes.
+    // If none of their V bits is 1, these are the samples that `to_pcm` writes.
     ensures all { IfOk result (λ _. (b : List ℕ) → Told (S.given source.old) (S.given source.new) b
         → All IsAllValid (blocks (cells_of input b))
         → Grew (T.taken sink.old) (T.taken sink.new)
         (narrowed format (samples (blocks (cells_of input b))))) }
-    // What `encode` writes of blocks gives their valid samples.
+    // From what `encode` writes for blocks it writes their valid samples.
     ensures back { IfOk result (λ _. (bs : List (List (List Bool))) → All IsBlock bs
         → Told (S.given source.old) (S.given source.new) (written_stream input bs)
         → Grew (T.taken sink.old) (T.taken sink.new) (narrowed format (valid_samples bs))) }
-    // It is a run over cells: Ok is owed, a refusal has its cause, and what was decided before it
-    // is written.
+    // A run over cells: it returns Ok if it can. An error has its cause, and what was decided
+    // before it is written.
     ensures run { CellRun max_bytes input (record {
       whole = λ c. narrowed format (valid_samples (blocks c));
       begun = λ c. narrowed format (valid_samples (decided_blocks c));

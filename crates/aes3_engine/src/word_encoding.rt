@@ -1,4 +1,4 @@
-//! Block files whose words are in the form of another program, to cells.
+//! Block files with words in the form of another program, to cells.
 
 ghost use Rattle.std.specs.Prelude.{◌≡◌, ℕ, ◌+◌, ◌<◌, ◌≤◌, ◌^◌, List, [], ◌∷◌, take, length, IfOk};
 ghost use Rattle.std.specs.Prelude.{IfSome, IsTrue};
@@ -23,20 +23,20 @@ use aes3_input::{Input, convert, feed_fronts};
 /// How many octets a word has.
 const WORD_LEN: usize = 4;
 
-/// How many words of a block stand before the next one at most.
+/// How many words of a block can come before the next block.
 const MOST_LEFT_OUT: usize = SLOTS - 1;
 
-/// What a run over a block file in words counts, and how many of these it has left out.
+/// The counts of a run over a block file in words of a form, and how many words it left out.
 #[derive(Clone, Copy)]
 pub struct EncodedWords {
     /// The counts of any run over a block file.
     pub counts: Counts,
-    /// Words that stand before the first block: none of a block file's own.
+    /// Words left out before the first block; none if the words are a block file's own.
     pub left_out: u64,
 }
 
-/// Reads words as a block file's: those before the first that may begin a block are left out, as many
-/// as a block has behind its first.
+/// Reads words as a block file's. Words before the first one that may begin a block are left out,
+/// at most as many as a block has after its first.
 #[derive(Drop)]
 struct WordReader {
     file: BlockFile,
@@ -47,7 +47,7 @@ struct WordReader {
 }
 
 impl WordReader {
-    /// Whether the next word is left out, which begins with this octet.
+    /// Whether the next word, which begins with this octet, is left out.
     fn is_left_out(&self, octet: u8) -> bool
         ensures { result ≡ is_left_out self.now.has_begun self.now.words self.now.left octet }
     {
@@ -86,14 +86,14 @@ impl WordReader {
 #[derive(Drop)]
 struct WordFile {
     reader: WordReader,
-    /// The octets of the word that is begun, and how many they are.
+    /// The octets of the current word, and how many there are.
     begun: [u8; WORD_LEN],
     len: usize,
     ghost few: { len < 4 },
 }
 
 impl WordFile {
-    /// The word that a piece begins with, where none is begun.
+    /// The first word of a piece, if no word is begun.
     fn whole_word(&self, piece: &[u8]) -> Option<[u8; WORD_LEN]>
         ensures none_begun { IfSome result (λ _. self.now.len ≡ 0) }
         ensures enough { IfSome result (λ _. WORD_LEN ≤ length piece.now) }
@@ -108,7 +108,7 @@ impl WordFile {
         }
     }
 
-    /// Takes an octet, and with it the word that it ends.
+    /// Takes an octet, and the word that it ends.
     fn take_octet<T: Sink>(
         &mut self,
         encoder: &mut Encoder,
@@ -144,7 +144,7 @@ impl Input<Encoder> for WordFile {
     ghost state = { λ w encoder. words_state w.reader.words encoder.output w.reader.file
         encoder.blocks w.reader.left w.reader.has_begun (take w.len w.begun) };
 
-    /// Takes a word where none is begun, else an octet.
+    /// Takes a word if no word is begun, else an octet.
     fn take_front<T: Sink>(
         &mut self,
         encoder: &mut Encoder,
@@ -171,8 +171,8 @@ impl Input<Encoder> for WordFile {
     }
 }
 
-/// What is answered to an input of so many bytes. Behind the words that are left out stand whole
-/// blocks, and they are fewer than the words of a block: they are what is left of the bytes.
+/// The result for an input of this many bytes. After the words that are left out come whole blocks.
+/// The left-out words are fewer than a block's, so they are the remainder of the bytes.
 fn answer_of(bytes: u64) -> EncodedWords
     ensures counts { (b : List ℕ) → length b ≡ bytes → result.counts ≡ words_counts b }
     ensures left_out { (form : Words) (b : List ℕ) → length b ≡ bytes → IsBlockFile (own_of form b)
@@ -191,7 +191,7 @@ fn answer_of(bytes: u64) -> EncodedWords
     }
 }
 
-/// Does what [`encode_words`] does, of words in a form that is not their own.
+/// Does what [`encode_words`] does, with words in another form than a block file's own.
 fn encode_other<S: Source, T: Sink>(
     source: &mut S,
     sink: &mut T,
@@ -257,9 +257,10 @@ fn encode_in<S: Source, T: Sink>(
     }
 }
 
-/// Does what `encode` does, of a block file whose words are in this form: words of another than its
-/// own that stand before the first block are left out, 383 at most, and refusals count words from
-/// the first block on. Of such words it counts the bytes alone, and tells how many it has left out.
+/// Does what `encode` does, with a block file whose words are in this form. If it is another form
+/// than a block file's own, words before the first block are left out, 383 at most. Errors then
+/// count words from the first block on, the counts have only the bytes, and the number of words
+/// left out is returned.
 ///
 /// # Errors
 /// Those of `encode`.
@@ -274,12 +275,12 @@ pub fn encode_words<S: Source, T: Sink>(
     requires sink_room { T.failed sink.old + 1 < 2 ^ 64 }
     requires limit { max_bytes ≤ 2 ^ 40 }
 
-    // What `decode_words` writes of cells gives what `normalise` writes of them.
+    // From what `decode_words` writes for cells it writes what `normalise` writes for them.
     ensures decoded { IfOk result (λ _. (c : List Level)
         → Told (S.given source.old) (S.given source.new) (words_file words (blocks c))
         → Grew (T.taken sink.old) (T.taken sink.new) (written output (normal c))) }
 
-    // What it answers to every input, and has written then.
+    // What it returns for every input, and what it has written then.
     ensures run { InputRun (told_words words output) max_bytes (S.has_ended source.new)
         (movement_of S.given S.failed source.old source.new)
         (movement_of T.taken T.failed sink.old sink.new) result }

@@ -1,4 +1,4 @@
-//! Blocks as block files whose words are in the form of another program.
+//! Blocks as block files with words in the form of another program.
 
 ghost use Rattle.std.specs.Prelude.{◌≡◌, ◌<◌, ◌+◌, ◌^◌};
 ghost use Rattle.aes3_cell.specs.Writes.{Wrote};
@@ -10,8 +10,7 @@ use aes3_block::{Block, bytes_of_block, put_block_file};
 use aes3_cell::{Fault, Sink, write_all};
 use aes3_forms_words::{Words, write_words};
 
-/// Writes a block as 1,536 bytes of a block file whose words are in this form, handed on as one
-/// buffer.
+/// Writes a block as 1,536 bytes of a block file whose words are in this form, as one buffer.
 #[inline(always)]
 pub(crate) fn put_block_words<T: Sink>(
     block: &Block,
@@ -28,7 +27,7 @@ pub(crate) fn put_block_words<T: Sink>(
     }
 }
 
-/// Does the same with words that have to be put into this form.
+/// Does the same for a form that the words have to be converted to.
 fn put_written<T: Sink>(block: &Block, words: Words, sink: &mut T) -> Result<(), Fault>
     requires room { T.failed sink.old + 1 < 2 ^ 64 }
     ensures { Wrote T.taken T.failed sink.old sink.new

@@ -8,24 +8,24 @@ use std::io::{self, Error, ErrorKind, Read, StdinLock};
 #[derive(Drop)]
 pub struct Input<'a> {
     from: Place,
-    /// Why the system did not read on, or did not open the file.
+    /// Why the system did not continue reading, or did not open the file.
     trouble: &'a Cell<Option<Error>>,
 }
 
-/// Where it reads from.
+/// Where the input is read from.
 #[derive(Drop)]
 enum Place {
     /// Standard input.
     Standard(StdinLock<'static>),
     /// The file that the command line names.
     File(File),
-    /// It names one that can't be opened.
+    /// A file that can't be opened.
     Unopened(Error),
 }
 
 impl<'a> Input<'a> {
-    /// The file of this name, opened, or standard input where there is none. What the system says of
-    /// a failure is put into `trouble`.
+    /// The file of this name, opened, or standard input if there is no name. The system's message
+    /// for a failure is put into `trouble`.
     pub fn new(rt: &HostRuntime, file: Option<&str>, trouble: &'a Cell<Option<Error>>) -> Self {
         let from = match file {
             None => Place::Standard(rt.stdin().lock()),
@@ -37,7 +37,7 @@ impl<'a> Input<'a> {
         Input { from, trouble }
     }
 
-    /// How many bytes it has, where it is a file that keeps them, standard input too.
+    /// How many bytes the input has, if it is a regular file; standard input may be one too.
     pub fn len(&self, rt: &HostRuntime) -> Option<u64> {
         let kept = match &self.from {
             Place::Standard(_) => fs::metadata(rt, "/dev/stdin").ok()?,

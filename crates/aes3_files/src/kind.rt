@@ -12,23 +12,23 @@ use crate::sound::SoundFile;
 pub enum FileKind {
     /// Nothing.
     Empty,
-    /// The head of a sound file.
+    /// The header of a sound file.
     Sound(SoundFile),
-    /// The head of a value change dump (IEEE 1364), which lists the changes of signals as text.
+    /// The header of a value change dump (IEEE 1364), which lists the changes of signals as text.
     ValueChanges,
-    /// The head of a zip archive, as sigrok writes its sessions.
+    /// The header of a zip archive, which sigrok's sessions are.
     Session,
-    /// The head of a file of gzip, xz or zstd.
+    /// The header of a file of gzip, xz or zstd.
     Compressed,
-    /// The head of a program of Linux (ELF).
+    /// The header of a program of Linux (ELF).
     Executable,
     /// Only cells and separators.
     CellText,
     /// A printable text of another kind.
     OtherText,
-    /// Words of 32 bits, lowest byte first, of which each has its four lowest bits clear.
+    /// Words of 32 bits, lowest byte first, each with its four lowest bits clear.
     BlockFile,
-    /// Octets 0 and 1 alone, as a logic analyser gives one line.
+    /// Only octets 0 and 1, as a logic analyser gives for one line.
     Samples,
     /// Octets of any other kind.
     Octets,
@@ -43,7 +43,7 @@ impl FileKind {
     }
 }
 
-/// What they look like, where `is_block` says whether they can be words of a block file.
+/// What they look like; `is_block` says whether they can be words of a block file.
 fn kind_by(first: &[u8], is_block: bool) -> FileKind
     ensures { result ≡ file_kind is_block first.now }
 {
@@ -72,7 +72,7 @@ fn kind_by(first: &[u8], is_block: bool) -> FileKind
     }
 }
 
-/// Bytes that stand together in a file.
+/// A set of bytes that a kind of file consists of.
 #[derive(Clone, Copy)]
 pub(crate) enum Alphabet {
     /// Cells and separators.
@@ -84,7 +84,7 @@ pub(crate) enum Alphabet {
 }
 
 impl Alphabet {
-    /// Whether the byte is one of them.
+    /// Whether the byte is in the set.
     fn has(self, byte: u8) -> bool
         ensures { result ≡ is_in self byte }
     {
@@ -95,7 +95,7 @@ impl Alphabet {
         }
     }
 
-    /// Whether each of the bytes is.
+    /// Whether all of the bytes are in the set.
     fn has_all(self, bytes: &[u8]) -> bool
         ensures { result ≡ list_all (is_in self) bytes.now }
     {
@@ -132,7 +132,7 @@ fn are_block_words(first: &[u8]) -> bool {
     first.len() >= 4
 }
 
-/// Whether they are the head of a file of gzip, xz or zstd.
+/// Whether these bytes are the header of a file of gzip, xz or zstd.
 fn is_compressed(first: &[u8]) -> bool
     ensures { result ≡ is_compressed first.now }
 {
@@ -141,7 +141,7 @@ fn is_compressed(first: &[u8]) -> bool
         || first.starts_with(b"\x28\xB5\x2F\xFD")
 }
 
-/// Whether they begin a value change dump: by the first of its parts, of which each may come first.
+/// Whether these bytes begin a value change dump. Any of its parts may be the first.
 fn are_changes(first: &[u8]) -> bool
     ensures { result ≡ are_changes first.now }
 {

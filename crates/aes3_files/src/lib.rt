@@ -1,4 +1,4 @@
-//! What a program reads: the file or standard input, and what kind of file its first octets begin.
+//! What a program reads: the file or standard input, and the kind of file by its first octets.
 #![tactic(auto)]
 
 /// The file or standard input that a program reads.
@@ -7,9 +7,9 @@ mod input;
 mod kind;
 /// Packed cells by their first octets.
 mod packed;
-/// A reader whose first octets are looked at before they are read.
+/// A reader whose first octets are inspected before they are read.
 mod preview;
-/// The heads of sound files.
+/// The headers of sound files.
 mod sound;
 
 pub use input::Input;

@@ -1,7 +1,7 @@
 //! Packed cells by their first octets.
 
-/// Whether four equal bits stand one behind the other in two octets, the highest first: cells have
-/// no more than three.
+/// Whether two octets, the highest bit first, have four equal bits in a row; cells have at most
+/// three.
 fn has_long_run(first: u8, second: u8) -> bool {
     let bits = u16::from(first) << 8 | u16::from(second);
     for at in 0u32..13 {
@@ -12,7 +12,7 @@ fn has_long_run(first: u8, second: u8) -> bool {
     false
 }
 
-/// Whether the octets can be packed cells: no four equal bits stand one behind the other in them.
+/// Whether the octets can be packed cells: they have no four equal bits in a row.
 pub fn are_packed(first: &[u8]) -> bool {
     for at in 1..first.len() {
         if has_long_run(first[at - 1], first[at]) {
@@ -22,8 +22,8 @@ pub fn are_packed(first: &[u8]) -> bool {
     first.len() > 1
 }
 
-/// Whether the octets can be packed cells only where the first cell stands in the lowest bit: two
-/// that follow one another have such a run, and none have one with the lowest bit of each first.
+/// Whether the octets can be packed cells only with the first cell in the lowest bit. Some two
+/// neighbours then have such a run, and none have one with the lowest bit of each octet first.
 pub fn are_turned(first: &[u8]) -> bool {
     let mut is_long = false;
     let mut is_long_turned = false;

@@ -1,25 +1,25 @@
-//! A reader whose first octets are looked at before they are read.
+//! A reader whose first octets are inspected before they are read.
 
 use std::alloc::{AllocError, Global};
 use std::io::{self, Error, ErrorKind, Read};
 
-/// How many octets are asked for at once.
+/// How many octets are read at once.
 const PIECE_LEN: usize = 4096;
 
-/// A reader whose first octets are looked at before they are read.
+/// A reader whose first octets are inspected before they are read.
 #[derive(Drop)]
 pub struct Preview<R: Drop> {
     reader: R,
     /// What was read ahead, and how many octets of it were given.
     ahead: Vec<u8>,
     given: usize,
-    /// The failure that ended the looking. It is told behind what was read before it.
+    /// The failure that ended the reading ahead. It is reported after what was read before it.
     failure: Option<Error>,
     is_ended: bool,
 }
 
 impl<R: Read + Drop> Preview<R> {
-    /// A reader of which nothing was looked at.
+    /// A reader that has read nothing ahead.
     pub fn new(alloc: Global, reader: R) -> Self {
         Preview {
             reader,
@@ -33,9 +33,9 @@ impl<R: Read + Drop> Preview<R> {
     /// The first octets, at least `len` of them, or all up to the end or a failure.
     ///
     /// # Errors
-    /// Memory was refused.
+    /// `AllocError` if there is no memory.
     pub fn first(&mut self, len: usize) -> Result<&[u8], AllocError> {
-        // An interrupted read is tried again, each of the others gives an octet or is the last.
+        // An interrupted read is tried again. Every other read gives an octet or is the last.
         for _ in 0..len {
             if self.ahead.len() >= len || self.is_ended {
                 break;

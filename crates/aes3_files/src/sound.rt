@@ -1,19 +1,19 @@
-//! The heads of sound files.
+//! The headers of sound files.
 
 ghost use Rattle.std.specs.Prelude.{◌≡◌, length};
 ghost use Rattle.aes3_files.specs.Sound.{begins_sound, is_aiff, is_riff, is_wave, is_wave64};
 ghost use Rattle.aes3_files.specs.Sound.{sound_file, sound_head};
 
-/// How many of a file's first bytes say whether it is a sound file.
+/// How many of a file's first bytes decide whether it is a sound file.
 pub const SOUND_HEAD_LEN: usize = 12;
 
-/// Where a RIFF or an IFF file says what it holds, behind its own name and its length.
+/// The place where a RIFF or an IFF file says what it holds, after its own name and its length.
 const FORM_PLACE: usize = 8;
 
-/// Where an MPEG-4 file names its first box, behind the length of that.
+/// The place where an MPEG-4 file names its first box, after the length of that box.
 const BOX_PLACE: usize = 4;
 
-/// A kind of sound file that its first bytes tell.
+/// A kind of sound file, by its first bytes.
 #[derive(Clone, Copy, PartialEq, Eq)]
 pub enum SoundFile {
     /// WAV: `RIFF`, `RF64` (EBU Tech 3306) or `BW64` (ITU-R BS.2088), any four octets, and `WAVE`.
@@ -28,7 +28,7 @@ pub enum SoundFile {
     CoreAudio,
     /// Ogg (RFC 3533), which holds Vorbis, Opus or FLAC.
     Ogg,
-    /// MP3 behind a tag of ID3v2.
+    /// MP3 after an ID3v2 tag.
     Mp3,
     /// The format of Sun and NeXT, `.au`.
     Sun,
@@ -37,8 +37,8 @@ pub enum SoundFile {
 }
 
 impl SoundFile {
-    /// The kind of sound file that these bytes begin, if they begin one. It takes
-    /// `SOUND_HEAD_LEN` bytes to tell.
+    /// The kind of sound file that these bytes begin, if they begin one. It needs `SOUND_HEAD_LEN`
+    /// bytes to decide.
     #[tactic(auto, unfolding(crate::specs::Sound::sound_file))]
     pub fn of(first: &[u8]) -> Option<Self>
         ensures { result ≡ sound_file first.now }
@@ -57,7 +57,7 @@ impl SoundFile {
     }
 }
 
-/// The kind of sound file that has this head.
+/// The kind of sound file with this header.
 fn sound_head(head: &[u8]) -> Option<SoundFile>
     requires { length head.now ≡ SOUND_HEAD_LEN }
     ensures { result ≡ sound_head head.now }
@@ -85,7 +85,7 @@ fn sound_head(head: &[u8]) -> Option<SoundFile>
     }
 }
 
-/// Whether it is the head of a WAV file.
+/// Whether it is the header of a WAV file.
 fn is_wave(head: &[u8]) -> bool
     requires { length head.now ≡ SOUND_HEAD_LEN }
     ensures { result ≡ is_wave head.now }
@@ -93,14 +93,14 @@ fn is_wave(head: &[u8]) -> bool
     is_riff(head) && head[FORM_PLACE..].starts_with(b"WAVE")
 }
 
-/// Whether it is the head of a RIFF file, of either length.
+/// Whether it is the header of a RIFF file, with either kind of lengths.
 fn is_riff(head: &[u8]) -> bool
     ensures { result ≡ is_riff head.now }
 {
     head.starts_with(b"RIFF") || head.starts_with(b"RF64") || head.starts_with(b"BW64")
 }
 
-/// Whether it is the head of an AIFF file.
+/// Whether it is the header of an AIFF file.
 fn is_aiff(head: &[u8]) -> bool
     requires { length head.now ≡ SOUND_HEAD_LEN }
     ensures { result ≡ is_aiff head.now }
@@ -109,7 +109,7 @@ fn is_aiff(head: &[u8]) -> bool
     head.starts_with(b"FORM") && (form.starts_with(b"AIFF") || form.starts_with(b"AIFC"))
 }
 
-/// Whether it is the head of a Wave64 file.
+/// Whether it is the header of a Wave64 file.
 fn is_wave64(head: &[u8]) -> bool
     ensures { result ≡ is_wave64 head.now }
 {

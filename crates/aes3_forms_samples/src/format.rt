@@ -1,11 +1,11 @@
-//! The forms of samples: samples of 32 bits put into one and made of one.
+//! The forms of samples, and conversions of 32-bit samples to and from them.
 
 ghost use Rattle.std.specs.Prelude.{◌≡◌, ◌≤◌, ◌<◌, length, take, ◌*◌, ◌+◌, ◌++◌, drop};
 ghost use Rattle.aes3_forms_samples.specs.Formats.{asks_exact, block_len, frame_len, sample_len};
 ghost use Rattle.aes3_forms_samples.specs.Formats.{narrow_one, narrowed, sign_octet, fours, fits};
 ghost use Rattle.aes3_forms_samples.specs.Formats.{seconds_are_zero, widened};
 
-/// How many samples a block has, and how many octets these have at most.
+/// How many samples a block has, and how many octets they have at most.
 pub(crate) const BLOCK_SAMPLES: usize = 384;
 
 pub const BLOCK_BYTES: usize = 1536;
@@ -13,15 +13,15 @@ pub const BLOCK_BYTES: usize = 1536;
 /// How many octets a sample of 32 bits has.
 const SAMPLE_BYTES: usize = 4;
 
-/// How the 24 bits of a sample stand in octets, the lowest octet first.
+/// How the 24 bits of a sample are stored in octets, the lowest octet first.
 #[derive(Clone, Copy, PartialEq, Eq)]
 pub enum SampleFormat {
-    /// The highest bits of a word of 32, of which the lowest 8 are 0.
+    /// The highest bits of a word of 32, whose lowest 8 bits are 0.
     S32,
     /// Three octets.
     S24,
-    /// The lowest bits of a word of 32 (`S24_LE` of ALSA): its highest octet is the sign where it is
-    /// written, and does not count where it is read.
+    /// The lowest bits of a word of 32 (`S24_LE` of ALSA). Its highest octet is written as the
+    /// sign, and ignored when it is read.
     S24In32,
     /// The highest 16 bits in two octets.
     S16,
@@ -59,8 +59,8 @@ impl SampleFormat {
         BLOCK_SAMPLES * self.sample_len()
     }
 
-    /// Whether samples of more than 24 bits are refused, where that is asked: in the other forms than
-    /// 32 bits there are none.
+    /// Whether samples of more than 24 bits are rejected, if `exact` asks for it. In other forms
+    /// than 32 bits there are no such samples.
     pub fn asks_exact(self, exact: bool) -> bool
         ensures { result ≡ asks_exact self exact }
     {
@@ -72,7 +72,7 @@ impl SampleFormat {
         }
     }
 
-    /// The four octets of a sample of 32 bits in this form, and zeros behind those.
+    /// The four octets of a sample of 32 bits converted to this form, filled up with zeros.
     fn narrow_one(self, a: u8, b: u8, c: u8, d: u8) -> [u8; SAMPLE_BYTES]
         ensures { take (sample_len self) result ≡ narrow_one self a b c d }
     {
@@ -84,9 +84,8 @@ impl SampleFormat {
         }
     }
 
-    /// Puts samples of 32 bits, lowest octet first, into this form: they stand in the first octets
-    /// then, of which it says how many they are. Of a sample all bits below those of the form are
-    /// dropped.
+    /// Converts samples of 32 bits, lowest octet first, to this form. The result is in the first
+    /// octets, and their number is returned. Bits of a sample below those of the form are dropped.
     pub fn narrow(self, samples: &mut [u8]) -> usize
         ensures octets { take result samples.new ≡ narrowed self samples.old }
         ensures within { result ≤ length samples.new }
@@ -122,8 +121,8 @@ impl SampleFormat {
         at
     }
 
-    /// Whether samples of 24 bits, as samples of 32 with the lowest octet 0, lose no bit when they are
-    /// put into this form: in 16 bits those lose some whose second octet is not 0.
+    /// Whether samples of 24 bits, given as samples of 32 with the lowest octet 0, lose no bit in
+    /// this form. In 16 bits, a sample loses bits if its second octet is not 0.
     pub fn fits(self, samples: &[u8]) -> bool
         ensures { result ≡ fits self samples.now }
     {
@@ -162,9 +161,9 @@ impl SampleFormat {
         }
     }
 
-    /// Makes samples of 32 bits, lowest octet first, of a block whose first octets are samples in this
-    /// form. The bits below those of the form are 0.
-    // Into the caller's memory: a block that is returned is copied, which costs a tenth of this. The
+    /// Converts the samples of a block in this form, which are in the first octets, to samples of
+    /// 32 bits, lowest octet first. Bits below those of the form are 0.
+    // Into the caller's memory: returning a block would copy it, which costs a tenth of this. The
     // form is named in each case, so that no loop chooses it for each sample.
     pub fn widen_into(self, octets: &[u8; BLOCK_BYTES], wide: &mut [u8; BLOCK_BYTES])
         ensures { wide.new ≡ widened self (take (block_len self) octets.now) }

@@ -5,16 +5,16 @@ ghost use Rattle.aes3_forms_words.specs.Forms.{by_place, code, is_within, own_wo
 ghost use Rattle.aes3_forms_words.specs.Forms.{without_code, written_word};
 ghost use Rattle.aes3_forms_words.specs.Lists.{each_word};
 
-/// The form of the 32-bit words that a subframe is in, slots 4 to 31 and a code of its preamble.
+/// The form of the 32-bit words of subframes: slots 4 to 31 and a code of the preamble.
 #[derive(Clone, Copy, PartialEq, Eq)]
 pub enum Words {
     /// A block file: the lowest octet first, and 0 in bits 0 to 3.
     Own,
-    /// ALSA's `IEC958_SUBFRAME_LE`: the same with a code in bits 0 to 3, of Z 8, of X 2, of Y 4, or
-    /// 0 where a word is read.
+    /// ALSA's `IEC958_SUBFRAME_LE`: the same with a code in bits 0 to 3: 8 for Z, 2 for X, 4 for Y.
+    /// When a word is read, the code may also be 0.
     Alsa,
     /// AM824 of IEC 61883-6 and SMPTE ST 2110-31: the highest octet first, with 0, 0, B, F, P, C, U
-    /// and V in it, and 24 bits of audio behind it.
+    /// and V in it, followed by 24 bits of audio.
     Am824,
 }
 
@@ -39,7 +39,7 @@ fn with_code(code: u8, octet: u8) -> u8
     octet / 16 * 16 + (octet % 16 + code) % 16
 }
 
-/// An octet with a code taken away from its bits 0 to 3.
+/// An octet with a code subtracted from its bits 0 to 3.
 fn without_code(code: u8, octet: u8) -> u8
     requires { code < 16 }
     ensures { result ≡ without_code code octet }
@@ -48,7 +48,7 @@ fn without_code(code: u8, octet: u8) -> u8
 }
 
 impl Words {
-    /// The code of the preamble at a place of a block.
+    /// The code of the preamble at this place of a block.
     fn code(self, place: usize) -> u8
         ensures code { result ≡ code self place }
         ensures few { result < 16 }
@@ -60,8 +60,8 @@ impl Words {
         }
     }
 
-    /// Whether a word that begins with this octet says that no block begins with it: its code is
-    /// that of X or of Y.
+    /// Whether a word that begins with this octet can't begin a block, because its code is that of
+    /// X or Y.
     pub fn is_within(self, octet: u8) -> bool
         ensures { result ≡ is_within self octet }
     {
@@ -89,7 +89,7 @@ impl Words {
         }
     }
 
-    /// The word of a block file that one in this form is read as.
+    /// The word of a block file that a word in this form is read as.
     fn own_word(self, place: usize, a: u8, b: u8, c: u8, d: u8) -> [u8; 4]
         ensures { result ≡ own_word self place a b c d }
     {
@@ -107,7 +107,7 @@ impl Words {
         }
     }
 
-    /// The word of a block file that one in this form is read as, at this place of its block.
+    /// The word of a block file that a word in this form is read as, at this place of its block.
     pub fn read_word(self, place: usize, word: [u8; 4]) -> [u8; 4]
         ensures { result ≡ each_word (own_word self) place word }
     {

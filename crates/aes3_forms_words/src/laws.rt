@@ -2,7 +2,7 @@
 
 ghost use Rattle.aes3_forms_words.specs.Laws.{OnlyRightAreLawful, WrittenAreRead, WrittenHaveCodes};
 
-/// What is written in a form is read back from it, of words that have 0 in bits 0 to 3.
+/// Words that have 0 in bits 0 to 3 are written in a form and read back unchanged.
 pub fn written_are_read()
     ensures { WrittenAreRead }
 {}
@@ -12,8 +12,8 @@ pub fn written_have_codes()
     ensures { WrittenHaveCodes }
 {}
 
-/// A word whose code is that of its place, or of ALSA 0, is read as one that a block file may have;
-/// one with another code stays unlawful there.
+/// A word with the code of its place, or 0 for ALSA, is read as a valid word of a block file. A
+/// word with another code is read as an invalid one.
 pub fn only_right_are_lawful()
     ensures { OnlyRightAreLawful }
 {}

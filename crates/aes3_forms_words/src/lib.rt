@@ -1,4 +1,4 @@
-//! Block files in the forms of other programs: the words of subframes as ALSA and AM824 have them.
+//! Block files in the forms of other programs: the words of subframes in ALSA and AM824.
 #![tactic(auto)]
 
 /// A word in a form.

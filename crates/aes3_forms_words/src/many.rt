@@ -12,13 +12,14 @@ const BLOCK_WORDS: usize = 384;
 /// How many octets a word has.
 const WORD_LEN: usize = 4;
 
-/// What octets are.
+/// Gives a proof the fact that octets are below 256. It does nothing.
 #[inline(always)]
 fn are_octets(octets: &[u8])
     ensures { (i : ℕ) → get_or octets.now i 0 < 256 }
 {}
 
-/// Puts each word of a block file into this form; octets at the end that fill no word stay.
+/// Puts each word of a block file into this form. Octets at the end that fill no word are
+/// unchanged.
 pub fn write_words(octets: &mut [u8], form: Words)
     ensures words { octets.new ≡ written_of form octets.old }
     ensures fits { (i : ℕ) → get_or octets.old i 0 < 256 }
@@ -34,7 +35,7 @@ pub fn write_words(octets: &mut [u8], form: Words)
     }
 }
 
-/// The same of the octets of one word.
+/// The same for the octets of one word.
 #[inline(always)]
 fn write_one(octets: &mut [u8], form: Words, place: usize)
     requires { length octets.old ≡ WORD_LEN }

@@ -1,4 +1,4 @@
-//! Blocks, and those made of samples as sound programs write them.
+//! Blocks, also made of samples in the form of sound programs.
 use aes3_slot::SUBFRAME_CELLS;
 use std::marker::Model;
 
@@ -53,7 +53,7 @@ pub fn zero_words() -> [u32; SLOTS]
     [0; SLOTS]
 }
 
-/// Whether a word is as a block file may have it.
+/// Whether a word is valid in a block file.
 pub(crate) fn is_lawful_word(word: u32) -> bool
     ensures { result ≡ is_lawful word }
 {
@@ -69,7 +69,7 @@ fn sample_at(bytes: &[u8; BLOCK_BYTES], slot: usize) -> u32
     u32::from_le_bytes([bytes[at], bytes[at + 1], bytes[at + 2], bytes[at + 3]])
 }
 
-/// The lawful word that carries the highest 24 of 32 bits as its audio, and no V, U and C.
+/// The valid word whose audio is the highest 24 of 32 bits, with V, U and C zero.
 fn word_of_sample(sample: u32) -> u32
     ensures lawful { is_lawful result ≡ true }
     ensures payload { payload_of result ≡ payload_of_sample sample }
@@ -87,9 +87,9 @@ impl Block {
         }
     }
 
-    /// The block of these samples, channel 1 and then channel 2 of each frame: 384 words of 32
-    /// bits, lowest byte first, each with the 24 audio bits of its subframe in the highest ones
-    /// (AES3-1, IEC 60958-1). The lowest 8 bits don't count, and V, U and C are zero.
+    /// The block of these samples, channel 1 and then channel 2 of each frame. They are 384 words
+    /// of 32 bits, lowest byte first. The highest 24 bits of each are the audio of its subframe
+    /// (AES3-1, IEC 60958-1). The lowest 8 bits are ignored, and V, U and C are zero.
     pub fn of_samples(bytes: &[u8; BLOCK_BYTES]) -> Block
         ensures { result ≡ map payload_of_sample (words_of bytes.now) }
     {
@@ -100,7 +100,7 @@ impl Block {
         Block::of_words(words)
     }
 
-    /// The same block once more.
+    /// A copy of the block.
     pub fn copy(&self) -> Block
         ensures { result ≡ self.now }
     {
@@ -119,7 +119,7 @@ impl Block {
         }
     }
 
-    /// Sets frame `i`, and no other.
+    /// Sets frame `i`. All other frames are unchanged.
     pub fn set_frame(&mut self, i: usize, frame: Frame)
         requires { i < FRAMES }
         ensures { self.new ≡ slice_set (slice_set self.old (2 * i) (bits_of frame.first))
@@ -129,7 +129,7 @@ impl Block {
         self.words[2 * i + 1] = word_of_payload(frame.second.payload());
     }
 
-    /// Sets the bit at `place` of payload `slot`, and no other.
+    /// Sets the bit at `place` of payload `slot`. All other bits are unchanged.
     #[inline(always)]
     pub(crate) fn set_bit(&mut self, slot: usize, place: u32, value: bool)
         requires slot { slot < SLOTS }
@@ -140,10 +140,10 @@ impl Block {
         self.words[slot] = with_bit(self.words[slot], place, value);
     }
 
-    /// The block of these words, as a block file has them.
+    /// The block of these words of a block file.
     ///
     /// # Errors
-    /// The number of the first word that is not lawful.
+    /// The number of the first word that is not valid.
     #[tactic(auto, unfolding(crate::specs::Blocks::block_slots))]
     pub fn try_of_words(words: &[u32; SLOTS]) -> Result<Block, usize>
         ensures block { IfOk result (λ b. b ≡ map payload_of words.now) }
@@ -162,7 +162,7 @@ impl Block {
         Ok(Block::of_words(*words))
     }
 
-    /// The block of lawful words.
+    /// The block of valid words.
     pub fn of_words(words: [u32; SLOTS]) -> Block
         requires { (i : ℕ) → i < block_slots → is_lawful (get_or words i 0) ≡ true }
         ensures { result ≡ map payload_of words }
@@ -170,7 +170,7 @@ impl Block {
         Block { words }
     }
 
-    /// Its words in a block file.
+    /// The words of the block in a block file.
     pub fn words(&self) -> &[u32; SLOTS]
         ensures count { length result.now ≡ block_slots }
         ensures lawful { (i : ℕ) → i < block_slots → is_lawful (get_or result.now i 0) ≡ true }

@@ -1,6 +1,6 @@
-//! The bits that subframes carry behind their audio, of the frames of a block as bytes.
+//! The V, U and C bits that the frames of a block carry after their audio, as bytes.
 
-/// The bits of a subframe behind its audio.
+/// The bits of a subframe after its audio.
 #[derive(Clone, Copy)]
 pub enum Carried {
     Validity,
@@ -29,8 +29,8 @@ impl Block {
         self.bytes(Carried::Validity, channel)
     }
 
-    /// Sets the validity bits of a channel, and changes nothing else but the parity bits that
-    /// follow.
+    /// Sets the validity bits of a channel. Everything else is unchanged but the parity bits that
+    /// depend on them.
     #[tactic(auto, unfolding(crate::specs::Statuses::with_validity))]
     pub fn set_validity(&mut self, channel: Channel, bytes: &[u8; STATUS_LEN])
         ensures { self.new ≡ with_validity self.old channel bytes.now }
@@ -47,8 +47,8 @@ impl Block {
         self.bytes(Carried::User, channel)
     }
 
-    /// Sets the user data bits of a channel, and changes nothing else but the parity bits that
-    /// follow.
+    /// Sets the user data bits of a channel. Everything else is unchanged but the parity bits that
+    /// depend on them.
     #[tactic(auto, unfolding(crate::specs::Statuses::with_user))]
     pub fn set_user(&mut self, channel: Channel, bytes: &[u8; STATUS_LEN])
         ensures { self.new ≡ with_user self.old channel bytes.now }
@@ -65,8 +65,8 @@ impl Block {
         self.bytes(Carried::Status, channel)
     }
 
-    /// Sets the channel status of a channel, and changes nothing else but the parity bits that
-    /// follow.
+    /// Sets the channel status of a channel. Everything else is unchanged but the parity bits that
+    /// depend on it.
     #[tactic(auto, unfolding(crate::specs::Statuses::with_status))]
     pub fn set_channel_status(&mut self, channel: Channel, status: &[u8; STATUS_LEN])
         ensures { self.new ≡ with_status self.old channel status.now }
@@ -74,7 +74,7 @@ impl Block {
         self.set_bytes(Carried::Status, channel, status);
     }
 
-    /// The bits of a channel's frames as bytes.
+    /// The V, U or C bits of a channel's frames as bytes.
     #[inline(always)]
     pub(crate) fn bytes(&self, bit: Carried, channel: Channel) -> [u8; STATUS_LEN]
         ensures { result ≡ bytes_in status_len (bits_at (place_of bit) self.now channel) }
@@ -86,7 +86,7 @@ impl Block {
         bytes
     }
 
-    /// Sets the bits of a channel's frames.
+    /// Sets the V, U or C bits of a channel's frames.
     #[inline(always)]
     pub(crate) fn set_bytes(&mut self, bit: Carried, channel: Channel, bytes: &[u8; STATUS_LEN])
         ensures { self.new ≡ with_bits_at (place_of bit) channel self.old
@@ -94,8 +94,8 @@ impl Block {
     {
         let place = place_in_payload(bit);
         let first = first_slot(channel);
-        // Byte by byte, so that each bit of a byte has a shift that is known when this is compiled;
-        // the frames are set in their order.
+        // Byte by byte, so that each bit of a byte has a shift that is known at compile time. The
+        // frames are set in order.
         for k in 0..STATUS_LEN {
             for j in 0..8 {
                 let i = 8 * k + j;
@@ -104,7 +104,7 @@ impl Block {
         }
     }
 
-    /// Byte `k` of them.
+    /// Byte `k` of these bits.
     #[inline(always)]
     fn byte(&self, bit: Carried, channel: Channel, k: usize) -> u8
         requires { k < STATUS_LEN }
@@ -118,7 +118,7 @@ impl Block {
         byte
     }
 
-    /// The bit of a channel in frame `i`.
+    /// The V, U or C bit of a channel in frame `i`.
     #[inline(always)]
     fn bit(&self, bit: Carried, channel: Channel, i: usize) -> bool
         requires { i < FRAMES }
@@ -131,7 +131,7 @@ impl Block {
     }
 }
 
-/// Where the bit stands in a payload.
+/// The place of the bit in a payload.
 #[inline(always)]
 fn place_in_payload(bit: Carried) -> u32
     ensures place { result ≡ place_of bit }
@@ -144,7 +144,7 @@ fn place_in_payload(bit: Carried) -> u32
     }
 }
 
-/// The first payload of a channel; of its others each is two behind the one before.
+/// The first payload of a channel; each later one is two payloads after the one before.
 #[inline(always)]
 fn first_slot(channel: Channel) -> usize
     ensures slot { result ≡ first_slot_of channel }
@@ -165,7 +165,7 @@ fn bit_of(bytes: &[u8; STATUS_LEN], i: usize) -> bool
     bytes[i / 8] >> (i % 8) & 1 == 1
 }
 
-/// How many bits of a byte are 1.
+/// The number of ones in a byte.
 #[tactic(auto, using(std::proofs::lemmas::Nat::ones_le_self))]
 fn ones(byte: u8) -> u64
     ensures ones { result ≡ count_ones byte }
@@ -174,7 +174,8 @@ fn ones(byte: u8) -> u64
     u64::from(byte.count_ones())
 }
 
-/// How many bits of bytes are 1: of those of a channel's frames in a block, in how many frames.
+/// The number of ones in these bytes. For the bits of a channel it is a number of frames of the
+/// block.
 pub fn ones_in(bytes: &[u8; STATUS_LEN]) -> u64
     ensures { result ≡ ones_in bytes.now }
 {

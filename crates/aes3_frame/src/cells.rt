@@ -11,8 +11,8 @@ use aes3_level::Level;
 use aes3_slot::{Mark, slots_cells, slots_cells_of_four};
 use std::simd::prelude::*;
 
-/// Puts the cells of a block after the level `before` into `cells`, a word a subframe, the earliest
-/// cell in bit 0.
+/// Puts the cells of a block after the level `before` into `cells`, a word for each subframe, the
+/// earliest cell in bit 0.
 pub fn fill_block_cells(before: Level, block: &Block, cells: &mut [u64; SLOTS])
     ensures { flat_map word_cells cells.new ≡ block_cells before block.now }
 {

@@ -1,10 +1,10 @@
-//! What stands in place of frames that no block gives.
+//! What fills the place of frames that no block has.
 
-/// What stands for the time between two blocks, where samples are to keep time.
+/// What fills the time between two blocks if samples are to keep time.
 #[derive(Clone, Copy, PartialEq, Eq)]
 pub enum Fill {
     /// Zero samples.
     Zero,
-    /// The last sample of each channel, again and again.
+    /// The last sample of each channel, repeated.
     Hold,
 }

@@ -1,15 +1,15 @@
-//! The cells of a block's subframes as they are gathered from a line and judged.
+//! The cells of a block's subframes, gathered from a line and judged.
 use crate::block::{Block, SLOTS, zero_words};
 use aes3_level::Level;
 use aes3_slot::{Mark, mark_of, wrong_cells};
 use std::marker::Model;
 use std::simd::prelude::*;
 
-/// The cells of a block's subframes, 64 each, the earliest in bit 0, as they come one behind the
-/// other.
+/// The cells of a block's subframes, 64 each, the earliest in bit 0, gathered one subframe after
+/// the other.
 ///
-/// A contract sees the words. It also keeps how many of the first are a block's first subframes as
-/// they stand, with right parity, so that nobody has to judge them again.
+/// A contract sees the words. It also keeps how many of the first words are known to be a block's
+/// first subframes with right parity, so that they aren't judged again.
 #[derive(Drop)]
 pub struct GatheredCells {
     words: [u64; SLOTS],
@@ -45,8 +45,8 @@ ghost use Rattle.aes3_frame.specs.Gathered.{IsRight, with_first};
 use crate::slots::wrong_parities;
 use crate::word::{payload_of_word, word_of_payload};
 
-/// One where a subframe's last cell is another level than `before`, as it is where its parity is
-/// wrong, else zero.
+/// Not zero if a subframe's last cell differs from the level `before`, as it does if its parity is
+/// wrong.
 fn other_last(before: Level, cells: u64) -> u64
     ensures { result ≡ 0 → at (word_cells cells) 63 ≡ before }
 {
@@ -56,8 +56,8 @@ fn other_last(before: Level, cells: u64) -> u64
     }
 }
 
-/// What is wrong with the cells of a subframe with this preamble after the level `before`: zero,
-/// where they are those of its payload, with right parity.
+/// What is wrong with the cells of a subframe with this preamble after the level `before`. If it is
+/// zero, they are the cells of its payload with right parity.
 pub fn wrong_in(before: Level, mark: Mark, cells: u64) -> u64
     ensures { result ≡ 0 → word_cells cells ≡ line before
         (subframe_runs mark (take payload_len (read_word cells))) }
@@ -65,8 +65,8 @@ pub fn wrong_in(before: Level, mark: Mark, cells: u64) -> u64
     wrong_cells(before, mark, cells) | other_last(before, cells)
 }
 
-/// How many of the first words are right after the level `before`, with `more` right ones put from
-/// `slot` on, where `right` of them were after the level `first`.
+/// How many of the first words are right after the level `before`, once `more` right ones are put
+/// from `slot` on. Until then `right` of them were right after the level `first`.
 fn right_behind(right: usize, first: Level, slot: usize, before: Level, more: usize) -> usize
     requires { slot + more ≤ SLOTS }
     ensures { (j : ℕ) → j < result
@@ -76,7 +76,7 @@ fn right_behind(right: usize, first: Level, slot: usize, before: Level, more: us
     if known == slot { slot + more } else { known }
 }
 
-/// Puts eight words from `slot` on.
+/// Puts eight words into `words` from `slot` on.
 fn put_eight(words: &mut [u64; SLOTS], slot: usize, subframes: &[u64; 8])
     requires { slot + 8 ≤ SLOTS }
     ensures { words.new ≡ with_first slot words.old subframes.now 8 }
@@ -86,7 +86,7 @@ fn put_eight(words: &mut [u64; SLOTS], slot: usize, subframes: &[u64; 8])
     }
 }
 
-/// Puts four words from `at` on.
+/// Puts four words into `words` from `at` on.
 fn put_four(words: &mut [u32; SLOTS], at: usize, four: &[u32; 4])
     requires { at + 4 ≤ SLOTS }
     ensures { words.new ≡ with_first at words.old four.now 4 }
@@ -96,8 +96,8 @@ fn put_four(words: &mut [u32; SLOTS], at: usize, four: &[u32; 4])
     }
 }
 
-/// The bits that a subframe's 64 cells carry in slots 4 to 31, each at the place of its slot in a
-/// word of a block file, but with the octets of that word two octets apart.
+/// The bits of slots 4 to 31 of a subframe, from its 64 cells. Each is at the place of its slot in
+/// a word of a block file, but the octets of that word are two octets apart.
 fn octets_apart(cells: u64) -> u64
     ensures none { (i : ℕ) → i < 4 → bit_at result i ≡ 0 }
     ensures bits { (i : ℕ) → i < 28 → bit_at result (16 * ((i + 4) / 8) + (i + 4) % 8)
@@ -112,7 +112,7 @@ fn octets_apart(cells: u64) -> u64
 /// The octets at even places.
 const EVEN: [usize; 16] = [0, 2, 4, 6, 8, 10, 12, 14, 16, 18, 20, 22, 24, 26, 28, 30];
 
-/// Words of the octets at even places.
+/// The words made of the octets at even places.
 fn even_octets(words: u64x4) -> [u32; 4]
     ensures bits { (i j : ℕ) → i < 4 → j < 32 → bit_at (get_or result i 0) j
         ≡ bit_at (get_or words i 0) (16 * (j / 8) + j % 8) }
@@ -121,8 +121,8 @@ fn even_octets(words: u64x4) -> [u32; 4]
     u32x4::from_le_bytes(words.to_le_bytes().swizzle(EVEN)).to_array()
 }
 
-/// The words of the payloads that the cells of four subframes carry, with the parity bits that
-/// they carry too: lawful where those are right.
+/// The words of four subframes, from their cells, with the parity bits as they were read. A word is
+/// valid if its parity is right.
 fn words_as_read(cells: &[u64; 4]) -> [u32; 4]
     ensures lawful { (i : ℕ) → i < 4 → odd_ones (read_word (get_or cells.now i 0)) ≡ false
         → is_lawful (get_or result i 0) ≡ true }
@@ -137,7 +137,7 @@ fn words_as_read(cells: &[u64; 4]) -> [u32; 4]
     ]))
 }
 
-/// The lawful word with the payload of a word.
+/// The valid word with the payload of a word.
 fn with_right_parity(word: u32) -> u32
     ensures lawful { is_lawful result ≡ true }
     ensures payload { payload_of result ≡ payload_of word }
@@ -145,7 +145,7 @@ fn with_right_parity(word: u32) -> u32
     word_of_payload(payload_of_word(word))
 }
 
-/// The lawful words with the payloads of four words.
+/// The valid words with the payloads of four words.
 fn with_right_parities(words: &[u32; 4]) -> [u32; 4]
     ensures lawful { (i : ℕ) → i < 4 → is_lawful (get_or result i 0) ≡ true }
     ensures payload { (i : ℕ) → i < 4 → payload_of (get_or result i 0)
@@ -159,8 +159,8 @@ fn with_right_parities(words: &[u32; 4]) -> [u32; 4]
     ]
 }
 
-/// The lawful words whose payloads the cells of four subframes carry. It makes no parity bits where
-/// `even` says that those that are there are right.
+/// The valid words of four subframes, from their cells. If `even` is true, the parity bits that
+/// were read are known to be right and are kept.
 fn words_of_four(cells: &[u64; 4], even: bool) -> [u32; 4]
     requires { even ≡ true → (i : ℕ) → i < 4
         → odd_ones (read_word (get_or cells.now i 0)) ≡ false }
@@ -176,8 +176,8 @@ fn words_of_four(cells: &[u64; 4], even: bool) -> [u32; 4]
     }
 }
 
-/// The block whose payloads these subframes carry. It makes no parity bits where `even` says that
-/// those that are there are right.
+/// The block of these subframes, from their cells. If `even` is true, the parity bits that were
+/// read are known to be right and are kept.
 #[inline(always)]
 fn block_of_fours(words: &[u64; SLOTS], even: bool) -> Block
     requires { even ≡ true → (i : ℕ) → i < block_slots
@@ -201,7 +201,7 @@ impl GatheredCells {
         GatheredCells::of_words(&[0; SLOTS])
     }
 
-    /// These words.
+    /// Gathered cells with these words.
     pub fn of_words(words: &[u64; SLOTS]) -> Self
         ensures words { result ≡ words.now }
         ensures len { length result ≡ block_slots }
@@ -213,7 +213,7 @@ impl GatheredCells {
         }
     }
 
-    /// Keeps these words in place of all.
+    /// Replaces all words by these.
     pub fn keep_all(&mut self, words: &[u64; SLOTS])
         ensures words { self.new ≡ words.now }
         ensures len { length self.new ≡ block_slots }
@@ -222,14 +222,14 @@ impl GatheredCells {
         self.right = 0;
     }
 
-    /// The words.
+    /// The words, 64 cells each.
     pub fn words(&self) -> &[u64; SLOTS]
         ensures { result.now ≡ self.now }
     {
         &self.words
     }
 
-    /// Keeps the cells of subframe `slot`, before whose first the line has the level `before`.
+    /// Keeps the cells of subframe `slot`; `before` is the level before the first of them.
     pub fn keep(&mut self, slot: usize, before: Level, cells: u64)
         requires { slot < SLOTS }
         ensures { self.new ≡ set self.old slot cells }
@@ -240,7 +240,7 @@ impl GatheredCells {
         self.words[slot] = cells;
     }
 
-    /// Keeps the cells of eight subframes from `slot` on, each of them right after the level
+    /// Keeps the cells of eight subframes from `slot` on. Each must be right after the level
     /// `before`.
     pub fn keep_eight(&mut self, slot: usize, before: Level, subframes: &[u64; 8])
         requires within { slot + 8 ≤ SLOTS }
@@ -253,8 +253,7 @@ impl GatheredCells {
         put_eight(&mut self.words, slot, subframes);
     }
 
-    /// The level after which the words are a block's cells as they stand, with right parity, where
-    /// it knows one.
+    /// A level after which the words are exactly a block's cells with right parity, if it is known.
     pub fn level_before(&self) -> Option<Level>
         ensures { IfSome result (λ s. flat_map word_cells self.now
             ≡ block_cells s (map (take payload_len) (read_words self.now))) }
@@ -266,13 +265,13 @@ impl GatheredCells {
         }
     }
 
-    /// The block whose payloads these subframes carry, as `Block::of_cells` gathers it. It makes no
-    /// parity bits where it knows those that are there to be right.
+    /// The block whose payloads these subframes carry, as `Block::of_cells` makes it. Parity bits
+    /// that are known to be right are kept.
     #[inline(always)]
     pub fn block(&self) -> Block
         ensures { result ≡ map (take payload_len) (read_words self.now) }
     {
-        // Two loops: one that asked each time would read the cells through memory.
+        // Two loops: one loop that tested each time would read the cells through memory.
         if self.right >= SLOTS {
             block_of_fours(&self.words, true)
         } else {
@@ -280,8 +279,8 @@ impl GatheredCells {
         }
     }
 
-    /// How many of the subframes have a wrong parity bit, as `wrong_parities` counts them. It
-    /// counts none again that it knows to be right.
+    /// How many of the subframes have a wrong parity bit, as `wrong_parities` counts them. Those
+    /// that are known to be right aren't checked again.
     pub fn wrong_parities(&self) -> u16
         ensures { result ≡ length (filter odd_ones (read_words self.now)) }
     {

@@ -1,5 +1,5 @@
-//! Subframes, frames and blocks of 192 frames as what they carry (AES3-2, AES3-3, IEC 60958-1), and
-//! blocks as they are gathered from a line.
+//! What subframes, frames and blocks of 192 frames carry (AES3-2, AES3-3, IEC 60958-1), and blocks
+//! as they are gathered from a line.
 #![tactic(auto)]
 
 /// A block: the words of its 384 subframes, also made of samples.
@@ -9,14 +9,13 @@ mod block;
 mod carried;
 /// The cells of a block, made four subframes at a time.
 mod cells;
-/// What stands in place of frames that no block gives.
+/// What fills the place of frames that no block has.
 mod fill;
 /// A frame: its two subframes.
 mod frame;
-/// The cells of subframes as they are gathered from a line and judged, and the block that they
-/// make.
+/// The cells of subframes, gathered from a line and judged, and the block that they make.
 mod gathered;
-/// Blocks of which some subframes have a wrong parity bit.
+/// Blocks in which some subframes have a wrong parity bit.
 mod mending;
 /// The words of subframes read from their cells, and how many have odd parity.
 mod slots;

@@ -1,4 +1,4 @@
-//! Blocks of which some subframes have a wrong parity bit.
+//! Blocks in which some subframes have a wrong parity bit.
 
 ghost use Rattle.std.specs.Prelude.{◌≡◌, ℕ, ◌<◌, true, get_or, map};
 ghost use Rattle.aes3_slot.specs.ReadWords.{read_word, read_words};
@@ -11,8 +11,8 @@ use crate::fill::Fill;
 use crate::gathered::GatheredCells;
 use crate::slots::{has_odd_ones, word_of_cells};
 
-/// The lawful word of the payload that a subframe's 64 cells carry, filled where their parity is
-/// wrong; `held` is the word of the subframe before it in its channel.
+/// The valid word of a subframe, from its 64 cells. If their parity is wrong, it is filled; `held`
+/// is the word of the subframe before it in its channel.
 fn mended_word(cells: u64, fill: Fill, held: u32) -> u32
     requires { is_lawful held ≡ true }
     ensures lawful { is_lawful result ≡ true }
@@ -28,8 +28,8 @@ fn mended_word(cells: u64, fill: Fill, held: u32) -> u32
     }
 }
 
-/// The lawful words of the payloads that subframes carry, filled where their parity is wrong, behind
-/// two others with these words.
+/// The valid words of subframes, from their cells, filled if their parity is wrong. `held` and
+/// `other` are the words of the two subframes before them.
 fn mended_words(cells: &[u64; SLOTS], fill: Fill, held: u32, other: u32) -> [u32; SLOTS]
     requires held { is_lawful held ≡ true }
     requires other { is_lawful other ≡ true }
@@ -50,9 +50,9 @@ fn mended_words(cells: &[u64; SLOTS], fill: Fill, held: u32, other: u32) -> [u32
 }
 
 impl GatheredCells {
-    /// The block whose payloads these subframes carry, those of wrong parity filled: with zeros, or
-    /// each with the payload of the subframe before it in its channel, which for the first frame is
-    /// that of the last of the block `before`.
+    /// The block whose payloads these subframes carry, those with wrong parity filled: with zeros,
+    /// or with the payload of the subframe before it in its channel. Before the first frame, that
+    /// is the payload in the last frame of the block `before`.
     pub fn mended(&self, fill: Fill, before: &Block) -> Block
         ensures { result ≡ mended fill before.now (read_words self.now) }
     {

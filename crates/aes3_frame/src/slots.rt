@@ -11,7 +11,7 @@ use crate::block::{Block, SLOTS, zero_words};
 use crate::word::{PAYLOAD_LIMIT, word_of_payload};
 use aes3_slot::slot_bits;
 
-/// The lawful word whose payload a subframe's 64 cells carry.
+/// The valid word of the payload that a subframe's 64 cells carry.
 pub(crate) fn word_of_cells(cells: u64) -> u32
     ensures lawful { is_lawful result ≡ true }
     ensures payload { payload_of result ≡ take payload_len (read_word cells) }
@@ -19,8 +19,8 @@ pub(crate) fn word_of_cells(cells: u64) -> u32
     word_of_payload(slot_bits(cells) % PAYLOAD_LIMIT)
 }
 
-/// Whether the number of ones that a subframe's 64 cells carry is odd. A one has one high cell, a
-/// zero none or two.
+/// Whether the number of ones in slots 4 to 31 of a subframe's 64 cells is odd. A one has one high
+/// cell, a zero none or two.
 pub(crate) fn has_odd_ones(cells: u64) -> bool
     ensures { result ≡ odd_ones (read_word cells) }
 {
@@ -29,7 +29,7 @@ pub(crate) fn has_odd_ones(cells: u64) -> bool
 
 impl Block {
     /// The block whose payloads these subframes carry, 64 cells each, the earliest in bit 0.
-    /// Preambles and parity bits don't count.
+    /// Preambles and parity bits are ignored.
     pub fn of_cells(words: &[u64; SLOTS]) -> Block
         ensures { result ≡ map (take payload_len) (read_words words.now) }
     {
@@ -41,8 +41,8 @@ impl Block {
     }
 }
 
-/// How many of these subframes, 64 cells each, the earliest in bit 0, have a wrong parity bit: the
-/// ones in time slots 4 to 31 are odd in number (IEC 60958-1: even parity).
+/// How many of these subframes, 64 cells each, the earliest in bit 0, have a wrong parity bit. Then
+/// the number of ones in time slots 4 to 31 is odd (IEC 60958-1: even parity).
 pub fn wrong_parities(words: &[u64; SLOTS]) -> u16
     ensures { result ≡ length (filter odd_ones (read_words words.now)) }
 {

@@ -1,4 +1,4 @@
-//! The two channels of a line, and how long their status is.
+//! The two channels of a line, and the length of their status.
 
 /// One of the two channels of a line.
 #[derive(Clone, Copy, PartialEq, Eq)]

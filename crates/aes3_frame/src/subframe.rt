@@ -12,7 +12,7 @@ pub struct Subframe {
     /// Time slots 4 to 27: a sample of 24 bits in two's complement, the least significant bit
     /// first.
     pub audio: u32,
-    /// Validity: false where the sample is suitable for conversion to analogue.
+    /// Validity: false if the sample is suitable for conversion to analogue.
     pub v: bool,
     /// The user data bit.
     pub u: bool,
@@ -21,13 +21,13 @@ pub struct Subframe {
     ghost in_range: { audio < 2 ^ 24 },
 }
 
-/// How many values an audio sample word of 24 bits has.
+/// The number of values of an audio sample word of 24 bits.
 pub const AUDIO_LIMIT: u32 = 1 << 24;
 
 impl Subframe {
     ghost use Rattle.aes3_frame.specs.Subframes.{bits_of, signed_of};
 
-    /// A subframe of these bits, or None where `audio` has more than 24 bits.
+    /// A subframe of these bits, or `None` if `audio` has more than 24 bits.
     pub fn try_new(audio: u32, v: bool, u: bool, c: bool) -> Option<Subframe>
         ensures none { IsNone result ↔ (2 ^ 24 ≤ audio) }
         ensures audio { IfSome result (λ s. s.audio ≡ audio) }
@@ -42,14 +42,14 @@ impl Subframe {
         }
     }
 
-    /// The auxiliary bits, time slots 4 to 7, where the sample word has at most 20 bits.
+    /// The auxiliary bits, time slots 4 to 7, if the sample word has at most 20 bits.
     pub fn aux(&self) -> u8
         ensures { result ≡ self.now.audio % 16 }
     {
         (self.audio % 16) as u8
     }
 
-    /// The sample in time slots 8 to 27, where the sample word has at most 20 bits.
+    /// The sample in time slots 8 to 27, if the sample word has at most 20 bits.
     pub fn sample20(&self) -> i32
         ensures { result ≡ signed_of 20 (self.now.audio / 16) }
     {
@@ -97,7 +97,7 @@ impl Subframe {
     }
 }
 
-/// `len` bits with one more.
+/// Appends a bit to `len` bits.
 fn with_bit(bits: u32, len: u32, bit: bool) -> u32
     requires few { len < 32 }
     requires bound { bits < 2 ^ len }

@@ -1,4 +1,4 @@
-//! Words of a block file: bit `n` is time slot `n`, slots 0 to 3 are zero.
+//! Words of a block file: bit `n` is time slot `n`, and slots 0 to 3 are zero.
 
 ghost use Rattle.std.specs.Prelude.{◌≡◌, ◌<◌, ◌^◌, ◌/◌, true, false, slice_index_or, slice_set};
 ghost use Rattle.aes3_slot.specs.Slots.{payload_bits, slots_bits};
@@ -6,10 +6,10 @@ ghost use Rattle.aes3_frame.specs.Files.{has_code, has_parity, is_lawful, payloa
 
 use aes3_slot::payload_parity;
 
-/// How many payloads 27 bits can hold.
+/// The number of payloads of 27 bits.
 pub const PAYLOAD_LIMIT: u32 = 1 << 27;
 
-/// The lawful word of a payload.
+/// The valid word of a payload.
 pub(crate) fn word_of_payload(payload: u32) -> u32
     requires { payload < 2 ^ 27 }
     ensures lawful { is_lawful result ≡ true }
@@ -36,7 +36,7 @@ pub(crate) fn bit_of_word(word: u32, place: u32) -> bool
     word >> (4 + place) & 1 == 1
 }
 
-/// The lawful word of the same payload with another bit at `place`.
+/// The valid word of the same payload with another bit at `place`.
 #[inline(always)]
 pub(crate) fn with_bit(word: u32, place: u32, value: bool) -> u32
     requires lawful { is_lawful word ≡ true }
@@ -44,8 +44,7 @@ pub(crate) fn with_bit(word: u32, place: u32, value: bool) -> u32
     ensures lawful { is_lawful result ≡ true }
     ensures payload { payload_of result ≡ slice_set (payload_of word) place value }
 {
-    // Where the bit changes so does the parity: turned without a count of ones, it is again that
-    // of the payload.
+    // If the bit changes, so does the parity: inverting it keeps it right, without a count of ones.
     let slot = 4 + place;
     let turned = (word ^ u32::from(value) << slot) & 1 << slot;
     word ^ (turned | turned << (31 - slot))
@@ -66,7 +65,7 @@ pub fn has_right_code(word: u32) -> bool
     word % 16 == 0
 }
 
-/// Whether bit 31 of a word makes the ones in bits 4 to 31 even in number.
+/// Whether bit 31 of a word makes the number of ones in bits 4 to 31 even.
 pub fn has_right_parity(word: u32) -> bool
     ensures { result ≡ has_parity word }
 {

@@ -1,4 +1,4 @@
-//! What is counted of a channel.
+//! The counts of a channel.
 
 ghost use Rattle.std.specs.Prelude.{◌≡◌, [], map, max};
 ghost use Rattle.std.specs.List.{sum_by};
@@ -12,7 +12,7 @@ use crate::samples::{FRAMES, magnitude_at, square};
 use aes3_block::{Block, Channel, SLOTS};
 use aes3_frame::ones_in;
 
-/// What is counted of a channel of whole blocks.
+/// The counts of a channel of whole blocks.
 #[derive(Clone, Copy)]
 pub(crate) struct ChannelFacts {
     /// The status of the first block, if there is one.
@@ -29,7 +29,7 @@ pub(crate) struct ChannelFacts {
     pub(crate) energy: u128,
 }
 
-/// Whether a status is another than the one before, if there is one, as a number.
+/// Whether a status differs from the one before, if there is one, as a number.
 fn differs(before: &Option<[u8; 24]>, status: &[u8; 24]) -> u64
     ensures { result ≡ differs before.now status.now }
 {
@@ -39,7 +39,7 @@ fn differs(before: &Option<[u8; 24]>, status: &[u8; 24]) -> u64
     }
 }
 
-/// The first status with one more behind it.
+/// The first status, after one more status.
 fn first_with(first: Option<[u8; 24]>, status: [u8; 24]) -> Option<[u8; 24]>
     ensures { result ≡ first_with first status }
 {
@@ -50,7 +50,7 @@ fn first_with(first: Option<[u8; 24]>, status: [u8; 24]) -> Option<[u8; 24]>
 }
 
 impl ChannelFacts {
-    /// No block.
+    /// The counts without any block.
     #[tactic(auto, unfolding(crate::specs::Facts::total, crate::specs::Facts::most_count, crate::specs::Facts::most_energy))]
     pub(crate) fn none(_channel: Channel) -> Self
         ensures { result ≡ channel_facts _channel [] }
@@ -65,7 +65,7 @@ impl ChannelFacts {
         }
     }
 
-    /// Counts the samples of a channel of a whole block of these words.
+    /// Counts the samples of a channel of a whole block, given its words.
     fn count_samples(&mut self, words: &[u32; SLOTS], channel: Channel)
         ensures first { self.new.first ≡ self.old.first }
         ensures latest { self.new.latest ≡ self.old.latest }

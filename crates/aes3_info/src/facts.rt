@@ -1,4 +1,4 @@
-//! All that the page tells.
+//! All facts on the page.
 
 use crate::channel::ChannelFacts;
 use crate::gaps::GapFacts;

@@ -1,4 +1,4 @@
-//! What is counted of the gaps between whole blocks.
+//! The counts of the gaps between whole blocks.
 
 ghost use Rattle.std.specs.Prelude.{◌≡◌, ◌≤◌, ◌^◌, []};
 ghost use Rattle.aes3_lock_gaps.specs.Gaps.{behind_full, full_count, full_gaps, gaps};
@@ -12,15 +12,15 @@ pub(crate) const BLOCK_CELLS: u64 = 24_576;
 /// How many gaps there are, and how many cells they have.
 #[derive(Clone, Copy)]
 pub(crate) struct GapFacts {
-    /// How many count among the faults.
+    /// How many gaps count as faults.
     pub(crate) gaps: u64,
-    /// How many cells these have.
+    /// How many cells these gaps have.
     pub(crate) lost: u64,
-    /// How many cells have the others, where the input is cut.
+    /// How many cells the other gaps have, where the input is cut.
     pub(crate) cut: u64,
 }
 
-/// The place behind the gaps of a block's length between two places.
+/// The place after the gaps of a block's length between two places.
 pub(crate) fn behind_full(from: u64, to: u64) -> u64
     requires near { to ≤ 2 ^ 43 }
     ensures { result ≡ behind_full from to }
@@ -29,7 +29,7 @@ pub(crate) fn behind_full(from: u64, to: u64) -> u64
 }
 
 impl GapFacts {
-    /// No gap.
+    /// The counts without any gap.
     #[tactic(auto, unfolding(crate::specs::Facts::total, crate::specs::Facts::most_count))]
     pub(crate) fn none() -> Self
         ensures { result ≡ gap_facts [] }
@@ -53,7 +53,7 @@ impl GapFacts {
         }
     }
 
-    /// All gaps between two places, of which a short one counts or not.
+    /// All gaps between two places; `counts` says whether a short one is a fault.
     pub(crate) fn all(counts: bool, from: u64, to: u64) -> Self
         ensures { result ≡ gap_facts (gaps counts from to) }
     {
@@ -75,7 +75,7 @@ impl GapFacts {
         }
     }
 
-    /// These and others behind them.
+    /// These gaps and the gaps after them.
     pub(crate) fn and(self, other: GapFacts) -> Self
         ensures { result ≡ both_gaps self other }
     {

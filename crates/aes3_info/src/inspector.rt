@@ -1,4 +1,4 @@
-//! Cells that are counted as they come, and the page at their end.
+//! Counting cells as they come, and the page at their end.
 
 ghost use Rattle.std.specs.Prelude.{◌≡◌, ℕ, ◌+◌, ◌<◌, ◌≤◌, ◌^◌, ◌∷◌, ◌++◌, List, [], IfOk, false, length};
 ghost use Rattle.aes3_cell.specs.Ends.{Grew, Told};
@@ -26,16 +26,16 @@ use aes3_lock::{Ending, Lock};
 use aes3_lock_runs::{Listener, run_cells};
 use aes3_status_text::Notation;
 
-/// What is known of a recording of which some cells have come.
+/// What is known of a recording after some cells.
 #[derive(Drop)]
 struct Inspector {
     notation: Notation,
     facts: Facts,
-    /// The reports account for the cells before it.
+    /// The reports account for all cells before this place.
     place: u64,
 }
 
-/// Nothing is known.
+/// The facts before the first cell.
 fn no_facts() -> Facts
     ensures { result ≡ facts_with 0 [] [] }
 {
@@ -49,7 +49,7 @@ fn no_facts() -> Facts
 }
 
 impl Inspector {
-    /// No cell has come.
+    /// The state before the first cell.
     fn new(notation: Notation) -> Self
         ensures notation { result.notation ≡ notation }
         ensures none { Inspects result.facts result.place [] }
@@ -61,7 +61,7 @@ impl Inspector {
         }
     }
 
-    /// The gaps before a report, that of an ending that a lock has just answered.
+    /// The gaps before a report, given the ending that a lock has just returned.
     fn gaps_before(&self, _lock: &Lock, ending: Ending) -> GapFacts
         ensures { (r : List Report) → self.now.facts.reports.whole ≡ total most_count is_whole r
             → result ≡ gap_facts (gaps_before (length (wholes r)) self.now.place
@@ -75,8 +75,8 @@ impl Inspector {
         }
     }
 
-    /// The place before which a report accounts for the cells, that of an ending that a lock has just
-    /// answered.
+    /// The place up to which a report accounts for the cells, given the ending that a lock has just
+    /// returned.
     fn place_behind(&self, _lock: &Lock, ending: Ending) -> u64
         requires near { place_of (report_in _lock.now ending) ≤ 2 ^ 43 }
         ensures { result ≡ behind_report self.now.place (report_in _lock.now ending) }
@@ -89,7 +89,7 @@ impl Inspector {
         }
     }
 
-    /// Counts the samples of a whole block, where this ending is of one.
+    /// Counts the samples of a whole block, if this is its ending.
     fn count_samples(&mut self, lock: &Lock, ending: Ending)
         ensures notation { self.new.notation ≡ self.old.notation }
         ensures place { self.new.place ≡ self.old.place }
@@ -102,7 +102,7 @@ impl Inspector {
         }
     }
 
-    /// Counts a report, that of an ending that a lock has just answered, and the gaps before it.
+    /// Counts a report, given the ending that a lock has just returned, and the gaps before it.
     fn count(&mut self, lock: &Lock, ending: Ending)
         requires near { place_of (report_in lock.now ending) ≤ 2 ^ 43 }
         ensures notation { self.new.notation ≡ self.old.notation }
@@ -116,7 +116,7 @@ impl Inspector {
         self.place = self.place_behind(lock, ending);
     }
 
-    /// Counts the gaps behind the last report, up to the end of `seen` cells.
+    /// Counts the gaps after the last report, up to the end of `seen` cells.
     fn count_rest(&mut self, seen: u64)
         ensures notation { self.new.notation ≡ self.old.notation }
         ensures facts { (r : List Report) → Behind self.old.facts self.old.place r
@@ -171,16 +171,18 @@ impl Listener for Inspector {
     }
 }
 
-/// Reads cells from any cell on, and writes one page about them at their end: how many cells,
-/// blocks, faults and gaps there are; the rate that the first whole block names in channel 1
-/// (AES3-2, IEC 60958-3), and how long the cells take at it; and of each channel its status, how
-/// often that changes, how many validity bits are 1, and the peak and the RMS of its samples.
+/// Reads cells from any cell on, and writes one page about them at their end:
+/// - how many cells, blocks, faults and gaps there are,
+/// - the rate that the first whole block names in channel 1 (AES3-2, IEC 60958-3), and how long the
+///   cells take at that rate,
+/// - for each channel the status, how often that changes, how many validity bits are 1, and the
+///   peak and the RMS of the samples.
 ///
-/// Of a fault, a gap and a block it says what `account` does, in one number each. The counts have
-/// the gaps that count among the faults.
+/// Faults, gaps and blocks are those of `account`, as one number each. Gaps that count are counted
+/// as faults.
 ///
 /// # Errors
-/// Those of `check`; then nothing is written, and after `Write` a front of the page.
+/// Those of `check`. Then nothing is written; after `Write`, a front of the page.
 pub fn info<S: Source, T: Sink>(
     source: &mut S,
     sink: &mut T,
@@ -192,12 +194,12 @@ pub fn info<S: Source, T: Sink>(
     requires sink_room { T.failed sink.old + 1 < 2 ^ 64 }
     requires limit { max_bytes ≤ 2 ^ 40 }
 
-    // Where it answers Ok, exactly the page of the cells is written.
+    // If it returns Ok, exactly the page of the cells is written.
     ensures page { IfOk result (λ _. (b : List ℕ)
         → Told (S.given source.old) (S.given source.new) b
         → Grew (T.taken sink.old) (T.taken sink.new) (info_page notation (cells_of input b))) }
-    // It is a run over cells: Ok is owed, a refusal has its cause, and nothing is written before
-    // the end.
+    // A run over cells: it returns Ok if it can. An error has its cause, and nothing is written
+    // before the end.
     ensures run { CellRun max_bytes input (record {
       whole = info_page notation;
       begun = no_page;

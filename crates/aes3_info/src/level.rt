@@ -3,22 +3,22 @@
 ghost use Rattle.std.specs.Prelude.{◌≡◌, ◌<◌, ◌≤◌, ◌^◌};
 ghost use Rattle.aes3_info.specs.Levels.{decade, half_step, level_of, steps_below, times};
 
-/// What stands for 1 in the two powers below.
+/// The number for 1 in the two powers below.
 const UNIT: u64 = 1 << 31;
 
 /// A level of half a tenth of a decibel less than full scale, as a power: 10^(-1/200).
 const HALF_STEP: u64 = 2_122_901_606;
 
-/// One of a tenth of a decibel less: 10^(-1/100).
+/// A level of a tenth of a decibel less: 10^(-1/100).
 const STEP: u64 = 2_098_600_952;
 
-/// How many tenths of a decibel ten times the power are.
+/// A ratio of ten of the power, in tenths of a decibel.
 const DECADE: u64 = 100;
 
-/// How many times ten times the power are tried.
+/// How many ratios of ten are tried.
 const DECADES: u64 = 30;
 
-/// A product, or the greatest number.
+/// The product, or the greatest number if it is less.
 #[tactic(auto, unfolding(crate::specs::Levels::times))]
 pub(crate) fn times(power: u128, factor: u64) -> u128
     ensures { result ≡ times power factor }
@@ -26,7 +26,7 @@ pub(crate) fn times(power: u128, factor: u64) -> u128
     power.saturating_mul(u128::from(factor))
 }
 
-/// How many steps less than full scale a power is that is no decade less.
+/// How many steps a power is below full scale, if it is less than a decade below.
 fn steps_below(power: u128, full: u128) -> u64
     ensures steps { result ≡ steps_below decade half_step power full }
     ensures few { result ≤ DECADE }
@@ -42,7 +42,7 @@ fn steps_below(power: u128, full: u128) -> u64
     DECADE
 }
 
-/// How many tenths of a decibel a power is less than a full one, to the nearest.
+/// How many tenths of a decibel a power is below the full one, to the nearest.
 pub(crate) fn level_of(power: u128, full: u128) -> u64
     ensures { result ≡ level_of power full }
 {

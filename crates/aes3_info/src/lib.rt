@@ -2,23 +2,23 @@
 //! the level of each channel (AES3-1, AES3-2, AES3-3, IEC 60958-1, IEC 60958-3).
 #![tactic(auto)]
 
-/// What is counted of a channel.
+/// The counts of a channel.
 mod channel;
-/// All that the page tells.
+/// All facts on the page.
 mod facts;
-/// What is counted of the gaps between whole blocks.
+/// The counts of the gaps between whole blocks.
 mod gaps;
-/// Cells that are counted as they come, and the page at their end.
+/// Counting cells as they come, and the page at their end.
 mod inspector;
 /// Levels below full scale.
 mod level;
-/// Counts that stay at the greatest number.
+/// Counts that stop at the greatest number.
 mod more;
 /// The page, field by field.
 mod page;
 /// The sampling frequency that a channel status names.
 mod rate;
-/// What is counted of the reports on cells.
+/// The counts of the reports on cells.
 mod reports;
 /// The magnitudes of a block's samples.
 mod samples;

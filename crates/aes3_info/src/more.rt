@@ -1,9 +1,9 @@
-//! Counts that stay at the greatest number.
+//! Counts that stop at the greatest number.
 
 ghost use Rattle.std.specs.Prelude.{◌≡◌};
 ghost use Rattle.aes3_info.specs.Facts.{more, more_energy};
 
-/// More of what is counted.
+/// The sum of two counts, which stops at the greatest number.
 #[tactic(auto, unfolding(crate::specs::Facts::more, crate::specs::Facts::most_count))]
 pub(crate) fn more(count: u64, new: u64) -> u64
     ensures { result ≡ more count new }
@@ -11,7 +11,7 @@ pub(crate) fn more(count: u64, new: u64) -> u64
     count.saturating_add(new)
 }
 
-/// More of a sum of squares.
+/// The sum of squares with more of them, which stops at the greatest number.
 #[tactic(auto, unfolding(crate::specs::Facts::more_energy, crate::specs::Facts::most_energy))]
 pub(crate) fn more_energy(energy: u128, new: u64) -> u128
     ensures { result ≡ more_energy energy new }

@@ -23,7 +23,7 @@ use aes3_status_text::{LINE_LEN, Line, Notation, put_status};
 /// How many bytes the name of a field has at most.
 const NAME_LEN: usize = 12;
 
-/// How many bytes a field has at most, but for that of a status.
+/// How many bytes a field has at most, except that of a status.
 const FIELD_LEN: usize = 64;
 
 /// How many bytes a value has at most.
@@ -93,7 +93,7 @@ fn put_name(line: &mut Line, notation: Notation, name: &str, digit: &str)
     }
 }
 
-/// Appends what stands behind the value of a field.
+/// Appends what follows the value of a field.
 #[tactic(auto, unfolding(crate::specs::Pages::field_end))]
 fn put_end(line: &mut Line, notation: Notation)
     requires space { length line.old + 1 ≤ LINE_LEN }
@@ -106,7 +106,7 @@ fn put_end(line: &mut Line, notation: Notation)
     }
 }
 
-/// What a value is of which nothing is known.
+/// The value if nothing is known.
 fn unknown(notation: Notation) -> &'static str
     ensures text { result.now ≡ unknown notation }
     ensures len { length result.now ≤ 7 }
@@ -156,7 +156,7 @@ fn digit(number: u64) -> u8
     b'0' + (number % 10) as u8
 }
 
-/// How many cells a second has on a line of so many frames a second.
+/// How many cells a second has at `rate` frames in a second.
 fn second_cells(rate: u32) -> u64
     ensures cells { result ≡ second_cells rate }
     ensures some { 0 < result }
@@ -165,7 +165,7 @@ fn second_cells(rate: u32) -> u64
     FRAME_CELLS * u64::from(rate.max(1))
 }
 
-/// Appends how long so many cells take, in seconds, where a second has so many.
+/// Appends how long `cells` cells take, in seconds, if a second has `second` cells.
 #[tactic(auto, unfolding(aes3_text_lines::specs::Events::seconds))]
 fn put_seconds(line: &mut Line, cells: u64, second: u64)
     requires some { 0 < second }
@@ -197,7 +197,7 @@ fn put_rate(line: &mut Line, notation: Notation, rate: Option<u32>)
     }
 }
 
-/// Appends how long so many cells take, where the rate is known.
+/// Appends how long `cells` cells take, if the rate is known.
 #[tactic(auto, unfolding(crate::specs::Pages::seconds_value))]
 fn put_length(line: &mut Line, notation: Notation, rate: Option<u32>, cells: u64)
     requires space { length line.old + VALUE_LEN ≤ LINE_LEN }
@@ -323,7 +323,7 @@ fn status_of(notation: Notation, channel: Channel, status: &Option<[u8; 24]>) ->
     line
 }
 
-/// Appends so many tenths of a decibel below full scale, in decibels.
+/// Appends `tenths` tenths of a decibel below full scale, in decibels.
 #[tactic(auto, unfolding(crate::specs::Pages::tenths_value))]
 fn put_tenths(line: &mut Line, tenths: u64)
     requires space { length line.old + VALUE_LEN ≤ LINE_LEN }
@@ -337,7 +337,7 @@ fn put_tenths(line: &mut Line, tenths: u64)
     line.bytes(&[b'.', digit(tenths)]);
 }
 
-/// What a level is where there is no power.
+/// The level if there is no power.
 fn no_level(notation: Notation) -> &'static str
     ensures text { result.now ≡ no_level notation }
     ensures len { length result.now ≤ 4 }
@@ -386,7 +386,7 @@ fn answer(notation: Notation, is: bool) -> &'static str
     }
 }
 
-/// Appends whether all samples of a channel are zero, where there is a block.
+/// Appends whether all samples of a channel are zero, if there is a block.
 #[tactic(auto, unfolding(crate::specs::Pages::channel_field, crate::specs::Pages::silence_value))]
 fn put_silence(line: &mut Line, notation: Notation, channel: Channel, whole: u64, greatest: u32)
     requires space { length line.old + FIELD_LEN ≤ LINE_LEN }
@@ -403,14 +403,14 @@ fn put_silence(line: &mut Line, notation: Notation, channel: Channel, whole: u64
     put_end(line, notation);
 }
 
-/// The square of full scale in each sample of so many blocks.
+/// The square of full scale in each sample of `whole` blocks.
 fn full_energy(whole: u64) -> u128
     ensures { result ≡ full_energy whole }
 {
     times(times(FULL_POWER, FRAMES), whole)
 }
 
-/// The fields of a channel of so many whole blocks behind its status.
+/// The fields of a channel of `whole` whole blocks after its status.
 #[tactic(auto, unfolding(crate::specs::Pages::sample_fields))]
 fn samples_of(notation: Notation, channel: Channel, whole: u64, facts: &ChannelFacts) -> Line
     ensures text { result ≡ sample_fields notation channel whole facts.now }
@@ -439,7 +439,7 @@ fn samples_of(notation: Notation, channel: Channel, whole: u64, facts: &ChannelF
     line
 }
 
-/// Writes the fields of a channel of so many whole blocks.
+/// Writes the fields of a channel of `whole` whole blocks.
 ///
 /// # Errors
 /// The sink's fault; then it has taken a front of them.
@@ -458,7 +458,7 @@ fn put_channel<T: Sink>(
     write_all(sink, samples_of(notation, channel, whole, facts).as_bytes())
 }
 
-/// What ends the page.
+/// The end of the page.
 fn closing(notation: Notation) -> &'static str
     ensures text { result.now ≡ closing notation }
 {

@@ -5,7 +5,7 @@ ghost use Rattle.aes3_info.specs.Rates.{consumer_rate, professional_rate, rate_o
 
 use aes3_status::Status;
 
-/// In hertz, by its code for consumer use.
+/// The sampling frequency of a code for consumer use, in hertz.
 #[tactic(auto, unfolding(crate::specs::Rates::consumer_rate))]
 fn consumer_rate(code: u8) -> Option<u32>
     ensures { result ≡ consumer_rate code }
@@ -25,7 +25,7 @@ fn consumer_rate(code: u8) -> Option<u32>
     }
 }
 
-/// By its code for professional use, or by the other one where that names none.
+/// The sampling frequency of a code for professional use, or of the other code if that names none.
 #[tactic(auto, unfolding(crate::specs::Rates::professional_rate))]
 fn professional_rate(code: u8, other: u8) -> Option<u32>
     ensures { result ≡ professional_rate code other }

@@ -1,4 +1,4 @@
-//! What is counted of the reports on cells.
+//! The counts of the reports on cells.
 
 ghost use Rattle.std.specs.Prelude.{◌≡◌, []};
 ghost use Rattle.aes3_lock.specs.Following.{report_in};
@@ -13,17 +13,17 @@ use aes3_lock::{Ending, Lock, Why};
 pub(crate) struct ReportFacts {
     /// Of whole blocks.
     pub(crate) whole: u64,
-    /// Of blocks of which a subframe has a wrong parity bit.
+    /// Of blocks with a wrong parity bit in a subframe.
     pub(crate) marked: u64,
     /// Of candidates that a cell refutes, whatever the cause.
     pub(crate) fault: u64,
-    /// Of those that a cell of a preamble refutes.
+    /// Of candidates that a cell of a preamble refutes.
     pub(crate) preamble: u64,
-    /// Of those that a time slot refutes which begins with no change of level.
+    /// Of candidates that a time slot without a change of level at its beginning refutes.
     pub(crate) biphase: u64,
-    /// Of those that the cell behind their last subframe refutes.
+    /// Of candidates that the cell after their last subframe refutes.
     pub(crate) unclosed: u64,
-    /// Of blocks that the end cuts.
+    /// Of blocks that the end cuts off.
     pub(crate) unfinished: u64,
 }
 
@@ -41,7 +41,7 @@ fn causes(why: Why) -> (u64, u64, u64)
 }
 
 impl ReportFacts {
-    /// No report.
+    /// The counts without any report.
     #[tactic(auto, unfolding(crate::specs::Facts::total, crate::specs::Facts::most_count))]
     pub(crate) fn none() -> Self
         ensures { result ≡ report_facts [] }
@@ -57,7 +57,7 @@ impl ReportFacts {
         }
     }
 
-    /// Counts the report of an ending that a lock has just answered.
+    /// Counts the report of an ending that a lock has just returned.
     pub(crate) fn count(&mut self, _lock: &Lock, ending: Ending)
         ensures { self.new ≡ with_report self.old (report_in _lock.now ending) }
     {

@@ -8,17 +8,18 @@ ghost use Rattle.aes3_input.specs.Running.{movement_of};
 
 use aes3_cell::{Fault, RunError, Sink, Source};
 
-/// A form of input: takes bytes, in pieces of any size, front by front, and hands what they carry
-/// to a taker `K`, which writes.
+/// A form of input. It takes bytes, in pieces of any size, front by front, and passes what they
+/// carry to a taker `K`, which writes.
 ///
-/// The contract speaks of what the input and its taker are at one moment (`state`): of what bytes
-/// write and which are faults (`reads`), of the bytes that both have taken (`follows`), of what
-/// holds of the bytes before a fault when it was refused (`stopped`), and of what holds after the
-/// end (`finished`).
+/// The contract speaks of what the input and its taker are at one moment (`state`):
+/// - what bytes write and which are faults (`reads`),
+/// - the bytes that both have taken (`follows`),
+/// - what holds of the bytes before a fault after an error (`stopped`),
+/// - and what holds after the end (`finished`).
 pub trait Input<K> {
     ghost state: { Self → K → InputState };
 
-    /// Takes a front of a piece, at least one byte, and answers how many bytes it is.
+    /// Takes a front of a piece, at least one byte, and returns how many bytes it has.
     fn take_front<T: Sink>(
         &mut self,
         taker: &mut K,
@@ -50,7 +51,7 @@ fn blank_piece() -> [u8; PIECE_LEN]
     [0; PIECE_LEN]
 }
 
-/// Reads at most `room` bytes into the front of a piece, and answers how many.
+/// Reads at most `room` bytes into the front of a piece, and returns how many.
 ///
 /// # Errors
 /// The source's fault.
@@ -70,8 +71,9 @@ pub fn read_piece<S: Source>(source: &mut S, piece: &mut [u8], room: u64) -> Res
     source.read(&mut piece[..limit])
 }
 
-/// Reads the next piece after `seen` bytes. What is decided leaves before more is waited for: the sink,
-/// which is here for that clause alone, has passed on all that it took of those bytes.
+/// Reads the next piece after `seen` bytes. What is decided is written before it waits for more:
+/// the sink has passed on all that it took of those bytes. The sink is a parameter only for that
+/// clause.
 ///
 /// # Errors
 /// The source's fault.
@@ -97,7 +99,7 @@ fn read_next<S: Source, T: Sink>(
     read_piece(source, piece, room)
 }
 
-/// How many of `n` bytes may be taken, where the last of `room` bytes is one too many.
+/// How many of `n` bytes may be taken, if the last of `room` bytes is one too many.
 fn allowed_of(n: usize, room: u64) -> usize
     requires some { 0 < n }
     requires within { n ≤ room }
@@ -107,10 +109,10 @@ fn allowed_of(n: usize, room: u64) -> usize
     if n as u64 == room { n - 1 } else { n }
 }
 
-/// Takes all of a piece, one front of what is left after the other.
+/// Takes all of a piece, one front after the other.
 ///
 /// # Errors
-/// The first that a front is refused with.
+/// The first error of a front.
 pub fn feed_fronts<T: Sink, K, I: Input<K>>(
     input: &mut I,
     taker: &mut K,
@@ -130,8 +132,8 @@ pub fn feed_fronts<T: Sink, K, I: Input<K>>(
     Ok(())
 }
 
-/// Takes all of a piece, and passes on what the sink then holds: what is decided leaves before more
-/// is read.
+/// Takes all of a piece, and then passes on what the sink holds: what is decided is written before
+/// more is read.
 fn feed<T: Sink, K, I: Input<K>>(
     input: &mut I,
     taker: &mut K,
@@ -152,7 +154,7 @@ fn feed<T: Sink, K, I: Input<K>>(
     }
 }
 
-/// Takes the end, and passes on what the sink then holds.
+/// Takes the end, and then passes on what the sink holds.
 fn finish<T: Sink, K, I: Input<K>>(
     input: &mut I,
     taker: &mut K,
@@ -172,11 +174,14 @@ fn finish<T: Sink, K, I: Input<K>>(
     }
 }
 
-/// Converts all bytes of the source, at most `max_bytes`, and answers how many they are.
+/// Converts all bytes of the source, at most `max_bytes`, and returns how many there are.
 ///
 /// # Errors
-/// `Read` and `Write` where the source or the sink failed, `TooLong` where a byte came after
-/// `max_bytes` bytes, else the first fault of the input. At most `max_bytes + 1` bytes are read.
+/// - `Read` and `Write` if the source or the sink failed.
+/// - `TooLong` if there was a byte after `max_bytes` bytes.
+/// - Else the first fault of the input.
+///
+/// At most `max_bytes + 1` bytes are read.
 pub fn convert<S: Source, T: Sink, K, I: Input<K>>(
     source: &mut S,
     sink: &mut T,
@@ -192,7 +197,8 @@ pub fn convert<S: Source, T: Sink, K, I: Input<K>>(
         (S.has_ended source.new) (movement_of S.given S.failed source.old source.new)
         (movement_of T.taken T.failed sink.old sink.new) result }
 
-    // At Ok the sink has passed on all that it took, and so it had before a read that failed.
+    // After Ok the sink has passed on all that it took. It had done so before a read that failed,
+    // too.
     ensures passed_on { IfOk result (λ _. T.passed sink.new ≡ T.taken sink.new) }
     ensures passed_before { S.failed source.new ≡ S.failed source.old + 1
         → T.passed sink.old ≡ T.taken sink.old → T.passed sink.new ≡ T.taken sink.new }

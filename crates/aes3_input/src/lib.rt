@@ -1,4 +1,4 @@
-//! Inputs of a run: the one loop that reads them, cell text and packed cells, and whoever takes
+//! Inputs of a run: the one loop that reads them, cell text and packed cells, and the takers of
 //! their cells.
 #![tactic(auto)]
 
@@ -6,7 +6,7 @@
 mod conversion;
 /// Packed cells as an input.
 mod packed_input;
-/// Who takes the cells of an input, and the run over one in either form.
+/// Takers of the cells of an input, and the run over an input in either form.
 mod taker;
 /// Cell text as an input.
 mod text_input;

@@ -17,10 +17,10 @@ use crate::conversion::{Input, convert};
 use crate::taker::{Taker, cells, take_all};
 use aes3_cell::{Fault, PackedIn, RunError, Sink, Source};
 
-/// How many words are handed on at once: enough that the calls for them cost next to nothing.
+/// How many words are passed on at once: enough to make the cost of the calls negligible.
 const WORDS: usize = 1024;
 
-/// Reads packed cells, and counts those handed on.
+/// Reads packed cells, and counts those passed on.
 #[derive(Drop)]
 pub(crate) struct PackedInput {
     packed: PackedIn,
@@ -53,7 +53,7 @@ fn word_of_octet(octet: u8) -> u64
     (word >> 4) & 0x0F | (word & 0x0F) << 4
 }
 
-/// Hands the first `used` cells of an octet to the taker.
+/// Passes the first `used` cells of an octet to the taker.
 fn hand_on<T: Sink, K: Taker>(taker: &mut K, sink: &mut T, octet: u8, used: u8) -> Result<(), Fault>
     requires few { used ≤ 8 }
     requires room { T.failed sink.old + 1 < 2 ^ 64 }
@@ -65,7 +65,7 @@ fn hand_on<T: Sink, K: Taker>(taker: &mut K, sink: &mut T, octet: u8, used: u8) 
     cells(taker, sink, word_of_octet(octet), u32::from(used))
 }
 
-/// Hands the first `used` cells of an octet to the taker, and then the end.
+/// Passes the first `used` cells of an octet to the taker, and then the end.
 fn hand_on_last<T: Sink, K: Taker>(
     taker: &mut K,
     sink: &mut T,
@@ -83,7 +83,7 @@ fn hand_on_last<T: Sink, K: Taker>(
     taker.finish(sink)
 }
 
-/// Takes one octet, and hands on the cells of the one that came two octets before.
+/// Takes one octet, and passes on the cells of the one that came two octets before.
 fn take_octet<T: Sink, K: Taker>(
     input: &mut PackedInput,
     taker: &mut K,
@@ -109,9 +109,8 @@ fn take_octet<T: Sink, K: Taker>(
     }
 }
 
-/// Takes eight octets of a piece for each word, as many as there are and as make words, where two
-/// or more octets came before; answers how many words these are. The words are the cells that these
-/// octets make whole.
+/// Takes eight octets of a piece for each word, up to the number of words, after two or more other
+/// octets. Returns how many words these are. The words are the cells that these octets complete.
 fn feed_words(packed: &mut PackedIn, piece: &[u8], words: &mut [u64; WORDS]) -> usize
     requires { packed.old.seen + length piece.now ≤ 2 ^ 40 }
     ensures within { 8 * result ≤ length piece.now }
@@ -132,7 +131,7 @@ fn feed_words(packed: &mut PackedIn, piece: &[u8], words: &mut [u64; WORDS]) -> 
     count
 }
 
-/// Takes the octet that a piece begins with, and answers that it is one.
+/// Takes the first octet of a piece, and returns that it is one octet.
 fn take_first<T: Sink, K: Taker>(
     input: &mut PackedInput,
     taker: &mut K,

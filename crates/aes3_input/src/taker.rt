@@ -1,4 +1,4 @@
-//! Takers of cells, and the run that hands them those of an input.
+//! Takers of cells, and the run that passes the cells of an input to them.
 
 ghost use Rattle.std.specs.Prelude.{◌≡◌, ◌+◌, ◌*◌, ◌<◌, ◌≤◌, ◌^◌, ◌++◌, List, [], ◌∷◌, length};
 ghost use Rattle.std.specs.Prelude.{IfOk, OnErr};
@@ -19,13 +19,13 @@ use aes3_level::Cells;
 
 /// Takes the cells of an input, in runs of words or in one word with fewer cells, and their end.
 ///
-/// The contract speaks of what it is at one moment (`state`): of what cells write (`writes`), of
-/// the cells that it has taken (`follows`), and of what holds after the end (`finished`). After a
-/// fault or the end it follows none.
+/// The contract speaks of its state at one moment (`state`): of what cells write (`writes`), of the
+/// cells that it has taken (`follows`), and of what holds after the end (`finished`). After a fault
+/// or the end it follows no cells.
 pub trait Taker {
     ghost state: { Self → TakerState Level };
 
-    /// Takes the first of the cells, one or more.
+    /// Takes the first of the cells, at least one.
     ///
     /// # Errors
     /// The sink's fault; then it has taken a front of what all the cells write.
@@ -54,7 +54,7 @@ pub trait Taker {
             → GrewFront (T.taken sink.old) (T.taken sink.new) ((state self.old).writes.ends c)) };
 }
 
-/// Takes the first `len` cells of words, 64 a word, the first in the lowest bit.
+/// Takes the first `len` cells of words, 64 in each word, the first in the lowest bit.
 ///
 /// # Errors
 /// The sink's fault; then it has taken a front of what the cells write.
@@ -171,7 +171,7 @@ pub fn word<K: Taker, T: Sink>(taker: &mut K, sink: &mut T, word: u64) -> Result
     cells(taker, sink, word, u64::BITS)
 }
 
-/// The word of one cell.
+/// The word of a single cell.
 fn word_of_cell(level: Level) -> u64
     ensures { low_cells 1 result ≡ level ∷ [] }
 {
@@ -181,15 +181,17 @@ fn word_of_cell(level: Level) -> u64
     }
 }
 
-/// Hands the cells of an input to the taker as they come, one by one or in words, and its end;
-/// answers how many bytes and cells the input has.
+/// Passes the cells of an input to the taker as they come, one by one or in words, and then its
+/// end. Returns how many bytes and cells the input has.
 ///
 /// # Errors
-/// `BadCell` where a byte of cell text is neither a cell nor a separator, `BadPadding` where packed
-/// cells end wrongly, `TooLong` where the input has more than `max_bytes` bytes, `Read` and `Write`
-/// where an end failed. Then, unless the sink failed, the taker has taken the cells before, of
-/// packed cells those of all octets but the last two, and no end. At most `max_bytes + 1` bytes are
-/// read.
+/// - `BadCell` if a byte of cell text is neither a cell nor a separator.
+/// - `BadPadding` if packed cells end wrongly.
+/// - `TooLong` if the input has more than `max_bytes` bytes.
+/// - `Read` and `Write` if the input or output failed.
+///
+/// Unless the sink failed, the taker has then taken the cells before, but no end. Of packed cells
+/// these are those of all octets but the last two. At most `max_bytes + 1` bytes are read.
 pub fn drive<S: Source, T: Sink, K: Taker>(
     source: &mut S,
     sink: &mut T,

@@ -1,13 +1,14 @@
-//! Cells of words, taken from the first on.
+//! Cells of words, taken from the first one on.
 
 use std::marker::Model;
 
 /// Cells of words that are still to be taken, the earliest of each word in its lowest bit.
 ///
-/// A contract sees those of the word that was begun (`here`), and those of the words after it (`next`).
+/// A contract sees the cells of the current word (`here`), and those of the words after it
+/// (`next`).
 #[derive(Drop)]
 pub struct Cells<'a> {
-    /// The word that was begun.
+    /// The current word.
     word: u64,
     /// How many of its cells were taken.
     at: u32,
@@ -15,7 +16,7 @@ pub struct Cells<'a> {
     end: u32,
     /// The words after it.
     words: &'a [u64],
-    /// How many cells of these there are.
+    /// How many cells are in these words.
     rest: usize,
 }
 
@@ -94,7 +95,7 @@ impl<'a> Cells<'a> {
         }
     }
 
-    /// Whether there is none.
+    /// Whether no cell is left.
     #[inline(always)]
     pub fn is_empty(&self) -> bool
         ensures none { result ≡ true → all_of self.now ≡ [] }
@@ -103,7 +104,7 @@ impl<'a> Cells<'a> {
         self.at == self.end && self.rest == 0
     }
 
-    /// How many there are of the word that was begun.
+    /// How many cells of the current word are left.
     #[inline(always)]
     pub fn here(&self) -> u32
         ensures len { result ≡ length self.now.here }
@@ -112,7 +113,7 @@ impl<'a> Cells<'a> {
         self.end - self.at
     }
 
-    /// Those of the word that was begun, the first in the lowest bit.
+    /// The cells of the current word, the first one in the lowest bit.
     #[inline(always)]
     pub fn word(&self) -> u64
         requires { 0 < length self.now.here }
@@ -121,7 +122,7 @@ impl<'a> Cells<'a> {
         self.word >> self.at
     }
 
-    /// Takes the first of the word that was begun.
+    /// Takes the first `count` cells of the current word.
     #[inline(always)]
     pub fn skip(&mut self, count: u32)
         requires { count ≤ length self.old.here }
@@ -131,7 +132,7 @@ impl<'a> Cells<'a> {
         self.at += count;
     }
 
-    /// The whole words after the one that was begun.
+    /// The whole words after the current one.
     #[inline(always)]
     pub fn words(&self) -> &'a [u64]
         ensures all { length result.now ≡ length self.now.next / 64 }
@@ -141,7 +142,7 @@ impl<'a> Cells<'a> {
         &self.words[..self.rest / 64]
     }
 
-    /// Takes the first whole words after the one that was begun.
+    /// Takes the first `count` whole words after the current one.
     #[inline(always)]
     pub fn skip_words(&mut self, count: usize)
         requires { 64 * count ≤ length self.old.next }
@@ -152,7 +153,8 @@ impl<'a> Cells<'a> {
         self.rest -= 64 * count;
     }
 
-    /// Begins the next word, if none is begun and there is one. Answers whether a cell is left.
+    /// Begins the next word, if no word is begun and there is a next one. Returns whether a cell is
+    /// left.
     #[inline(always)]
     pub fn begin_word(&mut self) -> bool
         ensures all { all_of self.new ≡ all_of self.old }
@@ -160,7 +162,7 @@ impl<'a> Cells<'a> {
         ensures none { result ≡ false → all_of self.old ≡ [] }
         ensures begun { 0 < length (all_of self.old) → 0 < length self.new.here }
     {
-        // Not `<`: the compiler knows then that a word is begun where `here` is not 0.
+        // Not `<`: so the compiler knows that a word is begun if `here` is not 0.
         if self.at != self.end {
             return true;
         }

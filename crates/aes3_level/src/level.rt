@@ -15,7 +15,7 @@ pub enum Level {
 }
 
 impl Level {
-    /// The other level.
+    /// The inverted level.
     pub fn flip(self) -> Level
         ensures { result ≡ other self }
     {

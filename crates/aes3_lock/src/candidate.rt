@@ -2,7 +2,7 @@
 
 use aes3_level::Level;
 
-/// A place at which preamble Z stands, as far as the cells from it on are those of a block.
+/// A place where preamble Z occurs and the cells so far are those of a block.
 #[derive(Clone, Copy)]
 pub struct Candidate {
     /// The place of its first cell.

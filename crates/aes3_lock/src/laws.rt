@@ -13,7 +13,7 @@ ghost use Rattle.aes3_lock.specs.Laws.{MarksAreAllStanding, MarksAreTrue, Blocks
 ghost use Rattle.aes3_lock.specs.Laws.{StreamGivesBlocks, StreamsDiffer, NormalIsFixed};
 ghost use Rattle.aes3_lock.specs.Laws.{NormalTellsBlocks};
 
-/// What stays of a lawful stream of which cells change or are lost.
+/// What changed or lost cells leave of a valid stream.
 mod damage;
 /// Cells that are cut into pieces.
 mod splitting;
@@ -25,92 +25,92 @@ pub use damage::{
 };
 pub use splitting::reports_join;
 
-/// A candidate begins exactly where preamble Z stands, in either polarity.
+/// A candidate begins exactly where preamble Z occurs, in either polarity.
 pub fn candidate_where_z_stands()
     ensures { CandidateWhereZStands }
 {}
 
-/// A candidate is whole exactly where a block stands closed, and with that block and the level
-/// before it.
+/// A candidate is whole exactly if a closed block begins there. Its report has that block and the
+/// level before it.
 pub fn whole_where_a_block_stands()
     ensures whole { WholeWhereBlockStands }
     ensures level { BlockTellsLevel }
 {}
 
-/// A candidate is marked exactly where the subframes of a block stand closed of which some have a
-/// wrong parity bit, and with their number.
+/// A candidate is marked exactly if the closed subframes of a block begin there and some have a
+/// wrong parity bit. Its report has their number.
 pub fn marked_where_subframes_stand()
     ensures { MarkedWhereSubframesStand }
 {}
 
-/// Cells begin the subframes of a block, with right parity bits or wrong ones, exactly if each of
-/// them keeps the rule of its place.
+/// Cells begin the subframes of a block, with right or wrong parity bits, exactly if each of them
+/// keeps the rule of its place.
 pub fn viable_if_each_cell_keeps_its_rule()
     ensures each { ViableIfEachKeeps }
     ensures front { ViableIfFrontIsAll }
 {}
 
-/// The fault of a candidate is the first cell with which its cells begin no block; it is the cell
-/// behind a block exactly where the subframes of a block stand that it does not close.
+/// The fault of a candidate is the first cell with which its cells begin no block. It is the cell
+/// after a block exactly if all subframes of a block are there and that cell does not close it.
 pub fn fault_where_no_block_begins()
     ensures first { FaultWhereViableEnds }
     ensures unclosed { FaultWhereUnclosed }
     ensures within { FaultWithinBlock }
 {}
 
-/// A candidate is unfinished exactly where all its cells begin a block and are too few for it, and
-/// with their number.
+/// A candidate is unfinished exactly if all its cells begin a block and are too few for it. Its
+/// report has their number.
 pub fn unfinished_where_cells_end()
     ensures { UnfinishedWhereViable }
 {}
 
-/// The decided reports are all but the unfinished one and that of a block which only the end
-/// closes; whatever cells follow, the reports begin with them.
+/// The decided reports are all but the unfinished one and that of a block that only the end closes.
+/// Whatever cells follow, the reports begin with the decided ones.
 pub fn decided_reports_stand()
     ensures filtered { DecidedAreFiltered }
     ensures stand { DecidedStand }
 {}
 
-/// In cells that begin the subframes of a block, eight or more, preamble Z stands at their start
-/// and, in either polarity, nowhere else.
+/// In eight or more cells that begin the subframes of a block, preamble Z occurs at their start and
+/// nowhere else, in either polarity.
 pub fn preamble_stands_once()
     ensures { ZStandsOnce }
 {}
 
-/// Two blocks that stand closed in one list of cells never overlap.
+/// Two closed blocks in one list of cells never overlap.
 pub fn blocks_never_overlap()
     ensures { BlocksNeverOverlap }
 {}
 
-/// The blocks of cells are all blocks that stand closed in them, each once, in order of place.
+/// The blocks of cells are all closed blocks in them, each once, in order of place.
 pub fn blocks_are_all_that_stand()
     ensures { BlocksAreAllStanding }
 {}
 
-/// The preambles of cells are all that stand in them, each once, in order of place.
+/// The preambles of cells are all that occur in them, each once, in order of place.
 pub fn marks_are_all_that_stand()
     ensures { MarksAreAllStanding }
 {}
 
-/// In every piece of a lawful stream the preambles are its true ones and no other.
+/// In every piece of a valid stream the preambles are its true ones and no others.
 pub fn marks_are_true()
     ensures { MarksAreTrue }
 {}
 
-/// In every piece of a lawful stream the blocks are those that lie whole in it, in order.
+/// In every piece of a valid stream the blocks are those that lie whole in it, in order.
 pub fn blocks_are_whole()
     ensures { BlocksAreWhole }
 {}
 
-/// The blocks of a lawful stream are those that it was made of, so no two lists of blocks have one
-/// stream.
+/// The blocks of a valid stream are those that it was made of. So different lists of blocks have
+/// different streams.
 pub fn stream_gives_its_blocks()
     ensures blocks { StreamGivesBlocks }
     ensures differ { StreamsDiffer }
 {}
 
-/// A normal stream is its own normal stream, and cells have one normal stream exactly if they have
-/// the same blocks.
+/// A normal stream is its own normal stream. Two lists of cells have the same normal stream exactly
+/// if they have the same blocks.
 pub fn normal_tells_the_blocks()
     ensures fixed { NormalIsFixed }
     ensures blocks { NormalTellsBlocks }

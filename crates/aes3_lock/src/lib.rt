@@ -1,4 +1,4 @@
-//! The lock: every report of any cells, in one pass and fixed memory (AES3-3, IEC 60958-1).
+//! The lock: all reports of any cells, in one pass and fixed memory (AES3-3, IEC 60958-1).
 #![tactic(auto)]
 
 /// A place at which a block may begin.
@@ -7,17 +7,17 @@ mod candidate;
 pub mod laws;
 /// The lock: it takes words of cells, fronts of words and single cells.
 mod lock;
-/// All that a lock keeps, for those who keep it themselves.
+/// All that a lock keeps, for callers that store it themselves.
 mod parts;
-/// Reports, the endings of which they are made, and what ends a candidate.
+/// Reports, the endings that they are made of, and what ends a candidate.
 mod report;
-/// Which cells may stand in a block.
+/// Which cells are allowed in a block.
 mod rule;
 /// The scan: all preambles, and nothing else.
 mod scan;
-/// All reports of a list of cells, each place tried by itself.
+/// All reports of a list of cells, with each place tried by itself.
 mod slow;
-/// The cells of a subframe that is not whole yet, of eight at once, and the last eight cells.
+/// The cells of one incomplete subframe and of eight at once, and the last eight cells.
 mod subframe;
 /// How many reports of each kind there were.
 mod tally;

@@ -15,8 +15,9 @@ use std::marker::Model;
 
 /// Finds every block and every begun block in cells that come one by one, in fixed memory.
 ///
-/// A contract sees how many cells it has seen, the last eight, the candidate in hand, the cells of
-/// its last subframe that isn't whole, and words with the cells of its whole subframes.
+/// A contract sees how many cells it has seen, the last eight of them, and the current candidate.
+/// It also sees the cells of the candidate's last, incomplete subframe, and words with the cells of
+/// its whole subframes.
 #[derive(Drop)]
 pub struct Lock {
     seen: u64,
@@ -68,7 +69,7 @@ impl Lock {
         }
     }
 
-    /// The lock of what another lock kept.
+    /// The lock with these parts of another lock.
     pub fn of_parts(parts: LockParts<'_>) -> Lock
         requires { ForSome parts.candidate (λ t. t.at ≤ parts.seen) }
         ensures { result ≡ parts_state parts.entry }
@@ -84,7 +85,7 @@ impl Lock {
         lock
     }
 
-    /// All that it keeps.
+    /// All that the lock keeps.
     pub fn parts(&self) -> LockParts<'_>
         ensures state { parts_state result ≡ self.now }
         ensures placed { ForSome result.candidate (λ t. t.at ≤ result.seen) }
@@ -105,7 +106,7 @@ impl Lock {
         self.seen
     }
 
-    /// The report of an ending that it answered with the last cell that it took.
+    /// The report of an ending that it returned for the last cell that it took.
     // Inlined, and so is `finish`, so that no caller has copies of a block on its stack.
     #[inline(always)]
     pub fn report(&self, ending: Ending) -> Report
@@ -114,23 +115,23 @@ impl Lock {
         report_with(ending, &self.words)
     }
 
-    /// The cells of the subframes of the last candidate that are whole, a word each, the earliest
-    /// cell in bit 0. Where an ending was `Whole` or `Marked` they are those of its block, until
-    /// more cells are taken.
+    /// The cells of the whole subframes of the last candidate, a word each, the earliest cell in
+    /// bit 0. After the ending `Whole` or `Marked` they are those of its block, until more cells
+    /// are taken.
     pub fn words(&self) -> &[u64; SLOTS]
         ensures { result.now ≡ self.now.words }
     {
         self.words.words()
     }
 
-    /// The same, as they were gathered.
+    /// The same cells as `words`, as they were gathered.
     pub fn gathered(&self) -> &GatheredCells
         ensures { result.now ≡ self.now.words }
     {
         &self.words
     }
 
-    /// What the end of the cells makes of the candidate in hand, if there is one.
+    /// What the end of the cells makes of the current candidate, if there is one.
     pub fn end(&self) -> Option<Ending>
         ensures report { (cells : List Level) → Follows self.now cells
             → reports cells ≡ decided cells
@@ -144,7 +145,7 @@ impl Lock {
         Some(left_ending(candidate, self.seen - candidate.at, &self.words))
     }
 
-    /// Takes the end of the cells, and answers the report that it decides.
+    /// Takes the end of the cells, and returns the report that it decides.
     #[inline(always)]
     pub fn finish(self) -> Option<Report>
         ensures { (cells : List Level) → Follows self cells

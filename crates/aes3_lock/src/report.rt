@@ -1,5 +1,4 @@
-//! What a lock tells of a place at which a block may begin, and what becomes of a candidate that
-//! goes on no further.
+//! What a lock reports of a place at which a block may begin, and what ends a candidate.
 
 use crate::candidate::Candidate;
 use crate::subframe::PREAMBLE_CELLS;
@@ -14,12 +13,12 @@ pub enum Why {
     Preamble,
     /// A time slot doesn't begin with a change of level (AES3-3, IEC 60958-1: biphase-mark coding).
     Biphase,
-    /// The cell behind the last subframe of a block doesn't change the level.
+    /// The cell after the last subframe of a block doesn't change the level.
     Unclosed,
 }
 
-/// What becomes of a candidate: a place, counted in cells from the first of all, at which preamble
-/// Z stands.
+/// The outcome of a candidate, which is a place where preamble Z occurs, counted in cells from the
+/// first of all.
 #[derive(Drop)]
 pub enum Report {
     /// A whole block with right parity bits, and the level before its first cell.
@@ -28,38 +27,40 @@ pub enum Report {
         before: Level,
         block: Block,
     },
-    /// A whole block of which `wrong` subframes, 1 to 384, have a wrong parity bit, and the level
+    /// A whole block in which `wrong` subframes, 1 to 384, have a wrong parity bit, and the level
     /// before its first cell.
     Marked {
         at: u64,
         before: Level,
         wrong: u16,
     },
-    /// `cell` is the first cell at which the cells from `at` on begin no block; it is counted from
+    /// `cell` is the first cell at which the cells from `at` on begin no block. It is counted from
     /// the first of all.
     Fault {
         at: u64,
         cell: u64,
         why: Why,
     },
-    /// The cells end; those from `at` on, 8 to 24,575 `cells`, begin a block.
+    /// The cells end before the block does: the `cells` cells from `at` on, 8 to 24,575, begin a
+    /// block.
     Unfinished {
         at: u64,
         cells: u64,
     },
 }
 
-/// What a cell, or the end of the cells, makes of the candidate that it ends: its report without the
-/// block, which stands in the lock.
+/// The ending of a candidate by a cell, or by the end of the cells: its report without the block,
+/// which is in the lock.
 #[derive(Clone, Copy)]
 pub enum Ending {
     /// A whole block with right parity bits, and the level before its first cell.
     Whole { at: u64, before: Level },
-    /// A whole block of which `wrong` subframes have a wrong parity bit.
+    /// A whole block in which `wrong` subframes have a wrong parity bit.
     Marked { at: u64, before: Level, wrong: u16 },
     /// `cell` is the first cell at which the cells from `at` on begin no block.
     Fault { at: u64, cell: u64, why: Why },
-    /// The cells end; those from `at` on, 8 to 24,575 `cells`, begin a block.
+    /// The cells end before the block does: the `cells` cells from `at` on, 8 to 24,575, begin a
+    /// block.
     Unfinished { at: u64, cells: u64 },
 }
 
@@ -68,7 +69,7 @@ pub enum Ending {
 pub(crate) struct Pushed {
     /// How many cells it took.
     pub(crate) taken: u32,
-    /// What the last of them made of the candidate that it ended, if it ended one.
+    /// How the last of them ended a candidate, if it ended one.
     pub(crate) ending: Option<Ending>,
 }
 
@@ -81,7 +82,7 @@ ghost use Rattle.aes3_lock.specs.Reports.{ending_report, report_of};
 ghost use Rattle.aes3_lock.specs.Steps.{ended, left};
 
 impl Pushed {
-    /// So many cells that ended none.
+    /// `taken` cells that ended no candidate.
     pub(crate) fn quiet(taken: u32) -> Self
         ensures taken { result.taken ≡ taken }
         ensures ending { result.ending ≡ None }
@@ -92,7 +93,7 @@ impl Pushed {
         }
     }
 
-    /// One cell, and what it made of the candidate that it ended.
+    /// One cell, and how it ended a candidate.
     pub(crate) fn one(ending: Ending) -> Self
         ensures taken { result.taken ≡ 1 }
         ensures ending { result.ending ≡ Some ending }
@@ -115,7 +116,7 @@ impl Default for Report {
     }
 }
 
-/// What becomes of a block all of whose subframes are there and which is closed.
+/// The ending of a block that is closed and has all its subframes.
 fn block_ending(at: u64, before: Level, words: &GatheredCells) -> Ending
     ensures { ending_report (read_words words.now) result
         ≡ report_of at (block_outcome before (read_words words.now)) }
@@ -159,7 +160,7 @@ fn reason(offset: u64) -> Why
     }
 }
 
-/// What becomes of the candidate at `at`, which the cell at `cell` refutes.
+/// The ending of the candidate at `at`, which the cell at `cell` refutes.
 pub(crate) fn refutation(at: u64, cell: u64) -> Ending
     requires { at ≤ cell }
     ensures { result ≡ Fault at cell (why_of (cell - at)) }
@@ -171,14 +172,14 @@ pub(crate) fn refutation(at: u64, cell: u64) -> Ending
     }
 }
 
-/// Whether the level turns between two cells.
+/// Whether the level changes between two cells.
 fn turns(previous: Level, cell: Level) -> bool
     ensures { result ≡ differs previous cell }
 {
     cell != previous
 }
 
-/// What a cell at its `offset` makes of a candidate that it ends.
+/// How a cell at this offset ends a candidate.
 pub(crate) fn ending_at(
     candidate: Candidate,
     offset: u64,
@@ -198,7 +199,7 @@ pub(crate) fn ending_at(
     }
 }
 
-/// What the end makes of a candidate of which no more than `cells` cells come.
+/// How the end of the cells ends a candidate of which only `cells` cells came.
 pub(crate) fn left_ending(candidate: Candidate, cells: u64, words: &GatheredCells) -> Ending
     ensures { ending_report (read_words words.now) result
         ≡ report_of candidate.at (left candidate.before cells (read_words words.now)) }

@@ -1,4 +1,4 @@
-//! Which cells may stand in a block (AES3-3; IEC 60958-1).
+//! Which cells are allowed in a block (AES3-3; IEC 60958-1).
 
 ghost use Rattle.std.specs.Prelude.{◌≡◌, ◌<◌};
 ghost use Rattle.aes3_slot.specs.Rules.{rule, shape};
@@ -20,7 +20,7 @@ fn preamble_cell(mark: Mark, k: u64, before: Level) -> Level
     }
 }
 
-/// Whether a cell may stand at `offset` of a block, behind the cell `previous` and with the level
+/// Whether a cell is allowed at `offset` of a block, after the cell `previous` and with the level
 /// `before` before its subframe.
 pub(crate) fn may_stand(offset: u64, cell: Level, before: Level, previous: Level) -> bool
     ensures { result ≡ rule mark_at offset cell before previous }

@@ -5,8 +5,7 @@ use aes3_level::Level;
 use aes3_slot::{Mark, match_mark, preambles};
 use std::marker::Model;
 
-/// Finds every preamble in cells that come one by one, whether or not it stands where a subframe
-/// may begin.
+/// Finds every preamble in cells that come one by one, whether or not a subframe may begin there.
 ///
 /// A contract sees how many cells it has seen, and the last eight.
 #[derive(Drop)]
@@ -32,7 +31,7 @@ ghost use Rattle.aes3_level.specs.declared.level.Level.{Level};
 ghost use Rattle.aes3_lock.specs.Preambles.{marks};
 ghost use Rattle.aes3_lock.specs.Following.{ScanFollows};
 
-/// The preamble that ends with the last of `seen` cells, of which the last eight are these.
+/// The preamble that ends with the last of `seen` cells, given the last eight cells.
 fn mark_ending(seen: u64, recent: u8) -> Option<(u64, Mark, Level)>
     ensures { result ≡ ended_mark seen (low_cells 8 recent) }
 {
@@ -60,7 +59,7 @@ impl Scan {
         self.seen
     }
 
-    /// Takes the next cell, and answers the preamble that ends with it: its place, its kind and the
+    /// Takes the next cell, and returns the preamble that ends with it: its place, its kind and the
     /// level before it.
     pub fn push(&mut self, cell: Level) -> Option<(u64, Mark, Level)>
         requires { self.old.seen < 2 ^ 43 }
@@ -75,9 +74,9 @@ impl Scan {
         mark_ending(self.seen, self.recent)
     }
 
-    /// Takes the first cells of a word, the first of all in the lowest bit, before the second that
-    /// ends a preamble, and at most `len`. Answers how many it took, and the preamble that ends in
-    /// them as `push` does.
+    /// Takes at most `len` cells from the front of a word, the first of all in the lowest bit. It
+    /// stops before the second cell that ends a preamble. Returns how many it took, and the
+    /// preamble that ends in them, as `push` does.
     ///
     /// It is `push` for each of these cells.
     pub fn next_in(&mut self, word: u64, len: u32) -> (u32, Option<(u64, Mark, Level)>)
@@ -110,7 +109,7 @@ impl Scan {
         (taken, found)
     }
 
-    /// Takes the 64 cells of a word, the first of all in the lowest bit, and answers the preambles
+    /// Takes the 64 cells of a word, the first of all in the lowest bit, and returns the preambles
     /// that end in them.
     ///
     /// It is `push` for each of these cells.

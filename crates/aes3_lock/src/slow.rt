@@ -1,4 +1,4 @@
-//! All reports of a list of cells, each place tried by itself.
+//! All reports of a list of cells, with each place tried by itself.
 ghost use Rattle.std.specs.Prelude.{◌≡◌, ◌<◌, ◌≤◌, ◌+◌, ◌^◌, IfOk, length, option_to_list, take};
 ghost use Rattle.aes3_level.specs.Words.{low_cells};
 ghost use Rattle.aes3_slot.specs.Rules.{before};
@@ -27,8 +27,8 @@ fn first_eight(cells: &[Level]) -> u8
     recent
 }
 
-/// How many cells go on as a block's after the level `level_before`, and the level of the last of
-/// them. Those of their whole subframes go into `words`.
+/// How many cells continue as a block's after the level `level_before`, and the level of the last
+/// one. The cells of whole subframes go into `words`.
 fn go_through(level_before: Level, cells: &[Level], words: &mut [u64; SLOTS]) -> (u64, Level)
     ensures front { result.0 ≡ front level_before cells.now }
     ensures last { result.1 ≡ before level_before cells.now result.0 }
@@ -55,7 +55,7 @@ fn go_through(level_before: Level, cells: &[Level], words: &mut [u64; SLOTS]) ->
     (offset, previous)
 }
 
-/// The report of the place `at` of the first of these cells.
+/// The report of place `at`, where these cells begin.
 fn report_at(at: u64, cells: &[Level]) -> Option<Report>
     requires { at + length cells.now < 2 ^ 64 }
     ensures { option_to_list result ≡ told at (outcome_at cells.now) }
@@ -83,10 +83,10 @@ fn report_at(at: u64, cells: &[Level]) -> Option<Report>
     Some(report_with(ending, &gathered))
 }
 
-/// All reports of these cells, in order of place: every place is tried by itself.
+/// All reports of these cells, in order of place, with every place tried by itself.
 ///
 /// # Errors
-/// No memory for the reports.
+/// `AllocError` if there is no memory for the reports.
 pub fn reports_of(alloc: Global, cells: &[Level]) -> Result<Vec<Report>, AllocError>
     ensures { IfOk result (λ found. found.items ≡ reports cells.now) }
 {

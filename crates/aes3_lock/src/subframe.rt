@@ -1,5 +1,5 @@
-//! The cells of a subframe that is not whole yet, in a word, the first in the lowest bit: of one
-//! and of eight at once. The last eight of all cells in an octet, likewise.
+//! The cells of an incomplete subframe in a word, the first in the lowest bit, for one subframe and
+//! for eight at once. The last eight cells in an octet, likewise.
 
 ghost use Rattle.std.specs.Prelude.{◌≡◌, ◌+◌, ◌-◌, ◌%◌, ◌<◌, ◌≤◌, ◌^◌, [], ◌∷◌, ◌++◌, drop, take};
 ghost use Rattle.std.specs.Prelude.{ℕ, true, get_or, length};
@@ -20,7 +20,7 @@ use std::simd::prelude::*;
 /// How many cells a preamble has.
 pub(crate) const PREAMBLE_CELLS: u64 = 8;
 
-/// The first `len` cells of a subframe with one more.
+/// The first `len` cells of a subframe, and one more.
 pub(crate) fn with_next(cells: u64, len: u64, cell: Level) -> u64
     requires { len < 64 }
     ensures cells { cells < 2 ^ len → low_cells (len + 1) result ≡ low_cells len cells
@@ -33,7 +33,7 @@ pub(crate) fn with_next(cells: u64, len: u64, cell: Level) -> u64
     }
 }
 
-/// The subframe whose first `len` cells are these and whose others are the first of `word`.
+/// The subframe whose first `len` cells are these and whose other cells are the first of `word`.
 pub(crate) fn completed(cells: u64, len: u64, word: u64) -> u64
     requires { len < 64 }
     ensures { cells < 2 ^ len → word_cells result ≡ low_cells len cells
@@ -82,7 +82,7 @@ pub(crate) fn last_of(word: u64) -> Level
     }
 }
 
-/// The last eight of eight cells and the first `len` of a word behind them.
+/// The last eight of all cells after eight cells and the first `len` of a word.
 pub(crate) fn last_behind(recent: u8, word: u64, len: u32) -> u8
     requires { len ≤ 64 }
     ensures { low_cells 8 result ≡ drop len (low_cells 8 recent ++ low_cells len word) }
@@ -100,7 +100,7 @@ pub(crate) fn last_octet(word: u64) -> u8
     (word >> 56) as u8
 }
 
-/// The octet with one more cell.
+/// The last eight cells after one more cell.
 pub(crate) fn with_cell(recent: u8, cell: Level) -> u8
     ensures { low_cells 8 result ≡ eight_with (low_cells 8 recent) cell }
 {
@@ -131,7 +131,7 @@ fn is_z(mark: Mark) -> bool
     }
 }
 
-/// The candidate whose preamble the last eight of all `seen` cells are.
+/// The candidate that begins with the last eight of all `seen` cells, if they are preamble Z.
 pub(crate) fn candidate_in(seen: u64, recent: u8) -> Option<Candidate>
     ensures value { result ≡ begun seen (low_cells 8 recent) }
     ensures placed { ForSome result (λ t. t.at ≤ seen) }
@@ -152,8 +152,8 @@ pub(crate) fn candidate_in(seen: u64, recent: u8) -> Option<Candidate>
     })
 }
 
-/// The cells with which the eight subframes begin that eight words make whole: the `len` cells of
-/// `begun`, and the last `len` of each word but the last.
+/// The cells that begin the eight subframes that eight words complete: the `len` cells of `begun`,
+/// and the last `len` cells of each word but the last.
 fn fronts_of(begun: u64, len: u64, words: u64x8) -> [u64; 8]
     requires { len < 64 }
     ensures cells { (i : ℕ) → i < 8 → low_cells len (get_or result i 0)
@@ -166,8 +166,8 @@ fn fronts_of(begun: u64, len: u64, words: u64x8) -> [u64; 8]
     fronts
 }
 
-/// The subframes that eight words make whole: the first begins with the `len` cells of `begun`,
-/// each other one with the last `len` of the word before.
+/// The eight subframes that eight words complete. The first begins with the `len` cells of `begun`,
+/// each other one with the last `len` cells of the word before.
 pub(crate) fn eight_completed(begun: u64, len: u64, words: &[u64; 8]) -> [u64; 8]
     requires { len < 64 }
     ensures { begun < 2 ^ len → (i : ℕ) → i < 8
@@ -182,8 +182,8 @@ pub(crate) fn eight_completed(begun: u64, len: u64, words: &[u64; 8]) -> [u64; 8
     subframes
 }
 
-/// Whether these are subframes after the level `before` each of which ends with it again, as it
-/// does with right parity, with the preambles of a block's subframes from `slot` on.
+/// Whether these are subframes after the level `before` that end at it again, as they do if their
+/// parity is right. Their preambles are those of a block's subframes from `slot` on.
 pub(crate) fn are_subframes(before: Level, slot: u64, cells: &[u64; 8]) -> bool
     requires some { 0 < slot }
     requires room { slot < 384 }

@@ -8,7 +8,7 @@ ghost use Rattle.aes3_lock.specs.Tallies.{IsTallyOf};
 use crate::lock::Lock;
 use crate::report::Ending;
 
-/// How many reports there were of whole blocks, of faulty ones, and of those that the end cuts.
+/// The numbers of reports of whole blocks, of faulty ones, and of those that the end cuts.
 #[derive(Clone, Copy)]
 pub struct Tally {
     pub blocks: u64,
@@ -28,7 +28,7 @@ impl Tally {
         }
     }
 
-    /// Counts the report of an ending that a lock has just answered.
+    /// Counts the report of an ending that a lock has just returned.
     pub fn count(&mut self, lock: &Lock, ending: Ending)
         requires { (r : List Report) × (length r + 1 < 2 ^ 44) × IsTallyOf self.old r }
         ensures { (r : List Report) → IsTallyOf self.old r

@@ -5,19 +5,19 @@ use aes3_level::Level;
 use aes3_slot::{Mark, mark_places};
 use std::marker::Model;
 
-/// The preambles that end in a word of cells, to be taken one by one.
+/// The preambles that end in a word of cells, taken one by one.
 ///
-/// A contract sees those that are left, in order of place: the place of each, its kind and the
-/// level before it.
+/// A contract sees the preambles that are left, in order of place: the place of each, its kind and
+/// the level before it.
 #[derive(Drop)]
 pub struct WordMarks {
-    /// How many cells stand before the word.
+    /// How many cells come before the word.
     seen: u64,
     /// The seven cells before the word and its first 57, the first in the lowest bit.
     cells: u64,
-    /// Its last seven.
+    /// The last seven cells of the word.
     next: u64,
-    /// Where those that are left begin in these cells.
+    /// Where the preambles that are left begin in these cells.
     left: u64,
     /// Where an X begins.
     x: u64,
@@ -51,7 +51,7 @@ ghost use Rattle.aes3_slot.specs.Preambles.{with_seven};
 ghost use Rattle.aes3_lock.specs.Preambles.{marks};
 ghost use Rattle.aes3_lock.specs.Steps.{last_eight};
 
-/// Which preamble begins with a cell, by the places where an X and a Y begin.
+/// Which preamble begins at a cell, given the places where an X and a Y begin.
 fn mark_at(x: u64, y: u64, place: u32) -> Mark
     requires { place < 64 }
     ensures { result ≡ (if bit_at x place == 1 then X else (if bit_at y place == 1 then Y else Z)) }
@@ -65,7 +65,7 @@ fn mark_at(x: u64, y: u64, place: u32) -> Mark
     }
 }
 
-/// The level before a preamble that begins with this cell: each begins with a change.
+/// The level before a preamble that begins at this cell: each preamble begins with a change.
 fn level_before(cells: u64, place: u32) -> Level
     requires { place < 64 }
     ensures { result ≡ other (level_of (bit_at cells place)) }
@@ -77,7 +77,8 @@ fn level_before(cells: u64, place: u32) -> Level
     }
 }
 
-/// Those of 64 places, the first seven cells behind cell `seen`, that are not before cell 0.
+/// Those of 64 places that are not before cell 0. The first place is seven cells before cell
+/// `seen`.
 fn behind_start(seen: u64, places: u64) -> u64
     ensures { (k : ℕ) → k < 64 → bit_at result k
         ≡ (if nat_le 7 (seen + k) then bit_at places k else 0) }
@@ -99,7 +100,7 @@ fn first_of_places(places: u64) -> u32
     places.trailing_zeros()
 }
 
-/// The places but for one.
+/// The places without one.
 fn without(places: u64, place: u32) -> u64
     requires { place < 64 }
     ensures gone { bit_at result place ≡ 0 }
@@ -109,8 +110,8 @@ fn without(places: u64, place: u32) -> u64
 }
 
 impl WordMarks {
-    /// The preambles that end in a word behind `seen` cells: `cells` are the last seven of these
-    /// and the first 57 of the word, and the lowest seven bits of `next` its others.
+    /// The preambles that end in a word after `seen` cells. `cells` are the last seven of these and
+    /// the first 57 of the word, and the lowest seven bits of `next` its other cells.
     pub(crate) fn new(seen: u64, cells: u64, next: u64) -> Self
         requires { seen ≤ 2 ^ 43 }
         ensures { (c : List Level) (word : ℕ) → seen ≡ length c
@@ -129,7 +130,7 @@ impl WordMarks {
         }
     }
 
-    /// Takes the first that is left.
+    /// Takes the first preamble that is left.
     pub fn take_next(&mut self) -> Option<(u64, Mark, Level)>
         ensures next { self.old ≡ option_to_list result ++ self.new }
         ensures end { result ≡ None → self.new ≡ [] }

@@ -13,7 +13,7 @@ ghost use Rattle.aes3_lock_gaps.specs.Told.{due_gaps, gap_entry, report_with, re
 use crate::gap::{BLOCK_CELLS, Due, Gap};
 use aes3_lock::Ending;
 
-/// What has been told of the cells of an input, by reports and gaps: all before a place, and whether
+/// Which reports and gaps of the cells of an input were given: all before a place. Also whether
 /// there was a whole block.
 #[derive(Clone, Copy)]
 pub struct Account {
@@ -22,7 +22,7 @@ pub struct Account {
 }
 
 impl Account {
-    /// Nothing is told.
+    /// An account for which nothing was given.
     pub fn new() -> Self
         ensures { (c : List Level) → length c ≤ 2 ^ 43 → Tells result c [] }
     {
@@ -32,7 +32,7 @@ impl Account {
         }
     }
 
-    /// The next of the gaps that are due, if one is left.
+    /// The next of the gaps that are due, if there is one.
     pub fn next(&mut self, due: Due) -> Option<Gap>
         ensures gap { ForSome result (λ g. due_gaps self.old.place due
             ≡ gap_entry g ∷ due_gaps self.new.place due) }
@@ -65,7 +65,7 @@ impl Account {
         }
     }
 
-    /// Goes behind the report of an ending, before which no gap is left.
+    /// Advances past the report of an ending, before which no gap is left.
     pub fn take(&mut self, ending: Ending)
         ensures place { (block : List (List Bool)) → place_of (report_with block ending) ≤ 2 ^ 43
             → self.new.place ≡ behind_entry self.old.place (reported (report_with block ending)) }
@@ -77,8 +77,8 @@ impl Account {
             self.found = true;
         }
     }
-    /// The next gap before the report of an ending; where none is left, the report is told, and it
-    /// goes behind it.
+    /// The next gap before the report of an ending. If no gap is left, the report counts as given,
+    /// and the account advances past it.
     pub fn before(&mut self, ending: Ending) -> Option<Gap>
         ensures gap { ForSome result (λ g. (block : List (List Bool)) (c : List Level) (e : List Entry)
             → Tells self.old c e → ComesNext c e (report_with block ending)
@@ -94,8 +94,8 @@ impl Account {
         gap
     }
 
-    /// The next gap that stands whatever cells follow the `seen` ones, all of whose reports are told:
-    /// one of a block's length with as many cells behind it.
+    /// The next gap that is certain whatever cells follow the `seen` ones, all of whose reports
+    /// were given. It has a block's length and is followed by at least that many cells.
     pub fn passed(&mut self, seen: u64) -> Option<Gap>
         ensures gap { ForSome result (λ g. (c d : List Level) (e : List Entry)
             → Tells self.old (c ++ d) e → reports_in e ≡ decided c → seen ≡ length c
@@ -108,7 +108,7 @@ impl Account {
         self.next(Due::passed(seen))
     }
 
-    /// The next gap at the end of the `seen` cells, all of whose reports are told.
+    /// The next gap at the end of the `seen` cells, all of whose reports were given.
     pub fn end(&mut self, seen: u64) -> Option<Gap>
         ensures gap { ForSome result (λ g. (c : List Level) (e : List Entry)
             → Tells self.old c e → reports_in e ≡ reports c → seen ≡ length c

@@ -1,4 +1,4 @@
-//! A gap, and up to where gaps are due.
+//! A gap, and the place up to which gaps are due.
 
 ghost use Rattle.std.specs.Prelude.{◌≡◌, ◌-◌, Some, None, false, List, Bool};
 ghost use Rattle.aes3_frame.specs.Blocks.{block_len};
@@ -15,22 +15,23 @@ pub struct Gap {
     /// The place of its first cell.
     pub at: u64,
     pub cells: u64,
-    /// Whether it counts among the faults; where not, the input is cut there.
+    /// Whether it counts as a fault; if not, the input is cut there.
     pub counts: bool,
 }
 
-/// Up to where gaps are due.
+/// The place up to which gaps are due.
 #[derive(Clone, Copy)]
 pub struct Due {
-    /// The place behind the last cell of them.
+    /// The place after their last cell.
     pub to: u64,
-    /// Whether a last gap of fewer cells than a block has counts; `None` where there is none yet.
+    /// Whether a last gap of fewer cells than a block has counts; `None` if there is none yet.
     pub short: Option<bool>,
 }
 
 impl Due {
-    /// Before the report of an ending, where a whole block was `found` before it or not: up to a
-    /// whole block, before any other report as many as have a block's length.
+    /// The gaps before the report of an ending. Before a whole block they are all gaps up to it; a
+    /// short one counts if a whole block was `found` before. Before any other report they are only
+    /// gaps of a block's length.
     pub fn before_report(ending: Ending, found: bool) -> Self
         ensures { (block : List (List Bool)) → result ≡ due_before found (report_with block ending) }
     {
@@ -54,8 +55,8 @@ impl Due {
         }
     }
 
-    /// Once `seen` cells have come and no report is left to tell: as many as have a block's length
-    /// and a block's length of cells behind them.
+    /// The gaps after `seen` cells if no report is left to give: those of a block's length with a
+    /// block's length of cells after them.
     pub fn passed(seen: u64) -> Self
         ensures to { result.to ≡ seen - block_len }
         ensures short { result.short ≡ None }
@@ -66,7 +67,7 @@ impl Due {
         }
     }
 
-    /// At the end of `seen` cells, with no report left to tell: all.
+    /// The gaps at the end of `seen` cells if no report is left to give: all of them.
     pub fn end(seen: u64) -> Self
         ensures to { result.to ≡ seen }
         ensures short { result.short ≡ Some false }

@@ -3,7 +3,7 @@
 
 /// How far the cells of an input are accounted for.
 mod account;
-/// A gap, and up to where gaps are due.
+/// A gap, and the place up to which gaps are due.
 mod gap;
 
 pub use account::Account;

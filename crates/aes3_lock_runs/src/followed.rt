@@ -1,4 +1,4 @@
-//! Cells as they go through a lock, and who hears of them and of the reports that they decide.
+//! Cells that go through a lock, and listeners to them and to the reports that they decide.
 
 ghost use Rattle.std.specs.Prelude.{◌≡◌, ℕ, ◌+◌, ◌<◌, ◌≤◌, ◌^◌, ◌++◌, List, [], IfOk, length};
 ghost use Rattle.aes3_level.specs.declared.level.Level.{Level};
@@ -19,10 +19,11 @@ use aes3_input::{Taker, drive};
 use aes3_level::Cells;
 use aes3_lock::{Ending, Lock, Tally};
 
-/// Hears of cells that a lock has taken, up to each that decides a report, and of their end, and
-/// writes what it makes of them.
+/// Listens to the cells that a lock has taken, up to each that decides a report, and to their end,
+/// and writes what it makes of them.
 ///
-/// The contract speaks of the cells that it has heard of (`follows`), of what cells write
+/// The contract speaks of the cells that it has heard (`follows`), of what cells write (`writes`),
+/// and of what holds after the end (`finished`). After a fault or the end it follows no cells.
 /// (`writes`), and of what holds after the end (`finished`). After a fault or the end it follows
 /// none.
 pub trait Listener {
@@ -32,8 +33,8 @@ pub trait Listener {
 
     ghost finished: { Self → List Level → Type 0 };
 
-    /// Hears of more cells, behind cells with `blocks` whole blocks, and of the ending that the
-    /// lock has just answered to the last of them, if any.
+    /// Hears more cells, after cells with `blocks` whole blocks. `ending` is what the lock has just
+    /// returned for the last of them, if anything.
     ///
     /// # Errors
     /// The sink's fault; then it has taken a front of what these cells write.
@@ -54,8 +55,8 @@ pub trait Listener {
         ensures wrote { (c d : List Level) → Heard lock.now blocks ending c d → follows self.old c
             → Wrote T.taken T.failed sink.old sink.new (behind (writes self.old) c d) result };
 
-    /// Hears of the end of the cells, behind `blocks` whole blocks, and of the ending that the lock
-    /// has just answered to it, if any.
+    /// Hears the end of the cells, after `blocks` whole blocks. `ending` is what the lock has just
+    /// returned for the end, if anything.
     ///
     /// # Errors
     /// The sink's fault; then it has taken a front of what the end writes.
@@ -81,7 +82,7 @@ pub trait Listener {
 pub struct Followed<L> {
     lock: Lock,
     tally: Tally,
-    /// Who hears of them.
+    /// The listener.
     pub listener: L,
 }
 
@@ -99,7 +100,7 @@ impl<L: Listener> Followed<L> {
         }
     }
 
-    /// What a run counts that has read so many bytes and cells.
+    /// The counts of a run that has read this number of bytes and cells.
     pub fn counts(&self, bytes: u64, cells: u64) -> Counts
         ensures { (form : Form) (b : List ℕ) → bytes ≡ length b → cells ≡ length (cells_of form b)
             → IsTallyOf self.now.tally (reports (cells_of form b)) → result ≡ counts_of form b }
@@ -115,7 +116,7 @@ impl<L: Listener> Followed<L> {
     }
 }
 
-/// Counts the report of an ending that a lock has just answered, if any.
+/// Counts the report of an ending that a lock has just returned, if any.
 #[inline(always)]
 fn count(tally: &mut Tally, lock: &Lock, ending: Option<Ending>)
     requires { (r : List Report) × (length r + 1 < 2 ^ 44) × IsTallyOf tally.old r }
@@ -154,13 +155,15 @@ impl<L: Listener> Taker for Followed<L> {
     }
 }
 
-/// Reads cells, lets the listener hear of them as they come, and answers it with what was counted.
+/// Reads cells, lets the listener hear them as they come, and returns the listener with the counts.
 ///
 /// # Errors
-/// `BadCell` and `BadPadding` where the input is not in its form, `TooLong` where it has more than
-/// `max_bytes` bytes, `Read` and `Write` where an end failed. Then what the cells before write is
-/// written, and after `Write` a front of the output.
-// Not inlined, so that a caller of several runs has the buffer of one on its stack.
+/// - `BadCell` and `BadPadding` if the input is not in its form.
+/// - `TooLong` if it has more than `max_bytes` bytes.
+/// - `Read` and `Write` if the input or output failed.
+///
+/// What the cells before write is written; after `Write`, a front of the output.
+// Not inlined, so that a caller of several runs has only one buffer on its stack.
 #[inline(never)]
 pub fn run_cells<S: Source, T: Sink, L: Listener + Drop>(
     source: &mut S,

@@ -1,11 +1,10 @@
 //! Runs that write something of each report, or of each block, of an input of cells.
 #![tactic(auto)]
 
-/// Who hears of cells that go through a lock, and the taker that hands them to it and counts the
+/// Listeners to cells that go through a lock, and the taker that passes them on and counts the
 /// reports.
 mod followed;
-/// Who is told of the reports of a lock or writes its blocks, and runs that write something of
-/// each.
+/// Reporters of a lock's reports, writers of its blocks, and runs with them.
 mod reporter;
 
 pub use aes3_input::{Input, Taker, cell, convert, drive, word};

@@ -1,4 +1,4 @@
-//! Who is told of the reports on cells, and runs that write something of each report or block.
+//! Reporters of the reports on cells, and runs that write something for each report or block.
 
 ghost use Rattle.std.specs.Prelude.{◌≡◌, ℕ, ◌+◌, ◌<◌, ◌≤◌, ◌^◌, ◌++◌, List, [], ◌∷◌, length, IfOk};
 ghost use Rattle.std.specs.Prelude.{Bool, map, take};
@@ -19,17 +19,17 @@ use aes3_block::GatheredCells;
 use aes3_cell::{Counts, Fault, Form, RunError, Sink, Source};
 use aes3_lock::{Ending, Lock};
 
-/// Is told of the reports on cells one by one, and writes what it makes of them.
+/// Takes the reports on cells one by one, and writes what it makes of them.
 ///
-/// The contract speaks of the reports that it was told (`follows`), and of what reports write
-/// (`writes`). After a fault it follows none.
+/// The contract speaks of the reports that it has taken (`follows`), and of what reports write
+/// (`writes`). After a fault it follows no reports.
 pub trait Reporter {
     ghost follows: { Self → List Report → Type 0 };
 
     ghost writes: { Self → Writing Report };
 
-    /// Is told of one more report behind `blocks` whole blocks, that of an ending that a lock has
-    /// just answered. What needs no block makes none.
+    /// Takes one more report, after `blocks` whole blocks: that of an ending that a lock has just
+    /// returned. A reporter that needs no block makes none.
     ///
     /// # Errors
     /// The sink's fault; then it has taken a front of what the report writes.
@@ -48,7 +48,7 @@ pub trait Reporter {
             → Wrote T.taken T.failed sink.old sink.new
             ((writes self.old).adds r (report_in lock.now ending)) result };
 
-    /// Is told of the end of the reports.
+    /// Takes the end of the reports.
     ///
     /// # Errors
     /// The sink's fault; then it has taken a front of what the end writes.
@@ -58,10 +58,10 @@ pub trait Reporter {
             → Wrote T.taken T.failed sink.old sink.new ((writes self.now).ends r) result };
 }
 
-/// Hears of cells, and tells a reporter of the reports on them.
+/// Listens to cells, and gives a reporter the reports on them.
 #[derive(Drop)]
 pub struct ReportListener<R> {
-    /// Who is told of them.
+    /// The reporter.
     pub reporter: R,
 }
 
@@ -103,13 +103,15 @@ impl<R: Reporter> Listener for ReportListener<R> {
     }
 }
 
-/// Reads cells, tells the reporter of each report on them at the cell that decides it, and answers
-/// it with what was counted.
+/// Reads cells, gives the reporter each report on them at the cell that decides it, and returns the
+/// reporter with the counts.
 ///
 /// # Errors
-/// `BadCell` and `BadPadding` where the input is not in its form, `TooLong` where it has more than
-/// `max_bytes` bytes, `Read` and `Write` where an end failed. Then what the reports decided before
-/// give is written, and after `Write` a front of the output.
+/// - `BadCell` and `BadPadding` if the input is not in its form.
+/// - `TooLong` if it has more than `max_bytes` bytes.
+/// - `Read` and `Write` if the input or output failed.
+///
+/// What the reports decided before give is written; after `Write`, a front of the output.
 pub fn run_reports<S: Source, T: Sink, R: Reporter + Drop>(
     source: &mut S,
     sink: &mut T,
@@ -130,14 +132,14 @@ pub fn run_reports<S: Source, T: Sink, R: Reporter + Drop>(
     Ok((counts, reports.reporter))
 }
 
-/// Writes something of a block that stands whole and closed.
+/// Writes something for each whole, closed block.
 pub trait BlockWriter {
     ghost writes: { Self → ℕ → List (List Bool) → List ℕ };
 
     ghost ends: { Self → List ℕ };
 
-    /// Writes what it makes of block `number`, counted from 0, of which the cells of the 384
-    /// subframes are at hand. What needs no bits gathers none.
+    /// Writes what it makes of block `number`, counted from 0, given the cells of its 384
+    /// subframes. A writer that needs no bits gathers none.
     ///
     /// # Errors
     /// The sink's fault; then it has taken a front of the bytes.
@@ -146,7 +148,7 @@ pub trait BlockWriter {
         ensures { Wrote T.taken T.failed sink.old sink.new
             (writes self.now number (map (take payload_len) (read_words cells.now))) result };
 
-    /// Writes what stands behind the last block.
+    /// Writes what follows the last block.
     ///
     /// # Errors
     /// The sink's fault; then it has taken a front of the bytes.
@@ -155,10 +157,10 @@ pub trait BlockWriter {
         ensures { Wrote T.taken T.failed sink.old sink.new (ends self.now) result };
 }
 
-/// Hands the blocks of whole reports to a writer.
+/// Passes the blocks of whole reports on to a writer.
 #[derive(Drop)]
 pub struct BlockReporter<W> {
-    /// Who writes them.
+    /// The writer.
     pub writer: W,
 }
 
@@ -187,7 +189,7 @@ impl<W: BlockWriter> Reporter for BlockReporter<W> {
     }
 }
 
-/// Reads cells, and hands each block that stands whole and closed in them to the writer.
+/// Reads cells, and passes each whole, closed block in them on to the writer.
 ///
 /// # Errors
 /// Those of `run_reports`.

@@ -1,4 +1,4 @@
-//! A job between a source and a sink, its last flush and its exit status.
+//! A job between a source and a sink, its final flush and its exit status.
 
 ghost use Rattle.std.specs.Prelude.{◌≡◌, ◌≢◌, ◌<◌, ◌≤◌, ◌+◌, ◌^◌, IfOk, None, Some};
 ghost use Rattle.aes3_cell.specs.declared.refusal.RunError.TheVariants.{Write};
@@ -39,10 +39,10 @@ use aes3_wave_runs::{
 /// How many bytes an input may have.
 const MAX_BYTES: u64 = 1 << 40;
 
-/// The exit status of `check`, `watch` and `info` where they found faults.
+/// The exit status of `check`, `watch` and `info` if they found faults.
 pub const FAULTY: u8 = 1;
 
-/// The exit status of a job that ended well.
+/// The exit status of a job that succeeded.
 pub(crate) fn exit_status(job: &Job, counts: &Counts) -> u8
     ensures { result ≡ status_by job.now counts.now }
 {
@@ -53,8 +53,8 @@ pub(crate) fn exit_status(job: &Job, counts: &Counts) -> u8
     }
 }
 
-/// After how many cells sums are told: 1 at least, and no more than an input may have bytes. What
-/// words ask for is such a number.
+/// The period of sums in cells: at least 1, and at most the number of bytes of an input. A period
+/// from the command line is within these limits.
 fn period(every: u64) -> u64
     ensures period { result ≡ period every }
     ensures some { 0 < result }
@@ -63,7 +63,7 @@ fn period(every: u64) -> u64
     every.max(1).min(MAX_BYTES)
 }
 
-/// Runs `to-pcm`: of all samples, or with zero for those that are not valid.
+/// Runs `to-pcm`: for all samples, or with zero for those that are not valid.
 fn run_samples<S: Source, T: Sink>(
     source: &mut S,
     sink: &mut T,
@@ -85,7 +85,7 @@ fn run_samples<S: Source, T: Sink>(
     }
 }
 
-/// Runs `to-wav`: of all samples, or with zero for those that are not valid.
+/// Runs `to-wav`: for all samples, or with zero for those that are not valid.
 fn run_wave<S: Source, T: Sink>(
     source: &mut S,
     sink: &mut T,
@@ -111,7 +111,7 @@ fn run_wave<S: Source, T: Sink>(
     }
 }
 
-/// Runs `rewrite`: of all blocks, or up to the first that does not take all settings.
+/// Runs `rewrite`: for all blocks, or up to the first that does not take all settings.
 fn run_change<S: Source, T: Sink>(
     source: &mut S,
     sink: &mut T,
@@ -163,7 +163,7 @@ fn run_stream<S: Source, T: Sink>(
     }
 }
 
-/// Runs a job that reads cells, and writes none.
+/// Runs a job that reads cells, and writes something else.
 fn run_read<S: Source, T: Sink>(
     source: &mut S,
     sink: &mut T,
@@ -224,7 +224,7 @@ fn run_read<S: Source, T: Sink>(
     }
 }
 
-/// What a channel status is for.
+/// The use of a channel status.
 fn status_use(professional: bool) -> StatusUse
     ensures { result ≡ use_for professional }
 {
@@ -291,8 +291,8 @@ pub fn run_job<S: Source, T: Sink>(
     }
 }
 
-/// The refusal of a run once the sink has passed on what it holds: `Write` where that failed, else
-/// the first one.
+/// The error of a run after the sink has passed on what it holds: `Write` if that failed, else
+/// `error`.
 fn flushed<T: Sink>(error: Refusal, sink: &mut T) -> Refusal
     requires room { error ≢ Run Write → T.failed sink.old + 1 < 2 ^ 64 }
     ensures told { Flushed error (moved T.Sink sink.old sink.new) result }
@@ -308,10 +308,13 @@ fn flushed<T: Sink>(error: Refusal, sink: &mut T) -> Refusal
     }
 }
 
-/// Runs a job, and answers the exit status: 0 done, 1 where `check` found faults, 3 for a refusal.
-/// Unless the sink failed, it has passed on all that it took, also behind a refusal. A refusal is
-/// told on `errors`, and of a job that ended well what there is to remark, of settings as they were
-/// typed; they are flushed then, and their own faults change nothing. The observer is told too; one that is silent writes nothing.
+/// Runs a job, and returns the exit status: 0 success, 1 if `check`, `watch` or `info` found
+/// faults, 3 after an error. Unless the sink failed, it has passed on all that it took, also after
+/// an error.
+///
+/// An error is reported on `errors`. For a job that succeeded, remarks are written there, with
+/// settings as typed. `errors` is then flushed, and its own faults change nothing. The observer is
+/// informed too; a silent one writes nothing.
 pub fn finish_job<S: Source, T: Sink, E: Sink, O: Observer>(
     job: &Job,
     typed: &TypedSettings<'_>,
@@ -333,7 +336,7 @@ pub fn finish_job<S: Source, T: Sink, E: Sink, O: Observer>(
     finish_begun(job, typed, source, sink, errors, observer)
 }
 
-/// Does the same for a job of which the observer was told.
+/// Does the same for a job that the observer has been informed of.
 pub(crate) fn finish_begun<S: Source, T: Sink, E: Sink, O: Observer>(
     job: &Job,
     typed: &TypedSettings<'_>,
@@ -357,7 +360,7 @@ pub(crate) fn finish_begun<S: Source, T: Sink, E: Sink, O: Observer>(
     }
 }
 
-/// Refuses a job whose input can't be read, before it is run, as [`finish_job`] does behind that.
+/// Rejects a job whose input can't be read, before it runs, as [`finish_job`] does after that.
 pub(crate) fn refuse_unread<T: Sink, E: Sink, O: Observer>(
     sink: &mut T,
     errors: &mut E,

@@ -1,16 +1,16 @@
-//! What the program does: a command line's job between a source and a sink, the line of its refusal
+//! What the program does: a command line's job between a source and a sink, the line of its error
 //! and its exit status.
 #![tactic(auto)]
 
-/// A job done by the run that it asks for, its last flush and its exit status.
+/// A job done by its run, its final flush and its exit status.
 mod job_run;
-/// A job whose octets are laid out in other ways.
+/// A job whose octets have another layout.
 mod octets;
-/// What a job answers that read its input to the end.
+/// The result of a job that read its input to the end.
 mod outcome;
-/// The line of a refusal.
+/// The line of an error.
 mod refusal;
-/// What is told of a job that read its input to the end.
+/// The remarks on a job that read its input to the end.
 mod remark;
 /// A whole command line.
 mod run;

@@ -1,4 +1,4 @@
-//! A job between ends whose octets are laid out in other ways than the job reads and writes them.
+//! A job whose input or output octets have another layout than the job reads and writes.
 
 ghost use Rattle.std.specs.Prelude.{◌≡◌, ◌&&◌, ◌<◌, ◌+◌, ◌^◌, IsTrue, None, Some, true};
 ghost use Rattle.aes3_cli_jobs.specs.Forms.{reads_packed};
@@ -13,7 +13,7 @@ use aes3_cli_arguments::Octets;
 use aes3_cli_jobs::{Job, Observer};
 use aes3_status_text::TypedSettings;
 
-/// The exit status of a run, and the ends behind it.
+/// The exit status of a run, and its source and sink.
 #[derive(Drop)]
 pub struct Ran<S: Drop, T: Drop> {
     pub status: u8,
@@ -21,8 +21,8 @@ pub struct Ran<S: Drop, T: Drop> {
     pub sink: T,
 }
 
-/// Runs a job whose octets are laid out so, as [`finish_job`] does: where the first cell of each
-/// octet stands in the lowest bit, packed cells are turned that it reads, and those that it writes.
+/// Runs a job whose octets have this layout, as [`finish_job`] does. If the first cell of each
+/// octet is in the lowest bit, packed cells that it reads or writes are reversed.
 pub fn run_octets<S: Source + Drop, T: Sink + Drop, E: Sink, O: Observer>(
     octets: Octets,
     job: &Job,
@@ -60,14 +60,14 @@ pub fn run_octets<S: Source + Drop, T: Sink + Drop, E: Sink, O: Observer>(
     run_source(octets, job, typed, source, sink, errors, observer)
 }
 
-/// Whether octets that are laid out so are turned before the job reads them.
+/// Whether octets with this layout are reversed before the job reads them.
 fn turns_input(octets: Octets, job: &Job) -> bool
     ensures { result ≡ octets.lsb_first && reads_packed job.now }
 {
     octets.lsb_first && job.reads_packed()
 }
 
-/// Runs a job that reads octets laid out so, and writes its output as it is.
+/// Runs a job that reads octets with this layout, and writes its output unchanged.
 fn run_source<S: Source + Drop, T: Sink + Drop, E: Sink, O: Observer>(
     octets: Octets,
     job: &Job,
@@ -99,7 +99,7 @@ fn run_source<S: Source + Drop, T: Sink + Drop, E: Sink, O: Observer>(
     run_packed(is_turned, job, typed, source, sink, errors, observer)
 }
 
-/// Runs a job on packed cells whose octets are turned, or on input as it is.
+/// Runs a job on packed cells whose octets are reversed, or on unchanged input.
 fn run_packed<S: Source + Drop, T: Sink + Drop, E: Sink, O: Observer>(
     is_turned: bool,
     job: &Job,
@@ -132,7 +132,7 @@ fn run_packed<S: Source + Drop, T: Sink + Drop, E: Sink, O: Observer>(
 }
 
 /// Runs a job on packed cells with the first of each octet in the lowest bit. The first octet is
-/// read before the job is: where that fails, it is refused as the job would.
+/// read before the job runs. If that fails, the error is that of the job.
 fn run_turned<S: Source + Drop, T: Sink + Drop, E: Sink, O: Observer>(
     job: &Job,
     typed: &TypedSettings<'_>,
@@ -166,7 +166,7 @@ fn run_turned<S: Source + Drop, T: Sink + Drop, E: Sink, O: Observer>(
     }
 }
 
-/// Runs a job on such cells, of which `first` was read, and of which the observer was told.
+/// Runs a job on such cells, after `first` was read and the observer was informed of the job.
 fn run_behind<S: Source + Drop, T: Sink + Drop, E: Sink, O: Observer>(
     first: Option<u8>,
     job: &Job,
@@ -196,8 +196,8 @@ fn run_behind<S: Source + Drop, T: Sink + Drop, E: Sink, O: Observer>(
     }
 }
 
-/// Packed cells that a job writes can be turned with the octet that counts, since they are whole
-/// octets of them.
+/// Packed cells that a job writes can be reversed together with the last octet, since they are
+/// whole octets.
 pub fn outputs_can_be_turned()
     ensures { OutputsCanBeTurned }
 {}

@@ -1,4 +1,4 @@
-//! What a job answers that read its input to the end.
+//! The result of a job that read its input to the end.
 
 ghost use Rattle.std.specs.Prelude.{◌≡◌, [], ◌∷◌, replicate};
 ghost use Rattle.std.specs.Option.{unwrap_or};
@@ -22,35 +22,36 @@ use aes3_wave_runs::{
 /// The settings of a channel, and which of them some block took.
 #[derive(Clone, Copy, PartialEq, Eq)]
 pub struct Met {
-    /// The settings, where some are given.
+    /// The settings, if there are any.
     pub settings: Option<Settings>,
     /// Which of them some block took.
     pub taken: Taken,
 }
 
-/// What of the format of a WAV file the channel status that its header asks for has no code for.
+/// What a channel status has no code for, of the format of a WAV file.
 #[derive(Clone, Copy, PartialEq, Eq)]
 pub struct UnsaidFormat {
     /// The sampling frequency in hertz.
     pub rate: Option<u32>,
-    /// How many bits of a sample count.
+    /// How many bits of a sample are valid.
     pub bits: Option<u8>,
 }
 
-/// What standard error is told of a job that read its input to the end.
+/// The remarks on standard error about a job that read its input to the end.
 #[derive(Clone, Copy, PartialEq, Eq)]
 pub enum Remark {
     /// Nothing.
     Nothing,
-    /// So many frames fill the time between blocks.
+    /// This number of frames fill the time between blocks.
     Filled {
         frames: u64,
     },
-    /// So many words stand before the first block, and are left out.
+    /// This number of words before the first block are left out.
     LeftOut {
         words: u64,
     },
-    /// These settings were given for channel 1 and channel 2: those that no block took are told.
+    /// These settings were given for channel 1 and channel 2; those that no block took are
+    /// reported.
     Settings {
         first: Met,
         second: Met,
@@ -58,34 +59,34 @@ pub enum Remark {
     /// Neither an option nor the first block names the sampling frequency of the WAV file that is
     /// written.
     UsualRate,
-    /// That, and so many frames fill the time between blocks.
+    /// The same, and this number of frames fill the time between blocks.
     FilledAtUsualRate {
         frames: u64,
     },
-    /// The status of blocks of a WAV file does not say this of its format; these settings were given for
-    /// channel 1 and channel 2: those that the status did not take are told.
+    /// The status of the blocks of a WAV file does not say this of its format. These settings were
+    /// given for channel 1 and channel 2; those that the status did not take are reported.
     Wave {
         unsaid: UnsaidFormat,
         first: Met,
         second: Met,
     },
-    /// The block at this place could not be given exactly, and neither it nor what is behind it is:
-    /// the job is refused.
+    /// The block at this place could not be given exactly. Neither it nor what follows it is given:
+    /// the job ends with an error.
     Inexact {
         at: u64,
     },
 }
 
-/// What a job answers that read its input to the end.
+/// The result of a job that read its input to the end.
 #[derive(Clone, Copy, PartialEq, Eq)]
 pub struct Outcome {
-    /// What it counted.
+    /// Its counts.
     pub counts: Counts,
-    /// What standard error is told of it.
+    /// The remarks on it.
     pub remark: Remark,
 }
 
-/// The answer of a job on which there is nothing to remark.
+/// The result of a job without remarks.
 pub(crate) fn plain(ran: Result<Counts, RunError>) -> Result<Outcome, RunError>
     ensures { result ≡ answer_as of_counts ran }
 {
@@ -95,7 +96,7 @@ pub(crate) fn plain(ran: Result<Counts, RunError>) -> Result<Outcome, RunError>
     })
 }
 
-/// The answer of a job that fills time.
+/// The result of a job that fills time.
 pub(crate) fn filled(ran: Result<Filled, RunError>) -> Result<Outcome, RunError>
     ensures { result ≡ answer_as of_filled ran }
 {
@@ -108,7 +109,7 @@ pub(crate) fn filled(ran: Result<Filled, RunError>) -> Result<Outcome, RunError>
     })
 }
 
-/// The answer of a job that reads words which may begin inside a block.
+/// The result of a job that reads words which may begin inside a block.
 pub(crate) fn encoded(ran: Result<EncodedWords, RunError>) -> Result<Outcome, RunError>
     ensures { result ≡ answer_as of_words ran }
 {
@@ -125,7 +126,7 @@ pub(crate) fn encoded(ran: Result<EncodedWords, RunError>) -> Result<Outcome, Ru
     })
 }
 
-/// What is remarked on a job that gives blocks exactly, up to the first that it can't.
+/// The remark on a job that gives blocks exactly, up to the first one that it can't give.
 fn exactness(refused: Option<u64>) -> Remark
     ensures { result ≡ exactness refused }
 {
@@ -135,7 +136,7 @@ fn exactness(refused: Option<u64>) -> Remark
     }
 }
 
-/// The answer of such a job.
+/// The result of such a job.
 pub(crate) fn exact(ran: Result<Exact, RunError>) -> Result<Outcome, RunError>
     ensures { result ≡ answer_as of_exact ran }
 {
@@ -146,7 +147,7 @@ pub(crate) fn exact(ran: Result<Exact, RunError>) -> Result<Outcome, RunError>
     })
 }
 
-/// The answer of a job that changes the channel status of blocks.
+/// The result of a job that changes the channel status of blocks.
 pub(crate) fn rewritten(
     ran: Result<Rewritten, RunError>,
     change: &Change,
@@ -172,7 +173,7 @@ pub(crate) fn rewritten(
     })
 }
 
-/// What the status that blocks of samples have takes of settings, where some are given.
+/// Which settings the status of blocks of samples takes, if there are any.
 fn taken_of(status: &Option<[u8; 24]>, settings: &Option<Settings>) -> Taken
     ensures { result ≡ taken_of settings.now
         (unwrap_or status.now (replicate 24 0) ∷ []) }
@@ -187,7 +188,7 @@ fn taken_of(status: &Option<[u8; 24]>, settings: &Option<Settings>) -> Taken
     }
 }
 
-/// The answer of a job that makes blocks of samples: their status is the same in all.
+/// The result of a job that makes blocks from samples: their status is the same in all.
 pub(crate) fn sampled(ran: Result<Counts, RunError>, change: &Change) -> Result<Outcome, RunError>
     ensures { result ≡ answer_as (of_samples change.now) ran }
 {
@@ -210,7 +211,7 @@ pub(crate) fn sampled(ran: Result<Counts, RunError>, change: &Change) -> Result<
     })
 }
 
-/// What is remarked on a WAV file, by the sampling frequency that an option gives and the one that its
+/// The remark on a WAV file, by the sampling frequency that an option gives and the one that its
 /// first block names.
 fn rate_remark(rate: Option<u32>, named: Option<u32>) -> Remark
     ensures { result ≡ rate_remark rate named }
@@ -222,7 +223,7 @@ fn rate_remark(rate: Option<u32>, named: Option<u32>) -> Remark
     }
 }
 
-/// What is remarked on one with so many frames that fill time.
+/// The remark on a WAV file with this number of frames that fill time.
 fn filled_remark(frames: u64, rate: Option<u32>, named: Option<u32>) -> Remark
     ensures { result ≡ filled_remark frames rate named }
 {
@@ -233,7 +234,7 @@ fn filled_remark(frames: u64, rate: Option<u32>, named: Option<u32>) -> Remark
     }
 }
 
-/// What is remarked on a job that gives blocks exactly: that it is refused, or else this.
+/// The remark on a job that gives blocks exactly: that it ends with an error, or else this remark.
 fn exact_or(refused: Option<u64>, remark: Remark) -> Remark
     ensures { result ≡ exact_or refused remark }
 {
@@ -243,7 +244,7 @@ fn exact_or(refused: Option<u64>, remark: Remark) -> Remark
     }
 }
 
-/// The answer of a job that writes a WAV file, whose sampling frequency is this where it is given.
+/// The result of a job that writes a WAV file; `rate` is its sampling frequency, if one is given.
 pub(crate) fn waved(
     ran: Result<WaveWritten, RunError>,
     rate: Option<u32>,
@@ -257,7 +258,7 @@ pub(crate) fn waved(
     })
 }
 
-/// The answer of one that gives blocks exactly.
+/// The result of such a job that gives blocks exactly.
 pub(crate) fn waved_exactly(
     ran: Result<ExactWave, RunError>,
     rate: Option<u32>,
@@ -271,7 +272,7 @@ pub(crate) fn waved_exactly(
     })
 }
 
-/// The answer of one that fills time.
+/// The result of such a job that fills time.
 pub(crate) fn waved_in_time(
     ran: Result<FilledWave, RunError>,
     rate: Option<u32>,
@@ -285,7 +286,7 @@ pub(crate) fn waved_in_time(
     })
 }
 
-/// How many bits of a sample count.
+/// How many bits of a sample are valid.
 fn bits_of(width: Width) -> u8
     ensures { result ≡ bits_of width }
 {
@@ -298,7 +299,7 @@ fn bits_of(width: Width) -> u8
     }
 }
 
-/// What of a format the status that is made of it does not say; nothing where none is made of it.
+/// What the status made for a format does not say of it; nothing if none is made for it.
 fn unsaid_format(options: &WaveOptions, format: &WaveFormat) -> UnsaidFormat
     ensures { result ≡ unsaid_format options.now format.now }
 {
@@ -318,7 +319,7 @@ fn unsaid_format(options: &WaveOptions, format: &WaveFormat) -> UnsaidFormat
     }
 }
 
-/// The status that blocks of a WAV file begin with, where this is given.
+/// The status that blocks of a WAV file begin with, if one is given.
 fn wave_status(
     given: Option<[u8; 24]>,
     options: &WaveOptions,
@@ -332,7 +333,7 @@ fn wave_status(
     }
 }
 
-/// The answer of a job that makes blocks of a WAV file: their status is the same in all.
+/// The result of a job that makes blocks from a WAV file: their status is the same in all.
 fn converted(ran: &Converted, options: &WaveOptions) -> Outcome
     ensures { result ≡ of_converted options.now ran.now }
 {
@@ -362,7 +363,7 @@ fn converted(ran: &Converted, options: &WaveOptions) -> Outcome
     }
 }
 
-/// Why a run over a WAV file is refused, as a job is.
+/// The error of a job, from the error of a run over a WAV file.
 fn refusal_of(error: WaveError) -> Refusal
     ensures { result ≡ refusal_of error }
 {
@@ -373,7 +374,7 @@ fn refusal_of(error: WaveError) -> Refusal
     }
 }
 
-/// The answer of a run over a WAV file.
+/// The result of a run over a WAV file.
 pub(crate) fn of_file(
     ran: Result<Converted, WaveError>,
     options: &WaveOptions,
@@ -386,7 +387,7 @@ pub(crate) fn of_file(
     }
 }
 
-/// The answer of any other job.
+/// The result of any other job.
 pub(crate) fn of_run(ran: Result<Outcome, RunError>) -> Result<Outcome, Refusal>
     ensures { result ≡ run_answer ran }
 {

@@ -1,4 +1,4 @@
-//! The line of a refusal, and its exit status.
+//! The line of an error, and its exit status.
 
 ghost use Rattle.std.specs.Prelude.{◌≡◌, ◌<◌, ◌+◌, ◌^◌, None, Some};
 ghost use Rattle.aes3_cell.specs.Writes.{Wrote};
@@ -11,7 +11,7 @@ use aes3_cli::REFUSED;
 use aes3_cli_jobs::{Observer, Refusal};
 use aes3_status_text::Line;
 
-/// Writes the line of a refusal as one buffer.
+/// Writes the line of an error as one buffer.
 ///
 /// # Errors
 /// The sink's fault; then it has taken a front of the line.
@@ -22,8 +22,8 @@ pub fn put_refusal<T: Sink>(error: Refusal, sink: &mut T) -> Result<(), Fault>
     Line::of_refusal("aes3", error.number(), error.place()).hand_on(sink)
 }
 
-/// Tells a refusal on `errors`, which are flushed and whose own faults change nothing, and then the
-/// observer, and answers its exit status.
+/// Reports an error on `errors`, flushes them, and then informs the observer. Faults of `errors`
+/// change nothing. Returns the exit status.
 pub fn refuse<E: Sink, O: Observer>(error: Refusal, errors: &mut E, observer: &mut O) -> u8
     requires { E.failed errors.old + 1 < 2 ^ 64 }
     ensures aside { Aside None (Some error) E.Sink errors.old errors.new

@@ -1,4 +1,4 @@
-//! What standard error is told of a job that read its input to the end.
+//! The remarks on standard error about a job that read its input to the end.
 
 ghost use Rattle.std.specs.Prelude.{◌≡◌, ◌<◌, ◌≤◌, ◌+◌, ◌++◌, ◌^◌, None, codes, decimal, length, map};
 ghost use Rattle.aes3_cell.specs.Writes.{Wrote};
@@ -19,7 +19,7 @@ use aes3_cli_jobs::{Job, Observer, Refusal};
 use aes3_status::{Settings, Taken};
 use aes3_status_text::{Line, TEXTS, TypedSettings, untaken_remedy};
 
-/// The line of how many frames fill.
+/// The line of the number of filling frames.
 fn filled(frames: u64) -> Line
     ensures { result ≡ filled_line frames }
 {
@@ -30,7 +30,7 @@ fn filled(frames: u64) -> Line
     line
 }
 
-/// The line of how many words are left out.
+/// The line of the number of words that are left out.
 fn left_out(words: u64) -> Line
     ensures { result ≡ left_out_line words }
 {
@@ -41,7 +41,7 @@ fn left_out(words: u64) -> Line
     line
 }
 
-/// The line that the sampling frequency of a WAV file is neither given nor named.
+/// The line that says that the sampling frequency of a WAV file is neither given nor named.
 fn usual_rate() -> Line
     ensures { result ≡ usual_rate_line }
 {
@@ -51,7 +51,7 @@ fn usual_rate() -> Line
     line
 }
 
-/// Writes the line of how many frames fill, and then the line of the sampling frequency.
+/// Writes the line of the number of filling frames, and then the line of the sampling frequency.
 ///
 /// # Errors
 /// The sink's fault; then it has taken a front of the lines.
@@ -63,7 +63,7 @@ fn put_filled_at_usual_rate<T: Sink>(frames: u64, sink: &mut T) -> Result<(), Fa
     usual_rate().hand_on(sink)
 }
 
-/// The line that the status has no code for a sampling frequency.
+/// The line that says that the status has no code for a sampling frequency.
 fn no_rate(rate: u32) -> Line
     ensures { result ≡ no_rate_line rate }
 {
@@ -74,7 +74,7 @@ fn no_rate(rate: u32) -> Line
     line
 }
 
-/// The line that the status has no code for a width.
+/// The line that says that the status has no code for a width.
 fn no_width(bits: u8) -> Line
     ensures { result ≡ no_width_line bits }
 {
@@ -85,7 +85,7 @@ fn no_width(bits: u8) -> Line
     line
 }
 
-/// The front of the line of a setting for a channel.
+/// The beginning of the line of a setting for a channel.
 fn head(channel: u8) -> Line
     ensures { result ≡ codes "aes3: no block took --set" ++ decimal channel ++ codes " " }
 {
@@ -96,7 +96,7 @@ fn head(channel: u8) -> Line
     line
 }
 
-/// Writes a setting as it was typed, and the rest of its line.
+/// Writes a setting as typed, and the rest of its line.
 ///
 /// # Errors
 /// The sink's fault; then it has taken a front of this.
@@ -121,7 +121,7 @@ fn put_line<T: Sink>(channel: u8, text: &str, remedy: &str, sink: &mut T) -> Res
     put_rest(text, remedy, sink)
 }
 
-/// Writes the line of text number `at` of a channel's settings, where no block took it.
+/// Writes the line of text number `at` of a channel's settings, if no block took it.
 ///
 /// # Errors
 /// The sink's fault; then it has taken a front of the line.
@@ -167,7 +167,7 @@ fn put_lines<T: Sink>(
     Ok(())
 }
 
-/// Writes those of a channel's settings, where some are given.
+/// Writes these lines for a channel's settings, if there are any.
 ///
 /// # Errors
 /// The sink's fault; then it has taken a front of the lines.
@@ -183,7 +183,7 @@ fn put_untaken<T: Sink>(channel: u8, texts: &[&str], met: &Met, sink: &mut T) ->
     }
 }
 
-/// Writes those of both channels.
+/// Writes these lines for both channels.
 ///
 /// # Errors
 /// The sink's fault; then it has taken a front of the lines.
@@ -230,7 +230,7 @@ fn put_unsaid_width<T: Sink>(bits: Option<u8>, sink: &mut T) -> Result<(), Fault
     }
 }
 
-/// Writes what of the format of a WAV file the status does not say.
+/// Writes what the status does not say of the format of a WAV file.
 ///
 /// # Errors
 /// The sink's fault; then it has taken a front of the lines.
@@ -242,7 +242,7 @@ fn put_unsaid<T: Sink>(unsaid: &UnsaidFormat, sink: &mut T) -> Result<(), Fault>
     put_unsaid_width(unsaid.bits, sink)
 }
 
-/// Writes that, and then the settings that no block took.
+/// Writes the same, and then the settings that no block took.
 ///
 /// # Errors
 /// The sink's fault; then it has taken a front of the lines.
@@ -262,7 +262,7 @@ fn put_wave<T: Sink>(
     put_settings(typed, first, second, sink)
 }
 
-/// Writes what there is to remark.
+/// Writes the remark.
 ///
 /// # Errors
 /// The sink's fault; then it has taken a front of the lines.
@@ -291,7 +291,7 @@ fn put_remark<T: Sink>(
     }
 }
 
-/// Tells what there is to remark on `errors`, which are flushed and whose own faults change nothing.
+/// Writes the remark on `errors`, and flushes them. Their own faults change nothing.
 fn tell_remark<E: Sink>(remark: &Remark, typed: &TypedSettings<'_>, errors: &mut E)
     requires { E.failed errors.old + 1 < 2 ^ 64 }
     ensures told { RemarkTold (remark_line typed.now remark.now)
@@ -304,8 +304,8 @@ fn tell_remark<E: Sink>(remark: &Remark, typed: &TypedSettings<'_>, errors: &mut
     }
 }
 
-/// Tells on `errors` what there is to remark on a job, or that it is refused after all, which the
-/// observer is told too, and answers its exit status.
+/// Reports the outcome of a job on `errors`: its remark, or that it ends with an error after all,
+/// of which the observer is informed too. Returns its exit status.
 pub(crate) fn tell_outcome<E: Sink, O: Observer>(
     job: &Job,
     typed: &TypedSettings<'_>,

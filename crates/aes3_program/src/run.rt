@@ -1,4 +1,4 @@
-//! Everything but the machine's own streams.
+//! Everything but the system's own streams.
 
 ghost use Rattle.std.specs.Prelude.{◌≡◌, ◌<◌, ◌+◌, ◌^◌, IfOk, List, None, OnErr, ℕ};
 ghost use Rattle.aes3_cell.specs.Ends.{Grew};
@@ -14,7 +14,7 @@ use aes3_cli::{DONE, USAGE, Unread, put_text};
 use aes3_cli_arguments::{CommandLine, LineFault};
 use aes3_cli_jobs::{Observer, Refusal};
 
-/// What is told of words that are not UTF-8, as `clap` tells of words that it doesn't take.
+/// The text for words that are not UTF-8, in the form of `clap`'s usage errors.
 const NOT_UTF8: &str = "error: the words are not UTF-8
 
 Usage: aes3 COMMAND [OPTIONS] < INPUT > OUTPUT
@@ -22,7 +22,7 @@ Usage: aes3 COMMAND [OPTIONS] < INPUT > OUTPUT
 For more information, try '--help'.
 ";
 
-/// Tells why words are no job, and answers the exit status.
+/// Reports why words are no job, and returns the exit status.
 fn tell_fault<T: Sink, E: Sink, O: Observer>(
     fault: LineFault,
     sink: &mut T,
@@ -50,7 +50,7 @@ fn tell_fault<T: Sink, E: Sink, O: Observer>(
     }
 }
 
-/// Tells why the words could not be read, and answers the exit status.
+/// Reports why the words could not be read, and returns the exit status.
 pub fn tell_unread<E: Sink, O: Observer>(fault: Unread, errors: &mut E, observer: &mut O) -> u8
     requires { E.failed errors.old + 1 < 2 ^ 64 }
     ensures told { UnreadTold fault (moved E.Sink errors.old errors.new) result }
@@ -66,14 +66,16 @@ pub fn tell_unread<E: Sink, O: Observer>(fault: Unread, errors: &mut E, observer
     }
 }
 
-/// Runs what a command line asks for, or tells why it asks for nothing, and answers the exit status:
-/// 0 done, 1 where `check` or `watch` found faults, 2 for a refused command line, 3 for a refusal. The
-/// source is what the line reads. A sink that held nothing before and did not fail has passed on all
-/// that it took, and so have the errors. Refusals are told on `errors`, whose own faults change
-/// nothing. The observer is told how it goes on; one that is silent writes nothing.
+/// Runs what a command line asks for, or reports why it is no job. Returns the exit status: 0
+/// success, 1 if `check`, `watch` or `info` found faults, 2 for a usage error, 3 after any other
+/// error. The source is what the line reads.
 ///
-/// All that the errors get is, at status 0 and 1, the remark on the job, or nothing if there is none; at 2
-/// why the words are no command; at 3 the line of the refusal.
+/// A sink that held nothing before and did not fail has passed on all that it took, and so have
+/// `errors`. Errors are reported on `errors`, whose own faults change nothing. The observer is
+/// informed of the progress; a silent one writes nothing.
+///
+/// All that `errors` get is: with status 0 and 1 the remark on the job, or nothing if there is
+/// none; with status 2 why the words are no command; with status 3 the line of the error.
 pub fn run_line<S: Source + Drop, T: Sink + Drop, E: Sink, O: Observer>(
     line: Result<CommandLine<'_>, LineFault>,
     source: S,
@@ -90,7 +92,7 @@ pub fn run_line<S: Source + Drop, T: Sink + Drop, E: Sink, O: Observer>(
     ensures passed_on { HasPassed T.Sink sink → PassesOn T.Sink sink result.sink }
     ensures aside { AsideOfRun (job_of line.entry) E.Sink errors.old errors.new
         O.Observer observer.old observer.new result.status }
-    // Of the line of any words it does what they ask for.
+    // For the line of any words it does what they ask for.
     ensures words { (words : List (List ℕ)) → IsLineOfWords words line.entry → WordsRan words
         (streams_of S.Source source result.source
         T.Sink sink result.sink E.Sink errors.old errors.new) result.status }

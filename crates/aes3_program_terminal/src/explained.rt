@@ -1,4 +1,4 @@
-//! A whole command line, and what a person at a terminal is told after it.
+//! A whole command line, and the hints after it for a person at a terminal.
 
 ghost use Rattle.std.specs.Prelude.{◌≡◌, ◌<◌, ◌+◌, ◌^◌, ◌||◌, IfOk, IsFalse, IsTrue, List, None, Some, ℕ};
 ghost use Rattle.aes3_program.specs.Asides.{ErrorsLeft};
@@ -14,12 +14,12 @@ use aes3_cli_progress::Progress;
 use aes3_program::{Ran, Unread, run_line, tell_unread};
 use std::time::Clock;
 
-/// Runs a line, as [`run_line`] does, erases the line of its progress, and has the hints say in a
-/// sentence what was refused of these words or of their input.
+/// Runs a line, as [`run_line`] does, and erases the line of its progress. Then the hints say in a
+/// sentence what was wrong with these words or with their input.
 ///
-/// If standard error is no terminal and the words name no file, the hints write nothing: all that
-/// standard error gets then is what `errors` get. If it is a terminal, a refusal ends with the sentence
-/// about the refusal whose line `errors` got, unless writing it fails.
+/// If standard error is no terminal and the words name no file, the hints write nothing. Then
+/// standard error gets only what `errors` get. If it is a terminal, the report of an error ends
+/// with a sentence about the error whose line `errors` got, unless writing the sentence fails.
 pub fn run_and_explain<
     'a,
     C: Clock + Drop,
@@ -62,8 +62,8 @@ pub fn run_and_explain<
     ran
 }
 
-/// Reports why the words could not be read, and has the hints say it in a sentence; answers the exit
-/// status.
+/// Reports why the words could not be read, and has the hints say it in a sentence. Returns the
+/// exit status.
 pub fn report_unread<E: Sink, H: Sink + Drop>(
     fault: Unread,
     errors: &mut E,

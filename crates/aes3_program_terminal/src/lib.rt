@@ -1,7 +1,8 @@
-//! A command line run for a person at a terminal: its progress, and a sentence about what was refused.
+//! A command line run for a person at a terminal: its progress, and a sentence about what was
+//! wrong.
 #![tactic(auto)]
 
-/// A line, and what is explained after it.
+/// A line, and the explanation after it.
 mod explained;
 /// The form of a recording by its first octets.
 mod recognised;

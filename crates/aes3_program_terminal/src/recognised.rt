@@ -9,14 +9,14 @@ use aes3_files::{FileKind, Preview, are_turned};
 use std::alloc::AllocError;
 use std::io::Read;
 
-/// How many octets are looked at.
+/// How many octets are inspected.
 const LOOKED_AT: usize = 4096;
 
-/// Where the page of a recording is asked for and no option says its form, takes the form that the
-/// first octets have: packed cells where they are no text and of no other kind of file.
+/// If the job is `info` and no option gives the form of the recording, its form is taken from the
+/// first octets. It is packed cells if they are no text and no other kind of file.
 ///
 /// # Errors
-/// Memory was refused; then the line is as it was.
+/// `AllocError` if there is no memory; then the line is unchanged.
 pub fn recognise<R: Read + Drop>(
     line: &mut Result<CommandLine<'_>, LineFault>,
     input: &mut Preview<R>,

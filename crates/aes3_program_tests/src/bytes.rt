@@ -1,28 +1,29 @@
-//! Inputs and outputs that rows name, written out from the line code.
+//! Inputs and outputs of rows, written out from the line code.
 
 use std::alloc::{AllocError, Global};
 
 /// Bytes of an input or an output.
 pub(crate) enum Bytes {
     Just(&'static [u8]),
-    /// So many of the first lines of the zero block as text, the block so many times, and more.
+    /// The first lines of the zero block as text, that block repeated, and more.
     Zeros(usize, usize, &'static [u8]),
-    /// The text of the zero block whose first line is this behind its preamble.
+    /// The text of the zero block with a first line of these cells after its preamble.
     Block(&'static [u8]),
-    /// The zero block so many times with the status whose first bit is 1.
+    /// The zero block repeated, with the status whose first bit is 1.
     FirstBit(usize),
-    /// The zero block in the other polarity, with a space after every 8 cells and CR LF behind each
+    /// The zero block with inverted cells, with a space after every 8 cells and CR LF after each
     /// line.
     Other,
     /// The zero block twice as packed cells.
     Packed,
-    /// So many bytes of a block file, of zero words but for the first.
+    /// A block file of this number of bytes, which begins with these bytes and continues with zero
+    /// words.
     File(&'static [u8], usize),
     /// Four bytes 384 times.
     Words(&'static [u8; 4]),
-    /// The two lines of the status of so many zero blocks.
+    /// The two lines of the status of this number of zero blocks.
     Shown(u64),
-    /// The preambles of the first lines of the zero block, so many, and of the block behind them.
+    /// The preambles of this number of first lines of the zero block, and of the block after them.
     Marks(usize),
 }
 
@@ -59,7 +60,7 @@ fn add_line(text: &mut Vec<u8>, line: usize, slots: &[u8]) -> Result<(), AllocEr
     text.extend_from_slice(b"\n")
 }
 
-/// The text of the zero block whose first line is `first` behind its preamble.
+/// The text of the zero block with a first line of `first` after its preamble.
 fn block_text(alloc: Global, first: &[u8]) -> Result<Vec<u8>, AllocError> {
     let mut text = Vec::new(alloc);
     for line in 0..384 {
@@ -82,8 +83,9 @@ fn zeros(alloc: Global, lines: usize, blocks: usize, end: &[u8]) -> Result<Vec<u
     Ok(text)
 }
 
-/// Whether channel status and parity of a line are 1 and 0: the status of the first channel has a
-/// first bit and the check byte 32 in hexadecimal, so it is in frames 0, 185, 188 and 189.
+/// Whether the channel status bit of a line is 1, and with it the parity bit. The status of the
+/// first channel has a first bit and the check byte 32 in hexadecimal, so this is so in frames 0,
+/// 185, 188 and 189.
 fn has_status_bit(line: usize) -> bool {
     line == 0 || line == 370 || line == 376 || line == 378
 }

@@ -22,7 +22,7 @@ const STATUS_BYTES: [u8; 24] = [
     0,
 ];
 
-/// What a command line is answered.
+/// The answer to a command line.
 #[derive(Clone, Copy, PartialEq, Eq)]
 enum Told {
     Job,
@@ -31,7 +31,7 @@ enum Told {
     Refused(RunError),
 }
 
-/// What the words are answered.
+/// The answer to these words.
 fn answered(alloc: Global, words: &[&str]) -> Told {
     match job_of_words(alloc, words) {
         Ok(_) => Told::Job,
@@ -66,7 +66,7 @@ const REWRITE: Job = Job::Stream {
     },
 };
 
-/// The usual status for professional use, and that of samples of which nothing is known.
+/// The default status for professional use, and that of samples of which nothing is known.
 const PROFESSIONAL: [u8; 24] = [
     0x05, 0x08, 0x2C, 0, 0, 0, 0, 0, 0, 0, 0, 0, 0, 0, 0, 0, 0, 0, 0, 0, 0, 0, 0, 0,
 ];
@@ -167,7 +167,7 @@ const TO_BITS: Job = Job::Read {
     },
 };
 
-/// Whether each line asks for its job; `tests/rows` has the others, for the program.
+/// Whether each line gives its job; `tests/rows` has the others, for the program.
 fn is_each_asked_for(alloc: Global) -> bool {
     asks_for(alloc, &["check"], CHECK)
         && asks_for(alloc, &["cut", "+1", "--packed-out", "007"], CUT)
@@ -234,7 +234,7 @@ const TO_FILLED_WAV: Job = Job::Read {
     },
 };
 
-/// Whether each line of `to-wav` asks for its job.
+/// Whether each line of `to-wav` gives its job.
 fn is_each_wave_asked_for(alloc: Global) -> bool {
     asks_for(
         alloc,
@@ -293,7 +293,7 @@ fn status_texts(rt: HostRuntime) {
     assert!(rt; status_of_text(STATUS) == Some(STATUS_BYTES) && status_of_text("").is_none());
 }
 
-/// Whether a rewriting job is asked for, or want of memory is told.
+/// Whether the answer is a rewriting job, or that there is no memory.
 fn is_rewriting_or_memory(alloc: Global) -> bool {
     match job_of_words(alloc, &["rewrite", "--status1", STATUS, "--mend-check"]) {
         Ok(job) => job == REWRITE,
@@ -302,7 +302,8 @@ fn is_rewriting_or_memory(alloc: Global) -> bool {
     }
 }
 
-/// Run with the allocations refused in turn, this shows that each is told or changes nothing.
+/// Run with the allocations failing in turn, this shows that each failure is reported or changes
+/// nothing.
 #[test]
 fn refused_memory_is_told(rt: HostRuntime) {
     assert!(rt; is_rewriting_or_memory(rt.alloc()));

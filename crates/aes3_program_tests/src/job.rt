@@ -61,10 +61,10 @@ const MENDED: Job = Job::Stream {
     },
 };
 
-/// An input of a job, its output, the line of its refusal and the exit status.
+/// An input of a job, its output, the line of its error and the exit status.
 type Row = (Bytes, Bytes, &'static [u8], u8);
 
-/// Whether a job makes this output of its input, and ends as it should.
+/// Whether a job makes this output from its input, and ends as expected.
 fn is_finished(
     alloc: Global,
     job: &Job,
@@ -102,10 +102,10 @@ const NOTHING: Bytes = Bytes::Just(b"");
 /// The zero block as text.
 const BLOCK: Bytes = Bytes::Zeros(0, 1, b"");
 
-/// The same behind the front of another.
+/// The same block after the front of another.
 const EARLY: Bytes = Bytes::Zeros(200, 1, b"");
 
-/// The same before a cell that does not close it.
+/// The same block before a cell that does not close it.
 const UNCLOSED: Bytes = Bytes::Zeros(0, 1, b"0");
 
 const ONE: Bytes = Bytes::File(&[0x10, 0, 0, 0x80], 1_536);
@@ -181,7 +181,7 @@ fn cells(rt: HostRuntime) {
     assert!(rt; are_right(rt.alloc(), MENDED, &[(BLOCK, BLOCK, b"", 0)]));
 }
 
-/// Whether a file of blocks becomes these samples on the way over a line.
+/// Whether a file of blocks becomes these samples over a line.
 fn is_heard(alloc: Global, form: Form, file: &[u8], samples: &[u8]) -> bool {
     let encode = Job::Encode {
         output: form,

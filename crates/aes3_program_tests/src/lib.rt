@@ -1,5 +1,5 @@
-//! What no contract says of jobs and command lines: worked ones, and every job over ends that fail
-//! and move few bytes.
+//! What no contract says about jobs and command lines: worked ones, and every job over sources and
+//! sinks that fail or move few bytes.
 #![tactic(auto)]
 
 #[cfg(test)]

@@ -6,7 +6,7 @@ use aes3_cli_jobs::Nobody;
 use aes3_program::{Unread, run_line, tell_unread};
 use std::alloc::Global;
 
-/// Words, an input, its output, the line of its refusal and the exit status.
+/// Words, an input, its output, the line of its error and the exit status.
 type Line = (
     &'static [&'static str],
     &'static [u8],
@@ -57,7 +57,7 @@ fn command_lines_are_run(rt: HostRuntime) {
     }
 }
 
-/// How many bytes can be read behind a command line that is refused.
+/// How many bytes are left to read after a command line that is rejected.
 fn unread_behind_a_bad_status(alloc: Global) -> Option<usize> {
     let words = ["rewrite", "--status1", "0"];
     let source = MemorySource::new(b"2", 1);
@@ -72,13 +72,13 @@ fn unread_behind_a_bad_status(alloc: Global) -> Option<usize> {
     }
 }
 
-/// A refused command line leaves its input unread.
+/// A rejected command line leaves its input unread.
 #[test]
 fn a_bad_status_text_reads_nothing(rt: HostRuntime) {
     assert!(rt; unread_behind_a_bad_status(rt.alloc()) == Some(1));
 }
 
-/// Whether it is told so why words cannot be read.
+/// Whether this line and status report why words cannot be read.
 fn is_told(alloc: Global, fault: Unread, status: u8, line: &[u8]) -> bool {
     let mut lines = MemorySink::new(alloc);
     tell_unread(fault, &mut lines, &mut Nobody) == status && lines.bytes() == line

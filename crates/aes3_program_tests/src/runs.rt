@@ -1,5 +1,5 @@
-//! Every job over a source and a sink that fail at each call in turn, and over ends that give or
-//! take few bytes.
+//! Every job over a source and a sink that fail at each call in turn, and over sources and sinks
+//! that give or take few bytes.
 
 ghost use Rattle.std.specs.Prelude.{◌<◌};
 
@@ -18,23 +18,24 @@ const TEXT: Form = Form::Text;
 
 const PACKED: Form = Form::Packed;
 
-/// How many bytes a source that fails gives at a call.
+/// How many bytes a failing source gives in a call.
 const PIECE: usize = 650;
 
-/// What is decided of an output before the end of the input.
+/// The part of an output that is decided before the end of the input.
 enum Early {
     Nothing,
-    /// By the first so many bytes of the input, so many bytes.
+    /// This number of first bytes of the input decides this number of bytes.
     Front(usize, usize),
-    /// By the first so many bytes of the input, so many lines.
+    /// This number of first bytes of the input decides this number of lines.
     FrontLines(usize, usize),
-    /// So many bytes by each block of a block file.
+    /// Each block of a block file decides this number of bytes.
     Blocks(usize),
-    /// A line by the first so many bytes of each line of the input, and how many that has.
+    /// The first lines of the output are decided by this number of first bytes of each line of the
+    /// input; the second number is how many bytes such a line has.
     Lines(usize, usize),
 }
 
-/// The buffers in which an output is handed to the sink.
+/// The buffers in which an output is written to the sink.
 enum Buffers {
     Lines,
     Sized(usize),
@@ -62,7 +63,7 @@ fn first_bytes(text: &[u8], len: usize) -> &[u8] {
     text.get(..len).unwrap_or(text)
 }
 
-/// What of an output is decided by the first so many bytes of the input.
+/// The part of an output that the first `read` bytes of the input decide.
 fn decided<'a>(early: &Early, output: &'a [u8], read: usize) -> &'a [u8] {
     match *early {
         Early::Front(enough, written) if read >= enough => first_bytes(output, written),
@@ -76,7 +77,7 @@ fn decided<'a>(early: &Early, output: &'a [u8], read: usize) -> &'a [u8] {
     }
 }
 
-/// So many of the first buffers of an output.
+/// The first `count` buffers of an output.
 fn first_buffers<'a>(buffers: &Buffers, output: &'a [u8], count: usize) -> &'a [u8] {
     match *buffers {
         Buffers::Lines => first_lines(output, count),
@@ -84,7 +85,7 @@ fn first_buffers<'a>(buffers: &Buffers, output: &'a [u8], count: usize) -> &'a [
     }
 }
 
-/// Whether a read that fails is told behind what was decided before it.
+/// Whether a read that fails is reported after what was decided before it.
 fn tells_failed_read(alloc: Global, job: &Job, input: &[u8], call: usize, front: &[u8]) -> bool
     requires { 0 < call }
 {
@@ -110,7 +111,7 @@ fn tells_failed_reads(
     true
 }
 
-/// Whether a write that fails is told behind the buffers before it.
+/// Whether a write that fails is reported after the buffers before it.
 fn tells_failed_write(alloc: Global, job: &Job, input: &[u8], call: usize, front: &[u8]) -> bool
     requires { 0 < call }
 {
@@ -139,7 +140,7 @@ fn tells_failed_writes(
     true
 }
 
-/// Whether the output is the same where so many bytes are given and taken at once.
+/// Whether the output is the same if a given number of bytes is read and written at once.
 fn takes_pieces(
     alloc: Global,
     job: &Job,
@@ -161,7 +162,7 @@ fn takes_any_pieces(alloc: Global, job: &Job, input: &[u8], output: &[u8]) -> bo
         && takes_pieces(alloc, job, input, output, 4_096, 4_096)
 }
 
-/// Whether each failed read in turn is told.
+/// Whether each failed read in turn is reported.
 fn is_read(alloc: Global, job: &Job, row: &Row) -> Result<bool, AllocError> {
     let (input, output, early, _) = row;
     let input = bytes_of(alloc, input)?;
@@ -169,7 +170,7 @@ fn is_read(alloc: Global, job: &Job, row: &Row) -> Result<bool, AllocError> {
     Ok(tells_failed_reads(alloc, job, &input, &output, early))
 }
 
-/// Whether each failed write in turn is told, and pieces of any length do.
+/// Whether each failed write in turn is reported, and pieces of any length work.
 fn is_written(alloc: Global, job: &Job, row: &Row) -> Result<bool, AllocError> {
     let (input, output, _, buffers) = row;
     let input = bytes_of(alloc, input)?;
@@ -196,7 +197,7 @@ fn are_right(alloc: Global, job: Job, rows: &[Row]) -> bool {
     are_read(alloc, job, rows)
 }
 
-/// The zero block behind the front of another.
+/// The zero block after the front of another.
 const EARLY: Bytes = Bytes::Zeros(200, 1, b"");
 
 const ONE: Bytes = Bytes::Zeros(0, 1, b"");
@@ -458,7 +459,7 @@ const DECODED: &[Row] = &[
 
 const DECODED_PACKED: &[Row] = &[(Bytes::Packed, TWO_FILE, Early::Front(3_075, 1_536), BLOCK)];
 
-/// The samples of the zero block are zeros, as its file is.
+/// The samples of the zero block are zeros, as is its file.
 const SAMPLES: &[Row] = &[
     (EARLY, ONE_FILE, Early::Nothing, BLOCK),
     (TWO, TWO_FILE, Early::Front(24_961, 1_536), BLOCK),

@@ -12,7 +12,7 @@ use crate::subframe::slots_cells;
 use aes3_level::Level;
 use std::simd::prelude::*;
 
-/// The words, each of whose bits is turned where the bit so far below it is a one.
+/// The words with each bit inverted if the bit `distance` below it is a one.
 fn turned_from_below(words: u32x4, distance: u32) -> u32x4
     requires { distance < 32 }
     ensures { result ≡ map (λ w. bit_xor w (w * 2 ^ distance % 2 ^ 32)) words }
@@ -20,8 +20,8 @@ fn turned_from_below(words: u32x4, distance: u32) -> u32x4
     words ^ words << u32x4::splat(distance)
 }
 
-/// Whether the ones of a word up to each bit are odd in number: each bit differs from the one below
-/// it where the word has a one.
+/// Whether the number of ones of a word up to each bit is odd: each bit differs from the one below
+/// it if the word has a one there.
 fn odd_so_far(words: u32x4) -> u32x4
     ensures first { (i : ℕ) → i < 4
         → bit_at (get_or result i 0) 0 ≡ bit_at (get_or words i 0) 0 }
@@ -40,7 +40,7 @@ const SPREAD: [u8; 16] = [
     0x00, 0x02, 0x08, 0x0A, 0x20, 0x22, 0x28, 0x2A, 0x80, 0x82, 0x88, 0x8A, 0xA0, 0xA2, 0xA8, 0xAA,
 ];
 
-/// Bit `n` of each at `2 n + 1`.
+/// Moves bit `n` of each number to `2 n + 1`.
 fn spread_nibbles(nibbles: u8x16) -> u8x16
     requires { (i : ℕ) → i < 16 → get_or nibbles i 0 < 16 }
     ensures len { length result ≡ 16 }
@@ -51,13 +51,14 @@ fn spread_nibbles(nibbles: u8x16) -> u8x16
     u8x16::from_array(SPREAD).swizzle_dyn_within::<16>(nibbles)
 }
 
-/// The first of one vector, the first of another, the second of the one, and so on.
+/// Interleaves two vectors: the first of one, the first of the other, the second of the one, and so
+/// on.
 const IN_TURN: [usize; 32] = [
     0, 16, 1, 17, 2, 18, 3, 19, 4, 20, 5, 21, 6, 22, 7, 23, 8, 24, 9, 25, 10, 26, 11, 27, 12, 28,
     13, 29, 14, 30, 15, 31,
 ];
 
-/// Bit `n` of each octet at `2 n + 1` of two octets.
+/// Moves bit `n` of each octet to bit `2 n + 1` of two octets.
 fn spread_octets(octets: u8x16) -> u8x32
     ensures len { length result ≡ 32 }
     ensures fits { (i : ℕ) → i < 32 → get_or result i 0 < 256 }
@@ -69,7 +70,7 @@ fn spread_octets(octets: u8x16) -> u8x32
     low.shuffle(high, IN_TURN)
 }
 
-/// Bit `n` of each word at `2 n + 1`.
+/// Moves bit `n` of each word to `2 n + 1`.
 fn spread_words(words: u32x4) -> u64x4
     ensures len { length result ≡ 4 }
     ensures bits { (i k : ℕ) → i < 4 → k < 64 → bit_at (get_or result i 0) k
@@ -78,10 +79,10 @@ fn spread_words(words: u32x4) -> u64x4
     u64x4::from_le_bytes(spread_octets(words.to_le_bytes()))
 }
 
-/// `slots_cells` of four words at once, whose preambles are `even` and `odd` in turn. Bit `n` of a
-/// word is time slot `n`, slots 0 to 3 are zero.
+/// `slots_cells` of four words at once. Their preambles alternate: `even`, `odd`. Bit `n` of a word
+/// is time slot `n`, and slots 0 to 3 are zero.
 ///
-/// Each one in a slot turns the cells of a subframe of zeros from the middle of the slot on.
+/// Each one in a slot inverts the cells of a subframe of zeros from the middle of the slot on.
 pub fn slots_cells_of_four(before: Level, even: Mark, odd: Mark, words: u32x4) -> u64x4
     requires { (i : ℕ) → i < 4 → get_or words i 0 % 16 ≡ 0 }
     ensures len { length result ≡ 4 }

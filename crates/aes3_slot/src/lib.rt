@@ -5,9 +5,9 @@
 mod four;
 /// The three preambles X, Y and Z, which of them a subframe of a block has, and their eight cells.
 mod mark;
-/// Subframes read: which of 64 cells are wrong, and the bits that the others carry.
+/// Reading subframes: which of 64 cells are wrong, and the bits that the others carry.
 mod reading;
-/// Where preambles stand in words of cells.
+/// Where preambles occur in words of cells.
 mod search;
 /// The cells of a subframe, and its parity.
 mod subframe;

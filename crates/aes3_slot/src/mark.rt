@@ -10,7 +10,7 @@ ghost use Rattle.aes3_slot.specs.declared.mark.Mark.{Mark};
 
 use aes3_level::Level;
 
-/// The preamble at the beginning of a subframe, time slots 0 to 3, which isn't biphase-mark coded
+/// The preamble at the beginning of a subframe, in time slots 0 to 3. It isn't biphase-mark coded
 /// (AES3-3; IEC 60958-1 calls X, Y and Z M, W and B).
 #[derive(Clone, Copy, PartialEq, Eq)]
 pub enum Mark {
@@ -22,7 +22,7 @@ pub enum Mark {
     Z,
 }
 
-/// The preamble of a block's subframe, given its number from 0 on (AES3-3; IEC 60958-1).
+/// The preamble of a subframe of a block; subframes are numbered from 0 (AES3-3; IEC 60958-1).
 pub fn mark_of(subframe: u64) -> Mark
     ensures { result ≡ mark_at subframe }
 {
@@ -35,8 +35,8 @@ pub fn mark_of(subframe: u64) -> Mark
     }
 }
 
-/// A word whose lowest bits are the eight cells of the preamble after the level `before`, the
-/// earliest in bit 0, and whose highest bit has that level again (AES3-3; IEC 60958-1).
+/// A word whose lowest eight bits are the cells of the preamble after the level `before`, the
+/// earliest in bit 0. Its highest bit is the level `before` (AES3-3; IEC 60958-1).
 pub fn mark_cells(before: Level, mark: Mark) -> u64
     ensures cells { low_cells 8 result ≡ line before (mark_runs mark) }
     ensures last { level_of (bit_at result 63) ≡ before }
@@ -52,7 +52,7 @@ pub fn mark_cells(before: Level, mark: Mark) -> u64
     }
 }
 
-/// The preamble that eight cells are, the earliest in bit 0, and the level before it.
+/// The preamble that eight cells form, the earliest in bit 0, and the level before it.
 pub fn match_mark(window: u8) -> Option<(Mark, Level)>
     ensures some { IfSome result (λ found. low_cells 8 window ≡ line found.1 (mark_runs found.0)) }
     ensures owed { (mark : Mark) (before : Level)

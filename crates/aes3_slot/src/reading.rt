@@ -16,28 +16,29 @@ use crate::subframe::SLOT_STARTS;
 use aes3_level::Level;
 use std::simd::prelude::*;
 
-/// Where 64 cells are no subframe.
+/// Where 64 cells fail to be a subframe.
 #[derive(Clone, Copy, PartialEq, Eq)]
 pub struct Place {
-    /// The first cell that can't stand where it is, 0 to 63.
+    /// The first cell that can't be right, 0 to 63.
     pub offset: u8,
 }
 
 /// The cells of a preamble in a word.
 const PREAMBLE: u64 = 0xFF;
 
-/// The cells of a subframe at which it can be wrong: those of its preamble, the first of each slot,
-/// and the last, at which the parity bit shows.
+/// The cells at which a subframe can be wrong: those of its preamble, the first of each slot, and
+/// the last, which shows the parity bit.
 const JUDGED: u64 = PREAMBLE | SLOT_STARTS | 1 << LAST;
 
 /// The bits of a payload in the bits of slots 4 to 31: all but the parity bit.
 const PAYLOAD: u32 = 0x07FF_FFFF;
 
-/// The last cell of a subframe, the only one at which the parity bit shows.
+/// The last cell of a subframe, the only one that shows the parity bit.
 const LAST: u8 = 63;
 
-/// The cells of a subframe with this preamble after the level `before` that can't stand where they
-/// are, whatever its bits: a one for each (AES3-3, IEC 60958-1: preambles and biphase-mark coding).
+/// The wrong cells of a subframe with this preamble after the level `before`, a one for each. A
+/// cell is wrong if no bits allow it there (AES3-3, IEC 60958-1: preambles and biphase-mark
+/// coding).
 pub fn wrong_cells(before: Level, mark: Mark, cells: u64) -> u64
     ensures { (i : ℕ) → i < 64 → bit_at result i
         ≡ (if stands before mark (word_cells cells) i then 0 else 1) }
@@ -47,9 +48,9 @@ pub fn wrong_cells(before: Level, mark: Mark, cells: u64) -> u64
     preamble | slots
 }
 
-/// The cells at which eight subframes, whose preambles are `even` and `odd` in turn, can't be
-/// subframes with right parity after the level `before`: those of `wrong_cells`, and the last where
-/// it has the other level.
+/// The wrong cells of eight subframes with right parity after the level `before`, whose preambles
+/// alternate: `even`, `odd`. These are the cells of `wrong_cells`, and the last cell if it has the
+/// other level.
 pub fn wrong_cells_of_eight(before: Level, even: Mark, odd: Mark, cells: u64x8) -> u64x8
     ensures { InLanes result (λ i k. not (stands_even before
         (if (i % 2) == 0 then even else odd) (word_cells (slice_index_or cells i 0)) k)) }
@@ -61,7 +62,7 @@ pub fn wrong_cells_of_eight(before: Level, even: Mark, odd: Mark, cells: u64x8) 
     (earlier ^ cells ^ right) & u64x8::splat(JUDGED)
 }
 
-/// The bits at even places, each at half its place.
+/// Moves the bits at even places to half their places.
 fn gather(word: u64) -> u32
     ensures { (i : ℕ) → i < 32 → bit_at result i ≡ bit_at word (2 * i) }
 {
@@ -74,8 +75,8 @@ fn gather(word: u64) -> u32
     word as u32
 }
 
-/// The bits that slots 4 to 31 of a subframe's 64 cells carry, slot 4 in bit 0: whether the two
-/// cells of each differ.
+/// The bits of slots 4 to 31 of a subframe, from its 64 cells, slot 4 in bit 0. A bit is one if the
+/// two cells of its slot differ.
 pub fn slot_bits(cells: u64) -> u32
     ensures bits { slots_bits result ≡ read_bits (drop 8 (word_cells cells)) }
     ensures bound { result < 2 ^ 28 }
@@ -103,8 +104,8 @@ pub fn begins_subframe(before: Level, mark: Mark, cells: u64, len: u32) -> bool
 }
 
 /// The payload of the 64 cells of a subframe with this preamble after the level `before`, and
-/// whether its parity bit is right. The last cell has the level `before` again where it is right,
-/// else the other.
+/// whether its parity bit is right. If it is, the last cell has the level `before`, else the other
+/// level.
 ///
 /// # Errors
 /// The first cell at which the cells so far begin no such subframe, whatever its parity bit.
@@ -136,8 +137,8 @@ pub fn take_either(before: Level, mark: Mark, cells: u64) -> Result<(u32, bool),
 /// The payload of the 64 cells of a subframe with this preamble after the level `before`.
 ///
 /// # Errors
-/// The first cell at which the cells so far begin no such subframe. A wrong parity bit shows at the
-/// last cell.
+/// The first cell at which the cells so far begin no such subframe. If only the parity bit is
+/// wrong, it is the last cell.
 pub fn take_subframe(before: Level, mark: Mark, cells: u64) -> Result<u32, Place>
     ensures ok { IfOk result (λ payload. word_cells cells
         ≡ line before (subframe_runs mark (payload_bits payload))) }

@@ -9,7 +9,7 @@ ghost use Rattle.aes3_slot.specs.Preambles.{words_with_seven, InLanes, MarksAreT
 
 use std::simd::prelude::*;
 
-/// The cells that differ from the cell `distance` behind them, each a one.
+/// The cells that differ from the cell `distance` after them, a one for each.
 fn unlike(cells: u64, next: u64, distance: u32) -> u64
     requires { (0 < distance) × (distance < 8) }
     ensures { (k : ℕ) → k < 64 → bit_at result k
@@ -18,7 +18,7 @@ fn unlike(cells: u64, next: u64, distance: u32) -> u64
     cells ^ (cells >> distance | next << (64 - distance))
 }
 
-/// The cells that a preamble may begin with, by those cells of it that no two preambles differ in.
+/// The cells at which a preamble may begin, by those of its cells that are alike in all preambles.
 fn beginnings(cells: u64, next: u64) -> u64
     ensures { (k : ℕ) → k < 64 → bit_at result k
         ≡ (if (not (unlike_at (with_seven cells next) k 1)
@@ -31,10 +31,10 @@ fn beginnings(cells: u64, next: u64) -> u64
         & (unlike(cells, next, 3) & unlike(cells, next, 7))
 }
 
-/// Where the preamble of a block begins, in either polarity, each such cell a one.
+/// Where the preamble of a block begins, in either polarity, a one for each such cell.
 ///
 /// The first of the 64 `cells` is in the lowest bit. The lowest seven bits of `next` are the cells
-/// behind them, as many as a preamble needs that begins with the last.
+/// after them, so that a preamble may begin at the last cell.
 pub fn block_preambles(cells: u64, next: u64) -> u64
     ensures { (k : ℕ) → k < 64 → bit_at result k
         ≡ (if begins_with Z (drop k (with_seven cells next)) then 1 else 0) }
@@ -43,18 +43,18 @@ pub fn block_preambles(cells: u64, next: u64) -> u64
         & (!unlike(cells, next, 4) & (unlike(cells, next, 5) & unlike(cells, next, 6)))
 }
 
-/// Where each preamble begins in 64 cells, in either polarity, each such cell a one.
+/// Where each preamble begins in 64 cells, in either polarity, a one for each such cell.
 #[derive(Clone, Copy, PartialEq, Eq)]
 pub struct MarkPlaces {
-    /// Those of X.
+    /// Where X begins.
     pub x: u64,
-    /// Those of Y.
+    /// Where Y begins.
     pub y: u64,
-    /// Those of Z.
+    /// Where Z begins.
     pub z: u64,
 }
 
-/// Where each preamble begins; the cells are those of `block_preambles`.
+/// Where each preamble begins. The cells are given as for `block_preambles`.
 pub fn mark_places(cells: u64, next: u64) -> MarkPlaces
     ensures x { (k : ℕ) → k < 64 → bit_at result.x k
         ≡ (if begins_with X (drop k (with_seven cells next)) then 1 else 0) }
@@ -74,8 +74,8 @@ pub fn mark_places(cells: u64, next: u64) -> MarkPlaces
     }
 }
 
-/// Where a preamble begins, in either polarity, each such cell a one; the cells are those of
-/// `block_preambles`.
+/// Where any preamble begins, in either polarity, a one for each such cell. The cells are given as
+/// for `block_preambles`.
 pub fn preambles(cells: u64, next: u64) -> u64
     ensures { (k : ℕ) → k < 64 → bit_at result k
         ≡ (if begins_with_any (drop k (with_seven cells next)) then 1 else 0) }
@@ -84,7 +84,7 @@ pub fn preambles(cells: u64, next: u64) -> u64
     places.x | (places.y | places.z)
 }
 
-/// `unlike` of eight words at once, each with the cells behind it.
+/// `unlike` of eight words at once, each with the cells after it.
 fn unlike_of_eight(cells: u64x8, next: u64x8, distance: u64) -> u64x8
     requires { (0 < distance) × (distance < 8) }
     ensures { InLanes result (λ i k. unlike_at
@@ -93,7 +93,7 @@ fn unlike_of_eight(cells: u64x8, next: u64x8, distance: u64) -> u64x8
     cells ^ (cells >> u64x8::splat(distance) | next << u64x8::splat(64 - distance))
 }
 
-/// `block_preambles` of eight words at once, each with the cells behind it.
+/// `block_preambles` of eight words at once, each with the cells after it.
 fn block_preambles_of_eight(cells: u64x8, next: u64x8) -> u64x8
     ensures { InLanes result (λ i k. begins_with Z
         (drop k (with_seven (slice_index_or cells i 0) (slice_index_or next i 0)))) }
@@ -105,8 +105,8 @@ fn block_preambles_of_eight(cells: u64x8, next: u64x8) -> u64x8
             & (unlike_of_eight(cells, next, 5) & unlike_of_eight(cells, next, 6)))
 }
 
-/// `find_marks` of the first words, eight at once, as far as all eight have a word behind them;
-/// answers how many.
+/// `find_marks` of the first words, eight at once, as long as all eight have a word after them.
+/// Returns how many words it took.
 fn find_marks_of_eights(words: &[u64], next: u8, out: &mut [u64]) -> usize
     requires { length out.old ≡ length words.now }
     ensures len { length out.new ≡ length words.now }
@@ -123,9 +123,9 @@ fn find_marks_of_eights(words: &[u64], next: u8, out: &mut [u64]) -> usize
     i
 }
 
-/// Where the preamble of a block begins in words of 64 cells: bit `k` of `out[i]` is one exactly
-/// where it stands, in either polarity, in the eight cells from cell `64 i + k` on. The lowest
-/// seven bits of `next` are the cells behind the last word.
+/// Where the preamble of a block begins in words of 64 cells. Bit `k` of `out[i]` is one exactly if
+/// the eight cells from cell `64 i + k` on are preamble Z, in either polarity. The lowest seven
+/// bits of `next` are the cells after the last word.
 pub fn find_marks(words: &[u64], next: u8, out: &mut [u64])
     requires { length out.old ≡ length words.now }
     ensures len { length out.new ≡ length words.now }

@@ -25,10 +25,10 @@ pub fn payload_parity(payload: u32) -> bool
     payload.count_ones() % 2 == 1
 }
 
-/// The first half of each slot behind the preamble, where the level always turns.
+/// The first half of each slot after the preamble, where the level always changes.
 pub(crate) const SLOT_STARTS: u64 = 0x5555_5555_5555_5500;
 
-/// Where the level turns in a preamble.
+/// Where the level changes in a preamble.
 fn mark_turns(mark: Mark) -> u64
     ensures turns { low_bits 8 result ≡ run_turns (mark_runs mark) }
     ensures bound { result < 2 ^ 8 }
@@ -40,7 +40,7 @@ fn mark_turns(mark: Mark) -> u64
     }
 }
 
-/// The bits, each at twice its place.
+/// Moves each bit to twice its place.
 fn spread(bits: u32) -> u64
     ensures { (i : ℕ) → i < 64 → bit_at result i
         ≡ (if (i % 2) == 0 then bit_at bits (i / 2) else 0) }
@@ -53,7 +53,7 @@ fn spread(bits: u32) -> u64
     (word | (word << 1)) & 0x5555_5555_5555_5555
 }
 
-/// Where the level turns in a subframe: a one for each cell that differs from the cell before it.
+/// Where the level changes in a subframe: a one for each cell that differs from the cell before it.
 fn slot_turns(mark: Mark, slots: u32) -> u64
     requires { slots < 2 ^ 28 }
     ensures { word_turns result ≡ run_turns (slot_runs mark (slots_bits slots)) }
@@ -61,8 +61,8 @@ fn slot_turns(mark: Mark, slots: u32) -> u64
     mark_turns(mark) | SLOT_STARTS | (spread(slots) << 9)
 }
 
-/// The cells after `Low` that turn at the ones of `turns`: each is the parity of the turns up to
-/// it.
+/// The cells after `Low` whose level changes at the ones of `turns`: each is the parity of the
+/// changes up to it.
 fn cells_from_turns(turns: u64) -> u64
     ensures { word_cells result ≡ cells_of_turns Level.Low (word_turns turns) }
 {

@@ -1,22 +1,22 @@
-//! Cells on their way to a sink, in whole words.
+//! Cells that are written to a sink in whole words.
 
 ghost use Rattle.std.specs.Prelude.{◌≡◌, ◌-◌, ◌/◌, ◌<◌, ◌^◌};
 
 use aes3_capture_recovery::put_last;
 use aes3_cell::{Fault, Form, Sink, put_word};
 
-/// Writes cells in either form, 64 as one buffer once they are whole.
+/// Writes cells in either form, 64 of them as one buffer once they are complete.
 #[derive(Drop)]
 pub(crate) struct CellsOut {
     form: Form,
-    /// The cells held, the first in the lowest bit.
+    /// The cells that it holds, the first in the lowest bit.
     word: u64,
     len: u32,
     ghost few: { len < 64 },
     ghost no_more: { word < 2 ^ len },
 }
 
-/// What of cells does not fit into a word that has `held` cells.
+/// The cells that do not fit into a word that has `held` cells.
 #[inline(always)]
 fn rest_of(cells: u64, held: u32) -> u64
     requires few { held < 64 }
@@ -33,7 +33,7 @@ impl CellsOut {
     ghost use Rattle.aes3_capture_recovery.specs.Endings.{ending_of};
     ghost use Rattle.aes3_spoil.specs.Spoiling.{bytes_added, held};
 
-    /// Holds no cell.
+    /// Holds no cells.
     pub(crate) fn new(form: Form) -> Self
         ensures none { held result ≡ [] }
         ensures form { result.form ≡ form }
@@ -67,13 +67,14 @@ impl CellsOut {
             self.len = all;
             return Ok(());
         }
-        // What of them did not fit.
+        // The cells that did not fit.
         self.word = rest_of(cells, self.len);
         self.len = all - 64;
         put_word(self.form, word, sink)
     }
 
-    /// Writes the cells that are held, and in packed form how many of the last octet are unused.
+    /// Writes the cells that it holds, and in packed form the last octet, the number of unused
+    /// cells.
     ///
     /// # Errors
     /// The sink's fault; then it has taken a front of the bytes.

@@ -1,4 +1,4 @@
-//! Which errors stand where.
+//! Which errors there are, and where.
 
 ghost use Rattle.std.specs.Prelude.{◌≤◌};
 
@@ -6,10 +6,10 @@ use crate::kinds::{
     CellError, ErrorKind, Every, cells_to_repeated, clear_with, one_if_at, one_if_repeated,
 };
 
-/// How many errors there may be beside those that come again and again.
+/// How many errors there may be besides the repeated ones.
 pub const ERRORS: usize = 64;
 
-/// Which errors stand where.
+/// Which errors there are, and where.
 #[derive(Clone, Copy, PartialEq, Eq)]
 pub struct Errors {
     list: [CellError; ERRORS],
@@ -44,7 +44,7 @@ impl Errors {
         ERRORS - self.len
     }
 
-    /// Puts an error of this kind to the cell of this number.
+    /// Adds an error of this kind at the cell of this number.
     pub fn add(&mut self, place: u64, kind: ErrorKind)
         requires room { length (errors_of self.old) < ERRORS }
         ensures list { errors_of self.new
@@ -55,8 +55,8 @@ impl Errors {
         self.len += 1;
     }
 
-    /// Puts an error of this kind to each cell whose number is a positive multiple of `cells`, in
-    /// place of those that came again and again before.
+    /// Sets errors of this kind at each cell whose number is a positive multiple of `cells`. They
+    /// replace the repeated errors that were set before.
     pub fn set_every(&mut self, cells: u64, kind: ErrorKind)
         ensures every { self.new.every ≡ Some (record { cells = cells; kind = kind }) }
         ensures list { errors_of self.new ≡ errors_of self.old }
@@ -64,7 +64,7 @@ impl Errors {
         self.every = Some(Every { cells, kind });
     }
 
-    /// How many errors of this kind stand at the cell of this number.
+    /// How many errors of this kind there are at the cell of this number.
     pub fn count(&self, kind: ErrorKind, place: u64) -> u64
         ensures { result ≡ errors_at self.now kind place }
     {
@@ -75,7 +75,7 @@ impl Errors {
         count + one_if_repeated(self.every, kind, place)
     }
 
-    /// For how many cells from `place` on no error stands at any of them.
+    /// For how many cells from `place` on there is no error at any of them.
     pub(crate) fn clear_from(&self, place: u64) -> u64
         ensures { Clear self.now place (place + result) }
     {

@@ -6,13 +6,13 @@ ghost use Rattle.aes3_spoil.specs.Errors.{ClearOf, entry_at, repeated, same_kind
 /// What an error does to its cell.
 #[derive(Clone, Copy, PartialEq, Eq)]
 pub enum ErrorKind {
-    /// The cell has the other level.
+    /// The cell is inverted.
     Changed,
-    /// The cell and all behind it have the other level, as after a sender's wrong parity bit.
+    /// The cell and all cells after it are inverted, as after a sender's wrong parity bit.
     Inverted,
     /// The cell is missing.
     Lost,
-    /// The cell stands twice.
+    /// The cell is there twice.
     Doubled,
 }
 
@@ -24,10 +24,11 @@ pub struct CellError {
     pub kind: ErrorKind,
 }
 
-/// Errors that come again and again.
+/// Repeated errors.
 #[derive(Clone, Copy, PartialEq, Eq)]
 pub struct Every {
-    /// They stand at each cell whose number is a positive multiple of this; at none where it is 0.
+    /// They are at each cell whose number is a positive multiple of this number; if it is 0, at
+    /// none.
     pub cells: u64,
     pub kind: ErrorKind,
 }
@@ -50,7 +51,7 @@ pub(crate) fn one_if_at(error: CellError, kind: ErrorKind, place: u64) -> u64
     }
 }
 
-/// How many errors of this kind stand at this cell that come again and again: 1 or 0.
+/// How many repeated errors of this kind there are at this cell: 1 or 0.
 pub(crate) fn one_if_repeated(every: Option<Every>, kind: ErrorKind, place: u64) -> u64
     ensures { result ≡ repeated kind place every }
 {
@@ -64,7 +65,7 @@ pub(crate) fn one_if_repeated(every: Option<Every>, kind: ErrorKind, place: u64)
     }
 }
 
-/// For how many cells from `place` on an error is at none of them.
+/// For how many cells from `place` on the error is at none of them.
 fn cells_to(error: CellError, place: u64) -> u64
     ensures { ClearOf (λ kind i. entry_at kind i error) place (place + result) }
 {
@@ -75,7 +76,7 @@ fn cells_to(error: CellError, place: u64) -> u64
     }
 }
 
-/// For how many cells from `place` on, `clear` at most, an error is at none of them.
+/// For how many cells from `place` on the error is at none of them, at most `clear`.
 pub(crate) fn clear_with(clear: u64, error: CellError, place: u64) -> u64
     ensures most { result ≤ clear }
     ensures clear { ClearOf (λ kind i. entry_at kind i error) place (place + result) }
@@ -83,7 +84,7 @@ pub(crate) fn clear_with(clear: u64, error: CellError, place: u64) -> u64
     clear.min(cells_to(error, place))
 }
 
-/// For how many cells from `place` on none is a positive multiple of a number.
+/// For how many cells from `place` on none is a positive multiple of the number.
 fn cells_to_multiple(every: Every, place: u64) -> u64
     ensures { ClearOf (λ kind i. repeated kind i (Some every)) place (place + result) }
 {
@@ -97,7 +98,7 @@ fn cells_to_multiple(every: Every, place: u64) -> u64
     if over == 0 { 0 } else { every.cells - over }
 }
 
-/// For how many cells from `place` on no error stands at any of them that comes again and again.
+/// For how many cells from `place` on no repeated error is at any of them.
 pub(crate) fn cells_to_repeated(every: Option<Every>, place: u64) -> u64
     ensures { ClearOf (λ kind i. repeated kind i every) place (place + result) }
 {

@@ -1,4 +1,4 @@
-//! What errors make of cells, in the words of the laws of damage, and of the reports on them.
+//! What errors do to cells, in the terms of the laws of damage, and to the reports on them.
 
 ghost use Rattle.aes3_spoil.specs.ReportLaws.{ChangedCellIsTheFault, ChangedCellTakesItsBlocks};
 ghost use Rattle.aes3_spoil.specs.ReportLaws.{ChangedPreambleEndsTheCandidate, LostCellTakesItsBlock};
@@ -12,15 +12,15 @@ ghost use Rattle.aes3_spoil.specs.SpoilLaws.{ChangedCellIsChanged, DoubledCellIs
 ghost use Rattle.aes3_spoil.specs.SpoilLaws.{InvertedCellTurnsTheRest, LostCellIsLost};
 ghost use Rattle.aes3_spoil.specs.SpoilLaws.{NoErrorsNoChange};
 
-/// Cells that a run writes up to its end, in either form and however many they are, are read again as
-/// the same cells.
+/// The cells that a run writes up to its end are read back as the same cells, in either form and
+/// any number.
 pub fn written_cells_are_read_back()
     ensures { WrittenCellsAreReadBack }
 {}
 
-/// No errors leave cells as they are; one changed cell is changed and no other; one lost cell is
-/// missing and no other; one doubled cell is put in once more, before itself. So the laws of damage
-/// tell what is read of them.
+/// Without errors, cells are unchanged. A changed cell is changed and no other. A lost cell is
+/// missing and no other. A doubled cell is inserted once more, before itself. So the laws of damage
+/// say what is read from them.
 pub fn spoiled_cells_are_damaged()
     ensures none { NoErrorsNoChange }
     ensures changed { ChangedCellIsChanged }
@@ -29,10 +29,10 @@ pub fn spoiled_cells_are_damaged()
     ensures doubled { DoubledCellIsPutIn }
 {}
 
-/// One changed cell of a block, behind its first preamble, is told as a fault of that block: at this
-/// cell, or at the next where it is the second of a time slot. In the first preamble it leaves no
-/// report of the block. The blocks that hold one changed or one lost cell, or end directly before
-/// a changed one, are not given, and all others are.
+/// A changed cell of a block, after its first preamble, is reported as a fault of that block. The
+/// fault is at this cell, or at the next cell if it is the second of a time slot. In the first
+/// preamble it leaves no report of the block. The blocks that hold one changed or one lost cell, or
+/// end directly before a changed one, are not given, and all others are.
 pub fn one_error_is_told()
     ensures fault { ChangedCellIsTheFault }
     ensures preamble { ChangedPreambleEndsTheCandidate }
@@ -40,10 +40,10 @@ pub fn one_error_is_told()
     ensures lost { LostCellTakesItsBlock }
 {}
 
-/// One biphase error in any subframe of a block, or one preamble error in any but its first, is
-/// told as a fault of that block at the error's cell, with its cause; one preamble error in its
-/// first leaves no report of the block. Of a whole lawful stream one doubled cell takes the block
-/// that holds it, unless it is of the first run of the block's preamble, and no other.
+/// A biphase error in any subframe of a block is reported as a fault of that block at the error's
+/// cell, with its cause. So is a preamble error in any subframe but the first; in the first it
+/// leaves no report of the block. In a whole valid stream, a doubled cell destroys the block that
+/// holds it and no other. If it is in the first run of the block's preamble, it destroys none.
 pub fn each_error_is_told()
     ensures biphase { BiphaseErrorIsTheFault }
     ensures preamble { PreambleErrorIsTheFault }

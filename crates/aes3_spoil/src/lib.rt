@@ -1,14 +1,14 @@
-//! Test signals with errors put in on purpose: cells written again, some of them changed, lost or
-//! doubled (AES3-3; IEC 60958-1).
+//! Test signals with deliberate errors: cells written again, some of them changed, lost or doubled
+//! (AES3-3; IEC 60958-1).
 #![tactic(auto)]
 
-/// Cells on their way to a sink, in whole words.
+/// Cells that are written to a sink in whole words.
 mod cells_out;
-/// Which errors stand where.
+/// Which errors there are, and where.
 mod errors;
 /// Kinds of errors, and one error.
 mod kinds;
-/// What no errors and one error make of cells and of the reports on them.
+/// What no errors and single errors do to cells and to the reports on them.
 mod laws;
 /// The run.
 mod spoiling;

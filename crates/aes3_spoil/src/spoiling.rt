@@ -29,14 +29,14 @@ struct Spoiler {
     errors: Errors,
     /// The number of the next cell.
     place: u64,
-    /// Whether all cells from here on have the other level.
+    /// Whether all cells from here on are inverted.
     inverted: bool,
-    /// For how many cells from here on no error stands at any of them.
+    /// For how many cells from here on there is no error at any of them.
     clear: u64,
     out: CellsOut,
 }
 
-/// The first cells of a word, each at the other level where `turned`.
+/// The first cells of a word, all inverted if `turned` is true.
 #[inline(always)]
 fn front_of(word: u64, len: u32, turned: bool) -> u64
     requires some { 0 < len }
@@ -55,7 +55,7 @@ fn is_odd(n: u64) -> bool
     n % 2 == 1
 }
 
-/// Whether one of two turns is made and not the other.
+/// Whether exactly one of two inversions is made.
 fn differ(a: bool, b: bool) -> bool
     ensures { result ≡ (if b then not a else a) }
 {
@@ -92,7 +92,7 @@ impl Spoiler {
         }
     }
 
-    /// Takes cells at which no error stands.
+    /// Takes cells without errors.
     ///
     /// # Errors
     /// The sink's fault; then it has taken a front of the bytes.
@@ -110,7 +110,7 @@ impl Spoiler {
         self.out.put(sink, front_of(word, len, self.inverted), len)
     }
 
-    /// Takes one cell, with the errors that stand at it.
+    /// Takes one cell, with its errors.
     ///
     /// # Errors
     /// The sink's fault; then it has taken a front of the bytes.
@@ -155,14 +155,17 @@ impl Taker for Spoiler {
     }
 }
 
-/// Reads cells in one form, and writes them in another with errors: each where it stands, by the
-/// numbers of the cells that are read. In cell text a last line has the cells that are left.
+/// Reads cells in one form, and writes them in another with errors, each at its place among the
+/// cells that are read. In cell text, a last line has the cells that are left.
 ///
 /// # Errors
-/// `BadCell` where a byte of cell text is neither a cell nor a separator, `BadPadding` where packed
-/// cells end wrongly, `TooLong` where the input has more than `max_bytes` bytes, `Read` and `Write`
-/// where an end failed. Then the whole words of the cells that come of those before are written,
-/// and after `Write` a front of them.
+/// - `BadCell` if a byte of cell text is neither a cell nor a separator.
+/// - `BadPadding` if packed cells end wrongly.
+/// - `TooLong` if the input has more than `max_bytes` bytes.
+/// - `Read` and `Write` if the input or output failed.
+///
+/// Whole words of the cells that result from those before are written; after `Write`, a front of
+/// them.
 pub fn spoil<S: Source, T: Sink>(
     source: &mut S,
     sink: &mut T,
@@ -175,13 +178,13 @@ pub fn spoil<S: Source, T: Sink>(
     requires sink_room { T.failed sink.old + 1 < 2 ^ 64 }
     requires limit { max_bytes ≤ 2 ^ 40 }
 
-    // Where it answers Ok, exactly the cells with these errors are written.
+    // If it returns Ok, exactly the cells with these errors are written.
     ensures cells { IfOk result (λ _. (b : List ℕ)
         → Told (S.given source.old) (S.given source.new) b
         → Grew (T.taken sink.old) (T.taken sink.new)
         (finished output (spoiled errors.now (cells_of input b)))) }
-    // It is a run over cells: Ok is owed, a refusal has its cause, and the whole words of what was
-    // decided before it are written.
+    // A run over cells: it returns Ok if it can. An error has its cause, and the whole words of
+    // what was decided before it are written.
     ensures run { CellRun max_bytes input (record {
       whole = λ c. finished output (spoiled errors.now c);
       begun = λ c. bytes_of output (whole_words (spoiled errors.now c));

@@ -1,5 +1,5 @@
-//! Errors of a subframe and of a block, as the cells at which they stand: a subframe has 64 cells,
-//! a preamble of 8 and then two for each time slot from 4 to 31 (AES3-3; IEC 60958-1).
+//! Errors of a subframe and of a block, as errors at cells. A subframe has 64 cells: a preamble of
+//! 8 and then two for each time slot from 4 to 31 (AES3-3; IEC 60958-1).
 
 ghost use Rattle.std.specs.Prelude.{◌≡◌, ◌+◌, ◌-◌, ◌*◌, ◌<◌, ◌≤◌, ◌^◌, ◌++◌, ◌∷◌, [], length};
 ghost use Rattle.aes3_spoil.specs.Errors.{errors_of};
@@ -17,10 +17,11 @@ const PREAMBLE_CELLS: u64 = 8;
 
 const SLOT_CELLS: u64 = 2;
 
-/// The cell of a preamble that is changed: the last of its first run, which no bits have so long.
+/// The cell of a preamble that is changed: the last of its first run, which is longer than any run
+/// of bits.
 const PREAMBLE_CELL: u64 = 2;
 
-/// The first time slot behind the preamble, and that of the channel status bit.
+/// The first time slot after the preamble, and that of the channel status bit.
 const FIRST_SLOT: u64 = 4;
 
 const STATUS_SLOT: u64 = 30;
@@ -29,9 +30,9 @@ const STATUS_SLOT: u64 = 30;
 const CHECK_FRAME: u64 = 184;
 
 impl Errors {
-    /// A wrong parity bit as a sender makes it, in the subframe whose first cell has the number
-    /// `place`: its last cell and all cells behind have the other level, so that the time slot has
-    /// the other bit, and all that follows is lawful after it.
+    /// Adds a wrong parity bit as a sender makes it, in the subframe whose first cell has the
+    /// number `place`. Its last cell and all cells after it are inverted. So the time slot has the
+    /// other bit, and all that follows is valid.
     pub fn add_wrong_parity(&mut self, place: u64)
         requires room { length (errors_of self.old) < ERRORS }
         requires within { place < 2 ^ 63 }
@@ -42,8 +43,8 @@ impl Errors {
         self.add(place + (SUBFRAME_CELLS - 1), ErrorKind::Inverted);
     }
 
-    /// A time slot from 4 to 31 that does not begin with a change of level, in the subframe whose
-    /// first cell has the number `place`: the slot's first cell is changed, and no other.
+    /// Adds a time slot from 4 to 31 that does not begin with a change of level, in the subframe
+    /// whose first cell has the number `place`. Only the slot's first cell is changed.
     pub fn add_biphase(&mut self, place: u64, slot: u8)
         requires room { length (errors_of self.old) < ERRORS }
         requires within { place < 2 ^ 63 }
@@ -57,7 +58,7 @@ impl Errors {
         self.add(place + cell, ErrorKind::Changed);
     }
 
-    /// A preamble that is none, in the subframe whose first cell has the number `place`: its third
+    /// Adds an invalid preamble, in the subframe whose first cell has the number `place`: its third
     /// cell is changed.
     pub fn add_preamble(&mut self, place: u64)
         requires room { length (errors_of self.old) < ERRORS }
@@ -69,10 +70,10 @@ impl Errors {
         self.add(place + PREAMBLE_CELL, ErrorKind::Changed);
     }
 
-    /// A wrong check byte in the block whose first cell has the number `place`: in frame 184,
-    /// channel 1, the second cell of the channel status bit's time slot and the first of that of
-    /// the parity bit are changed. So both bits are others, and nothing else: the block stays
-    /// whole, and a good professional check byte is bad.
+    /// Adds a wrong check byte in the block whose first cell has the number `place`. In frame 184,
+    /// channel 1, it changes the second cell of the channel status bit's time slot and the first of
+    /// the parity bit's. So both bits are inverted, and nothing else: the block stays whole, and a
+    /// good professional check byte becomes bad.
     pub fn add_check_byte(&mut self, place: u64)
         requires room { length (errors_of self.old) + 1 < ERRORS }
         requires within { place < 2 ^ 63 }

@@ -1,4 +1,4 @@
-//! The program `aes3-spoil`: the cells of a line, with errors put in on purpose.
+//! The program `aes3-spoil`: the cells of a line, with deliberate errors.
 #![tactic(auto)]
 
 ghost use Rattle.std.specs.Prelude.{◌≡◌, ◌<◌, ◌+◌, ◌^◌, IfErr};
@@ -19,7 +19,7 @@ fn main(rt: HostRuntime) -> ExitCode {
     ExitCode::from(status)
 }
 
-/// Runs the command line between what it reads and standard output, both buffered, and answers the
+/// Runs the command line between what it reads and standard output, both buffered, and returns the
 /// exit status.
 fn run_program<E: Sink>(rt: &HostRuntime, messages: &mut E) -> Result<u8, Unread>
     requires { E.failed messages.old + 1 < 2 ^ 64 }

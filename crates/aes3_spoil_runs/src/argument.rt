@@ -19,13 +19,13 @@ pub(crate) enum Argument {
     PackedOut,
     /// An error at a place.
     Named(NamedError),
-    /// `--every N:KIND`: errors that come again and again.
+    /// `--every N:KIND`: repeated errors.
     Every,
-    /// The name of the file that is read in place of standard input.
+    /// The name of the file that is read instead of standard input.
     File,
 }
 
-/// All of them, in the order in which help lists them.
+/// All arguments, in the order in which help lists them.
 pub(crate) const ARGUMENTS: [Argument; 12] = [
     Argument::PackedIn,
     Argument::PackedOut,
@@ -42,7 +42,7 @@ pub(crate) const ARGUMENTS: [Argument; 12] = [
 ];
 
 impl Argument {
-    /// Its definition, with its line of help.
+    /// The argument's definition, with its line of help.
     pub(crate) fn define<'a>(self, alloc: Global) -> Arg<'a>
         ensures { IsOption (rule self) result }
     {
@@ -65,7 +65,7 @@ impl Argument {
     }
 }
 
-/// What help calls the option's value.
+/// The name of the option's value in the help.
 pub(crate) fn value_name<'a>(named: NamedError) -> &'a str
     ensures { result.now ≡ value_name named }
 {

@@ -1,4 +1,4 @@
-//! What the program says of itself.
+//! The texts of the program's help.
 
 use aes3_cli::help::Texts;
 

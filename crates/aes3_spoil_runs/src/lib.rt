@@ -1,17 +1,17 @@
-//! Runs that put errors into the cells of a line, by the words of a command line.
+//! Runs that insert errors into the cells of a line, by the words of a command line.
 #![tactic(auto)]
 
 /// The options and values that the program takes.
 mod argument;
-/// What the program says of itself.
+/// The texts of the program's help.
 mod help;
 /// What the words of a command line ask for.
 mod line;
-/// What to do with an input that was refused.
+/// What to do with an input that was rejected.
 mod looks;
-/// Errors by the options that ask for them.
+/// Errors by their options.
 mod named;
-/// The line of a refusal.
+/// The line of an error.
 mod refusal;
 /// A job between its streams, and what is reported of it.
 mod run;

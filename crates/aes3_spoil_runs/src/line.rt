@@ -24,17 +24,17 @@ use aes3_spoil::Errors;
 use clap::{ArgMatches, Command};
 use std::alloc::{AllocError, Global};
 
-/// What a run is to do.
+/// A job of the program.
 #[derive(Clone, Copy)]
 pub struct Job<'a> {
     /// The form of the cells that are read.
     pub input: Form,
-    /// The form of those that are written.
+    /// The form of the cells that are written.
     pub output: Form,
-    /// The errors that are put in.
+    /// The errors that are inserted.
     pub errors: Errors,
-    /// The name of the file that is read in place of standard input; none where the words name none,
-    /// or name it `-`.
+    /// The name of the file that is read instead of standard input; `None` if the words name no
+    /// file, or name it `-`.
     pub file: Option<&'a str>,
 }
 
@@ -49,12 +49,13 @@ fn command_line<'a>(alloc: Global) -> Result<Command<'a>, AllocError>
     Ok(line)
 }
 
-/// What the words ask for, without the program's name. It reads no input.
+/// The job of a command line without the program's name. It reads no input.
 ///
 /// # Errors
-/// `Usage` where the definitions of the command line don't take the words, a value among them is
-/// wrong or they name more than 64 errors, `Help` where they ask for help or the version, and
-/// `Memory` where memory was refused.
+/// - `Usage` if the words don't fit the definitions of the command line, a value is wrong, or they
+///   name more than 64 errors.
+/// - `Help` if they ask for help or the version.
+/// - `Memory` if there is no memory.
 pub fn job_of_words<'a>(alloc: Global, words: &'a [&'a str]) -> Result<Job<'a>, LineFault>
     ensures job { IfOk result (IsJobOf (map (λ word. word.now) words.now)) }
     ensures fault { IfErr result (IsFaultOf (map (λ word. word.now) words.now)) }
@@ -66,11 +67,11 @@ pub fn job_of_words<'a>(alloc: Global, words: &'a [&'a str]) -> Result<Job<'a>, 
     }
 }
 
-/// The job that options ask for.
+/// The job of these options.
 ///
 /// # Errors
-/// `Usage` where a value of them is wrong or they name more than 64 errors, and `Memory` where memory
-/// was refused.
+/// `Usage` if a value of them is wrong or they name more than 64 errors, `Memory` if there is no
+/// memory.
 fn job_of_options<'a>(alloc: Global, options: &ArgMatches<'a>) -> Result<Job<'a>, LineFault>
     ensures job { IfOk result (AsksFor (options_of options.now)) }
     ensures fault { IfErr result (IsOptionFault (options_of options.now)) }
@@ -81,7 +82,7 @@ fn job_of_options<'a>(alloc: Global, options: &ArgMatches<'a>) -> Result<Job<'a>
     }
 }
 
-/// The job with these errors, in the forms and of the file that the options name.
+/// The job with these errors, in the forms and with the file that the options name.
 fn job_with<'a>(options: &ArgMatches<'a>, errors: Errors) -> Job<'a>
     ensures errors { result.errors ≡ errors }
     ensures input { IsFormOf (options_of options.now) (codes "packed-in") result.input }
@@ -96,7 +97,7 @@ fn job_with<'a>(options: &ArgMatches<'a>, errors: Errors) -> Job<'a>
     }
 }
 
-/// The form of the cells of which a flag speaks.
+/// The form of cells by a flag.
 fn form(options: &ArgMatches<'_>, flag: &str) -> Form
     ensures { IsFormOf (options_of options.now) flag.now result }
 {
@@ -107,7 +108,7 @@ fn form(options: &ArgMatches<'_>, flag: &str) -> Form
     }
 }
 
-/// The file that a line's job reads in place of standard input; none where the line asks for no job.
+/// The file that a line's job reads instead of standard input; `None` if the line is no job.
 pub fn file_of_line<'a>(line: &Result<Job<'a>, LineFault>) -> Option<&'a str>
     ensures job { IfOk line.now (λ job. result ≡ job.file) }
     ensures fault { IfErr line.now (λ _. result ≡ None) }
@@ -118,7 +119,7 @@ pub fn file_of_line<'a>(line: &Result<Job<'a>, LineFault>) -> Option<&'a str>
     }
 }
 
-/// The errors that the options ask for.
+/// The errors by the options.
 ///
 /// # Errors
 /// What is wrong with their values.
@@ -138,7 +139,7 @@ fn errors_of_options<'a>(options: &ArgMatches<'a>) -> Result<Errors, Wrong<'a>>
     Ok(errors)
 }
 
-/// Adds the errors that an option asks for.
+/// Adds the errors of an option.
 ///
 /// # Errors
 /// What is wrong with its values.
@@ -162,7 +163,7 @@ fn add_option<'a>(
 /// Adds the errors of an option's values.
 ///
 /// # Errors
-/// What is wrong with them.
+/// What is wrong with the values.
 fn add_texts<'a>(errors: &mut Errors, named: NamedError, texts: &[&'a str]) -> Result<(), Wrong<'a>>
     ensures values { IfOk result (λ _. All (IsValue named) (map (λ text. text.now) texts.now)) }
     ensures list { IfOk result (λ _. errors_of errors.new
@@ -177,10 +178,10 @@ fn add_texts<'a>(errors: &mut Errors, named: NamedError, texts: &[&'a str]) -> R
     Ok(())
 }
 
-/// Adds the error of one of them.
+/// Adds the error of one value.
 ///
 /// # Errors
-/// What is wrong with it.
+/// What is wrong with the value.
 fn add_text<'a>(errors: &mut Errors, named: NamedError, text: &'a str) -> Result<(), Wrong<'a>>
     ensures list { IfOk result (λ _. errors_of errors.new
         ≡ errors_of errors.old ++ errors_in named text.now) }
@@ -198,7 +199,7 @@ fn add_text<'a>(errors: &mut Errors, named: NamedError, text: &'a str) -> Result
     }
 }
 
-/// Sets the errors that come again and again, where the options ask for some.
+/// Sets the repeated errors, if the options ask for any.
 ///
 /// # Errors
 /// What is wrong with the value.

@@ -1,4 +1,4 @@
-//! What to do with an input that was refused, by what its first octets look like.
+//! What to do with an input that was rejected, by what its first octets look like.
 
 use crate::line::Job;
 use aes3_cell::Form;
@@ -7,10 +7,11 @@ use aes3_files::{FileKind, Preview};
 use std::alloc::AllocError;
 use std::io::{self, IsTerminal, Read};
 
-/// How many of the first octets are looked at.
+/// How many of the first octets are inspected.
 const FIRST_LEN: usize = 64;
 
-/// What to do with an input that begins so and was read as cells in this form, if its looks say so.
+/// What to do with an input that begins like this and was read as cells in this form, if its looks
+/// say so.
 fn advice_by_looks(form: Form, first: &[u8]) -> Option<&'static str> {
     let first = &first[..first.len().min(FIRST_LEN)];
     match (form, FileKind::of(first)) {
@@ -28,11 +29,11 @@ fn advice_by_looks(form: Form, first: &[u8]) -> Option<&'static str> {
     }
 }
 
-/// What to do with the input of this line's job if it is refused, where a file is named or standard
-/// error is a terminal. Of another input nothing is read ahead.
+/// What to do with the input of this line's job if it is rejected. If no file is named and standard
+/// error is no terminal, it is `None`, and nothing is read ahead.
 ///
 /// # Errors
-/// Memory was refused.
+/// `AllocError` if there is no memory.
 pub fn advice_on<R: Read + Drop>(
     rt: &HostRuntime,
     line: &Result<Job<'_>, LineFault>,
@@ -48,8 +49,8 @@ pub fn advice_on<R: Read + Drop>(
     }
 }
 
-/// Writes on standard error why the system did not read on in the file, and what to do with an input
-/// that was refused.
+/// Writes on standard error why the system did not continue reading the file, and what to do with
+/// an input that was rejected.
 pub fn say_more(
     rt: &HostRuntime,
     file: Option<&str>,

@@ -1,4 +1,4 @@
-//! Errors by the options that ask for them.
+//! Errors by their options.
 
 ghost use Rattle.std.specs.Prelude.{◌≡◌, ◌≤◌, ◌<◌, ◌+◌, ◌^◌, ◌++◌, length, true, IsFalse, IsTrue};
 ghost use Rattle.aes3_spoil.specs.Errors.{errors_of};
@@ -6,7 +6,7 @@ ghost use Rattle.aes3_spoil_runs.specs.Named.{errors_named, name_of, places_name
 
 use aes3_spoil::{ErrorKind, Errors};
 
-/// An error by the option that asks for it.
+/// An error by its option.
 #[derive(Clone, Copy)]
 pub enum NamedError {
     /// `--cell P`
@@ -27,7 +27,7 @@ pub enum NamedError {
     CheckByte,
 }
 
-/// All of them, in the order in which help lists them.
+/// All of these errors, in the order in which help lists them.
 pub const NAMED: [NamedError; 8] = [
     NamedError::Cell,
     NamedError::Invert,
@@ -39,12 +39,12 @@ pub const NAMED: [NamedError; 8] = [
     NamedError::CheckByte,
 ];
 
-/// Where an error stands.
+/// The place of an error.
 #[derive(Clone, Copy)]
 pub struct Spot {
     /// The number of a cell, from 0: the error's own, or the first of the subframe or block.
     pub cell: u64,
-    /// The time slot of the subframe, where the error is one of a slot; else the first.
+    /// The time slot of the subframe, if it is an error of a slot; else the first.
     pub slot: u8,
     ghost within: { cell < 2 ^ 63 },
     ghost first: { 4 ≤ slot },
@@ -68,7 +68,7 @@ impl NamedError {
         }
     }
 
-    /// How many of the errors that may stand it is.
+    /// How many of the possible errors it takes.
     fn places(self) -> usize
         ensures { result ≡ places_named self }
     {
@@ -78,7 +78,7 @@ impl NamedError {
         }
     }
 
-    /// Whether there is room for it among the errors; where there is, it is put there.
+    /// Adds it to the errors if there is room for it. Returns whether there was.
     pub fn add(self, errors: &mut Errors, spot: Spot) -> bool
         ensures list { IsTrue result → errors_of errors.new
             ≡ errors_of errors.old ++ errors_named self spot.cell spot.slot }

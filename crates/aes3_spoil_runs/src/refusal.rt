@@ -1,4 +1,4 @@
-//! The line of a refusal, and its exit status.
+//! The line of an error, and its exit status.
 
 ghost use Rattle.std.specs.Prelude.{◌≡◌, ◌<◌, ◌≤◌, ◌+◌, ◌^◌};
 ghost use Rattle.aes3_cell.specs.Ends.{Grew};
@@ -9,7 +9,7 @@ use aes3_cell::{Fault, RunError, Sink};
 use aes3_cli::REFUSED;
 use aes3_status_text::Line;
 
-/// Writes the line of a refusal as one buffer.
+/// Writes the line of an error as one buffer.
 ///
 /// # Errors
 /// The sink's fault; then it has taken a front of the line.
@@ -20,8 +20,8 @@ pub fn put_refusal<T: Sink>(error: RunError, sink: &mut T) -> Result<(), Fault>
     Line::of_refusal("aes3-spoil", error.number(), error.place()).hand_on(sink)
 }
 
-/// Writes the line of a refusal on `messages`, which are flushed and whose own faults change nothing,
-/// and answers its exit status.
+/// Writes the line of an error to `messages`, flushes them, and returns the exit status. Faults of
+/// `messages` change nothing.
 pub fn refuse<E: Sink>(error: RunError, messages: &mut E) -> u8
     requires { E.failed messages.old + 1 < 2 ^ 64 }
     ensures status { result ≡ 3 }

@@ -1,4 +1,4 @@
-//! Everything but the machine's own streams.
+//! Everything but the system's own streams.
 
 ghost use Rattle.std.specs.Prelude.{◌≡◌, ◌≢◌, ◌<◌, ◌≤◌, ◌+◌, ◌^◌, ◌↔◌, IfOk, List, OnErr, ℕ};
 ghost use Rattle.aes3_cell.specs.Ends.{Grew, Told};
@@ -18,7 +18,7 @@ use std::alloc::AllocError;
 /// How many bytes an input may have.
 const MAX_BYTES: u64 = 1 << 40;
 
-/// What is said of words that are not UTF-8, as `clap` says it of words that it doesn't take.
+/// The text for words that are not UTF-8, in the form of `clap`'s usage errors.
 const NOT_UTF8: &str = "error: the words are not UTF-8
 
 Usage: aes3-spoil [OPTIONS] [FILE] > CELLS
@@ -26,8 +26,8 @@ Usage: aes3-spoil [OPTIONS] [FILE] > CELLS
 For more information, try '--help'.
 ";
 
-/// The refusal of a run once the sink has passed on what it holds: `Write` where that failed, else
-/// the first one.
+/// The error of a run after the sink has passed on what it holds: `Write` if that failed, else
+/// `error`.
 fn flushed<T: Sink>(error: RunError, sink: &mut T) -> RunError
     requires room { error ≢ RunError.Write → T.failed sink.old + 1 < 2 ^ 64 }
     ensures last { Flushed error (movement_of T.taken T.failed sink.old sink.new) result }
@@ -43,9 +43,9 @@ fn flushed<T: Sink>(error: RunError, sink: &mut T) -> RunError
     }
 }
 
-/// Writes the cells with the errors of the job, and answers the exit status: 0 done, 3 refused. Unless
-/// the sink failed, it has passed on all that it took, also after a refusal. A refusal is reported on
-/// `messages`, which are flushed then and whose own faults change nothing.
+/// Writes the cells with the errors of the job, and returns the exit status: 0 success, 3 after an
+/// error. Unless the sink failed, it has passed on all that it took, also after an error. An error
+/// is reported on `messages`, which are then flushed. Faults of `messages` change nothing.
 pub fn run_job<S: Source, T: Sink, E: Sink>(
     job: &Job<'_>,
     source: &mut S,
@@ -56,18 +56,19 @@ pub fn run_job<S: Source, T: Sink, E: Sink>(
     requires sink_room { T.failed sink.old + 1 < 2 ^ 64 }
     requires messages_room { E.failed messages.old + 1 < 2 ^ 64 }
 
-    // At status 0 exactly the cells with these errors are written, and nothing is reported.
+    // With status 0, exactly the cells with these errors are written, and nothing is reported.
     ensures cells { result ≡ 0 → (b : List ℕ) → Told (S.given source.old) (S.given source.new) b
         → Grew (T.taken sink.old) (T.taken sink.new)
         (finished job.now.output (spoiled job.now.errors (cells_of job.now.input b))) }
     ensures silent { result ≡ 0 → E.taken messages.new ≡ E.taken messages.old }
-    // The status is 0 exactly where the input has ended as it should and neither end failed, else 3.
+    // The status is 0 exactly if the input ended correctly and neither input nor output failed,
+    // else 3.
     ensures done { (b : List ℕ) → Told (S.given source.old) (S.given source.new) b
         → (result ≡ 0 ↔ IsDone job.now b (S.has_ended source.new)
         (movement_of S.given S.failed source.old source.new)
         (movement_of T.taken T.failed sink.old sink.new)) }
     ensures statuses { result ≢ 0 → result ≡ 3 }
-    // What was written before a refusal, its cause and its line.
+    // What was written before an error, its cause and its line.
     ensures ran { JobRan job.now (S.has_ended source.new)
         (movement_of S.given S.failed source.old source.new)
         (movement_of T.taken T.failed sink.old sink.new)
@@ -84,8 +85,8 @@ pub fn run_job<S: Source, T: Sink, E: Sink>(
     }
 }
 
-/// Reports why words ask for no job, and answers the exit status: 0 for help, which is written on the
-/// sink; 2 for a usage error; 3 where memory was refused or help can't be written.
+/// Reports why words are no job, and returns the exit status: 0 for help, which is written to the
+/// sink; 2 for a usage error; 3 if there is no memory or help can't be written.
 fn report_fault<T: Sink, E: Sink>(fault: LineFault, sink: &mut T, messages: &mut E) -> u8
     requires sink_room { T.failed sink.old + 1 < 2 ^ 64 }
     requires messages_room { E.failed messages.old + 1 < 2 ^ 64 }
@@ -111,9 +112,9 @@ fn report_fault<T: Sink, E: Sink>(fault: LineFault, sink: &mut T, messages: &mut
     }
 }
 
-/// Runs the job that words ask for, or reports why they ask for none, and answers the exit status: 0
-/// done, 2 for a usage error, 3 for a refusal. A sink that held nothing before and did not fail has
-/// passed on all that it took, and so have the messages, whose own faults change nothing.
+/// Runs the job of the words, or reports why they are no job. Returns the exit status: 0 success, 2
+/// for a usage error, 3 after any other error. A sink that held nothing before and did not fail has
+/// passed on all that it took. So have the messages, whose own faults change nothing.
 pub fn run_line<S: Source, T: Sink, E: Sink>(
     line: Result<Job<'_>, LineFault>,
     source: &mut S,
@@ -139,7 +140,7 @@ pub fn run_line<S: Source, T: Sink, E: Sink>(
     }
 }
 
-/// Reports why the words could not be read, and answers the exit status.
+/// Reports why the words could not be read, and returns the exit status.
 pub fn report_unread<E: Sink>(fault: Unread, messages: &mut E) -> u8
     requires { E.failed messages.old + 1 < 2 ^ 64 }
     ensures reported { UnreadReported fault

@@ -8,22 +8,23 @@ use crate::named::{NamedError, Spot};
 use aes3_cli::number_of_text;
 use aes3_spoil::{ErrorKind, Every};
 
-/// The greatest number of a cell: so many the longest input has, which no cell has.
+/// The greatest number of a cell for an option: the number of cells of the longest input, which is
+/// one more than that of its last cell.
 const MOST_CELLS: u64 = 1 << 43;
 
-/// The first and the last time slot behind the preamble.
+/// The first and the last time slot after the preamble.
 const FIRST_SLOT: u64 = 4;
 
 const LAST_SLOT: u64 = 31;
 
-/// What stands before the first colon and behind it.
+/// The text before the first colon, and the text after it.
 fn parts_of_text(text: &str) -> Option<(&str, &str)>
     ensures { option_map (λ parts. (parts.0.now, parts.1.now)) result ≡ parts_in text.now }
 {
     text.split_once(':')
 }
 
-/// Where the error stands of which this is the value.
+/// The place of the error with this value.
 pub(crate) fn spot_of_text(named: NamedError, text: &str) -> Option<Spot>
     ensures { option_map (λ spot. (spot.cell, spot.slot)) result ≡ spot_in named text.now }
 {
@@ -54,7 +55,7 @@ fn kind_of_text(text: &str) -> Option<ErrorKind>
     }
 }
 
-/// The errors that come again and again of which this is the value.
+/// The repeated errors with this value.
 pub(crate) fn every_of_text(text: &str) -> Option<Every>
     ensures { result ≡ every_in text.now }
 {

@@ -13,16 +13,16 @@ use std::alloc::{AllocError, Global};
 /// What is wrong with the values of options.
 #[derive(Clone, Copy)]
 pub(crate) enum Wrong<'a> {
-    /// A value of an option that names errors is none.
+    /// A value of an option for errors is invalid.
     Value { error: NamedError, text: &'a str },
-    /// A value of `--every` is none.
+    /// A value of `--every` is invalid.
     Every { text: &'a str },
     /// The values name more errors than there is room for.
     TooMany,
 }
 
-/// The usage error that says what is wrong, as `clap` says it of words that it doesn't take; `Memory`
-/// where memory was refused.
+/// The usage error that says what is wrong, in the form of `clap`'s usage errors; `Memory` if there
+/// is no memory.
 pub(crate) fn wrong_fault(alloc: Global, wrong: Wrong<'_>) -> LineFault
     ensures { IsFaultFor wrong.entry result }
 {
@@ -32,10 +32,10 @@ pub(crate) fn wrong_fault(alloc: Global, wrong: Wrong<'_>) -> LineFault
     }
 }
 
-/// Its text.
+/// The text of the usage error.
 ///
 /// # Errors
-/// Memory was refused.
+/// `AllocError` if there is no memory.
 fn wrong_text(alloc: Global, wrong: Wrong<'_>) -> Result<String, AllocError>
     ensures { IfOk result (λ text. text.bytes.items ≡ wrong_text wrong.entry) }
 {
@@ -47,7 +47,7 @@ fn wrong_text(alloc: Global, wrong: Wrong<'_>) -> Result<String, AllocError>
 /// The line that says what is wrong.
 ///
 /// # Errors
-/// Memory was refused.
+/// `AllocError` if there is no memory.
 fn wrong_line(alloc: Global, wrong: Wrong<'_>) -> Result<String, AllocError>
     ensures { IfOk result (λ text. text.bytes.items ≡ wrong_line wrong.entry) }
 {
@@ -73,10 +73,11 @@ fn wrong_line(alloc: Global, wrong: Wrong<'_>) -> Result<String, AllocError>
     }
 }
 
-/// The line that says that a text is no value of the option `--name <value>`, and what is needed.
+/// The line that says that a text is no value of the option `--name <value>`, and what the value
+/// has to be.
 ///
 /// # Errors
-/// Memory was refused.
+/// `AllocError` if there is no memory.
 fn value_line(
     alloc: Global,
     text: &str,
@@ -90,7 +91,7 @@ fn value_line(
     format!(in alloc; "error: invalid value '{text}' for '--{name} <{value}>': {needed}")
 }
 
-/// What the value of an option that names errors has to be.
+/// What the value of an option for errors has to be.
 fn place_needed<'a>(error: NamedError) -> &'a str
     ensures { result.now ≡ place_needed error }
 {

@@ -5,8 +5,8 @@ ghost use Rattle.aes3_status.specs.Check.{CheckHolds, check_byte_of, check_state
 ghost use Rattle.aes3_status.specs.Register.{polynomial, after_bit, after_bits};
 ghost use Rattle.aes3_status.specs.Laws.{OneFlipped, TwoFlipped};
 
-/// How a channel status stands to its check byte. The standard asks only whether the check holds;
-/// `Absent` is told apart from `Bad` by this crate.
+/// The state of a channel status's check byte. The standard asks only whether the check holds; the
+/// distinction of `Absent` from `Bad` is this crate's.
 #[derive(Clone, Copy, PartialEq, Eq, Debug)]
 pub enum Check {
     /// The check holds.
@@ -65,12 +65,12 @@ pub fn check_byte(bytes: &[u8; 24]) -> u8
     register
 }
 
-/// How a channel status stands to its check byte (AES3-2, byte 23). Only professional channel
+/// The state of the check byte of a channel status (AES3-2, byte 23). Only professional channel
 /// status has one.
 pub fn check_state(bytes: &[u8; 24]) -> Check
     ensures state { result ≡ check_state_of bytes.now }
 
-    // No status that was good is good after one or two of its bits were inverted.
+    // If one or two bits of a good status are inverted, the result is not good.
     ensures one_flip { (before : List ℕ) → check_state_of before ≡ Check.Good
         → OneFlipped (status_bits before) (status_bits bytes.now) → result ≢ Check.Good }
     ensures two_flips { (before : List ℕ) → check_state_of before ≡ Check.Good

@@ -4,7 +4,7 @@ use std::marker::Model;
 
 /// A channel status for consumer use (IEC 60958-3): byte 0 bit 0 is 0.
 ///
-/// A field of bits is a number, its lowest bit of weight 1.
+/// A field is a number whose lowest bit weighs 1.
 #[derive(Clone, Copy)]
 pub struct Con {
     bytes: [u8; 24],
@@ -34,7 +34,7 @@ impl Con {
         Con { bytes: *bytes }
     }
 
-    /// The bytes that it was read from.
+    /// The bytes that the status was read from.
     pub(crate) fn to_bytes(&self) -> [u8; 24]
         ensures { result ≡ self.now }
     {
@@ -62,8 +62,8 @@ impl Con {
         ConField::Copyright.number(&self.bytes)
     }
 
-    /// Additional format information; of linear PCM the pre-emphasis (IEC 60958-3, byte 0 bits 3 to
-    /// 5).
+    /// Additional format information; for linear PCM the pre-emphasis (IEC 60958-3, byte 0 bits 3
+    /// to 5).
     pub fn emphasis(&self) -> u8
         ensures { result ≡ emphasis self.now }
     {
@@ -133,7 +133,8 @@ impl Con {
         ConField::Greatest.number(&self.bytes)
     }
 
-    /// The sample word length, a code under that of `greatest` (IEC 60958-3, byte 4 bits 1 to 3).
+    /// The sample word length, a code whose meaning depends on `greatest` (IEC 60958-3, byte 4 bits
+    /// 1 to 3).
     pub fn word(&self) -> u8
         ensures { result ≡ word self.now }
     {
@@ -147,7 +148,7 @@ impl Con {
         ConField::Original.number(&self.bytes)
     }
 
-    /// Bytes 5 to 23 as they are (IEC 60958-3).
+    /// Bytes 5 to 23, unchanged (IEC 60958-3).
     pub fn rest(&self) -> [u8; 19]
         ensures { result ≡ rest self.now }
     {

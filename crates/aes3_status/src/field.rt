@@ -25,7 +25,8 @@ pub enum ProField {
     B5,
     Unreliable,
     B22low,
-    /// A sampling frequency that byte 0 has no code for: bits 3 to 6 of byte 4, which `B4` has too.
+    /// A sampling frequency that byte 0 has no code for: bits 3 to 6 of byte 4, which are part of
+    /// `B4` too.
     Frequency,
 }
 
@@ -53,9 +54,9 @@ pub enum ConField {
 pub enum Field {
     /// The use of a status: 1 professional, 0 consumer (AES3-2, IEC 60958-1, byte 0 bit 0).
     Use,
-    /// Of professional status (AES3-2).
+    /// A field of professional status (AES3-2).
     Professional(ProField),
-    /// Of consumer status (IEC 60958-3).
+    /// A field of consumer status (IEC 60958-3).
     Consumer(ConField),
 }
 
@@ -68,7 +69,7 @@ fn place(byte: usize, first: u32, count: u32) -> Place
 }
 
 impl ProField {
-    /// Where the field stands (AES3-2).
+    /// The place of the field (AES3-2).
     pub(crate) fn place(self) -> Place
         ensures place { result ≡ pro_place self }
         ensures within { result.byte < 24 }
@@ -94,7 +95,7 @@ impl ProField {
         }
     }
 
-    /// The number that stands there.
+    /// The number in the field.
     pub(crate) fn number(self, bytes: &[u8; 24]) -> u8
         ensures { result ≡ number_at (pro_place self) bytes.now }
     {
@@ -103,7 +104,7 @@ impl ProField {
 }
 
 impl ConField {
-    /// Where the field stands (IEC 60958-3).
+    /// The place of the field (IEC 60958-3).
     pub(crate) fn place(self) -> Place
         ensures place { result ≡ con_place self }
         ensures within { result.byte < 24 }
@@ -128,7 +129,7 @@ impl ConField {
         }
     }
 
-    /// The number that stands there.
+    /// The number in the field.
     pub(crate) fn number(self, bytes: &[u8; 24]) -> u8
         ensures { result ≡ number_at (con_place self) bytes.now }
     {
@@ -137,7 +138,7 @@ impl ConField {
 }
 
 impl Field {
-    /// Where the field stands.
+    /// The place of the field.
     pub(crate) fn place(self) -> Place
         ensures place { result ≡ place_of self }
         ensures within { result.byte < 24 }
@@ -150,7 +151,7 @@ impl Field {
         }
     }
 
-    /// How many codes the field has: those below this number.
+    /// The number of codes of the field, which are the numbers below it.
     pub fn codes(self) -> u32
         ensures count { result ≡ 2 ^ (place_of self).count }
         ensures few { result ≤ 256 }
@@ -158,8 +159,7 @@ impl Field {
         1 << self.place().count
     }
 
-    /// Whether the status has the field: one for professional or consumer use only where byte 0 bit
-    /// 0 says so.
+    /// Whether the status has the field: a field for one use only if byte 0 bit 0 says that use.
     pub(crate) fn is_for(self, bytes: &[u8; 24]) -> bool
         ensures { result ≡ is_for self bytes.now }
     {
@@ -171,9 +171,9 @@ impl Field {
         }
     }
 
-    /// The number that tells what the field's codes mean: the use of the auxiliary bits or the
-    /// greatest length for the sample word length, what the sample words carry for the emphasis of
-    /// consumer use, otherwise 0.
+    /// The number that determines what the field's codes mean. For the sample word length, it is
+    /// the use of the auxiliary bits or the greatest length. For the emphasis of consumer use, it
+    /// is what the sample words carry. Otherwise it is 0.
     pub(crate) fn under(self, bytes: &[u8; 24]) -> u8
         ensures number { result ≡ under self bytes.now }
         ensures few { result < 8 }

@@ -1,4 +1,4 @@
-//! Where statuses of each kind are met first.
+//! The places of the first status of each kind.
 
 ghost use Rattle.std.specs.Prelude.{◌≡◌, ◌<◌, ◌++◌, ℕ, List, [], ◌∷◌, Bool, true, false, not};
 ghost use Rattle.std.specs.Prelude.{get_or, length};
@@ -11,7 +11,7 @@ use crate::setting::Settings;
 use crate::taken::{KINDS, TELLING_BITS, example, number_of};
 use crate::taking_all::takes_all;
 
-/// The earlier of two places, where there are such.
+/// The earlier of two places, if there are any.
 pub fn earlier(first: Option<u64>, second: Option<u64>) -> Option<u64>
     ensures { result ≡ earlier first second }
 {
@@ -22,7 +22,7 @@ pub fn earlier(first: Option<u64>, second: Option<u64>) -> Option<u64>
     }
 }
 
-/// Of each kind of status, whether it does not take all settings.
+/// For each kind of status, whether it does not take all settings.
 fn refusing_kinds(settings: &Settings) -> [bool; KINDS]
     ensures { (kind : ℕ) → kind < 64
         → get_or result kind false ≡ not (takes_all settings.now (example_of kind)) }
@@ -34,14 +34,14 @@ fn refusing_kinds(settings: &Settings) -> [bool; KINDS]
     refusing
 }
 
-/// The place of the first status of each kind that was met (`Kinds`).
+/// The place of the first status of each kind that occurred (`Kinds`).
 #[derive(Clone, Copy, PartialEq, Eq)]
 pub struct KindPlaces {
     first: [Option<u64>; KINDS],
 }
 
 impl KindPlaces {
-    /// Those of no status.
+    /// The places if there is no status.
     pub fn new() -> Self
         ensures { AreFirstsOf result [] }
     {
@@ -50,7 +50,7 @@ impl KindPlaces {
         }
     }
 
-    /// Takes note of one more status at a place, of which these bits are known, as in `Kinds::add`.
+    /// Notes one more status at a place, given its bits as in `Kinds::add`.
     pub fn add(&mut self, bits: [bool; TELLING_BITS], at: u64)
         ensures { (met : List Met) (status : List ℕ) → telling_bits status ≡ bits
             → AreFirstsOf self.old met

@@ -1,8 +1,8 @@
-//! The channel status of one channel in one block: its 24 bytes read as fields, fields of them set,
-//! and their check byte (AES3-2, IEC 60958-3).
+//! The channel status of one channel in one block: its 24 bytes read as fields, setting fields, and
+//! the check byte (AES3-2, IEC 60958-3).
 #![tactic(auto)]
 
-/// The bits that subframes carry behind their audio.
+/// The bits that subframes carry after their audio.
 mod carried;
 /// What the channel status, the validity bits and the user bits of a stream are changed to.
 mod change;
@@ -12,15 +12,15 @@ mod check;
 mod consumer;
 /// The fields that a code can be written to.
 mod field;
-/// Where statuses of each kind are met first.
+/// The places of the first status of each kind.
 mod kind_places;
-/// Laws of the check byte and of fields that are set.
+/// Laws of the check byte and of setting fields.
 pub mod laws;
-/// Where a field stands within a byte, and a code written there.
+/// The place of a field within a byte, and writing a code there.
 mod place;
 /// The fields for professional use.
 mod professional;
-/// Codes for fields, and status in which they are set.
+/// Codes for fields, and setting them in a status.
 mod setting;
 /// Channel status for either use.
 mod status;

@@ -1,4 +1,4 @@
-//! Where a field stands in the 24 bytes, what is read there, and a code written there.
+//! The place of a field in the 24 bytes, reading it, and writing a code there.
 
 ghost use Rattle.std.specs.Prelude.{◌≡◌, ◌+◌, ◌<◌, ◌≤◌};
 ghost use Rattle.aes3_bits.specs.Bits.{low_bits, number};
@@ -6,7 +6,7 @@ ghost use Rattle.aes3_status.specs.Bits.{byte_bits, number_at, field, bytes_fiel
 ghost use Rattle.aes3_status.specs.Settings.{with_bits, with_field};
 ghost use Rattle.aes3_status.specs.Statuses.{is_professional};
 
-/// `count` bits of byte `byte` from bit `first` on.
+/// `count` bits of byte `byte`, from bit `first` on.
 #[derive(Clone, Copy)]
 pub(crate) struct Place {
     pub(crate) byte: usize,
@@ -15,7 +15,7 @@ pub(crate) struct Place {
 }
 
 impl Place {
-    /// The number that stands there.
+    /// The number at this place.
     pub(crate) fn number(self, bytes: &[u8; 24]) -> u8
         requires within { self.byte < 24 }
         requires some { 0 < self.count }
@@ -36,7 +36,7 @@ fn bits_at(bytes: &[u8; 24], byte: usize, first: u32, count: u32) -> u8
     bytes[byte] >> first & u8::MAX >> (8 - count)
 }
 
-/// Whether byte 0 bit 0 is 1: for professional, not for consumer use.
+/// Whether byte 0 bit 0 is 1, which means professional use.
 pub(crate) fn is_for_professional_use(bytes: &[u8; 24]) -> bool
     ensures { result ≡ is_professional bytes.now }
 {
@@ -64,7 +64,7 @@ pub(crate) fn bytes_at(bytes: &[u8; 24], byte: usize) -> [u8; 4]
     ]
 }
 
-/// The byte with the lowest `count` bits of `code` in place of those from bit `first` on.
+/// The byte with its bits from bit `first` on replaced by the lowest `count` bits of `code`.
 fn replaced(byte: u8, first: u32, count: u32, code: u8) -> u8
     requires { first + count ≤ 8 }
     ensures { result ≡ number (with_bits first (low_bits count code) (byte_bits byte)) }
@@ -76,7 +76,7 @@ fn replaced(byte: u8, first: u32, count: u32, code: u8) -> u8
     (low + middle + high) as u8
 }
 
-/// Writes the lowest bits of `code` to the field that stands there.
+/// Writes the lowest bits of `code` to the field at this place.
 pub(crate) fn put_code(bytes: &mut [u8; 24], place: Place, code: u8)
     requires within { place.byte < 24 }
     requires inside { place.first + place.count ≤ 8 }

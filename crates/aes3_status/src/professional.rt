@@ -5,7 +5,7 @@ use std::marker::Model;
 
 /// A channel status for professional use (AES3-2): byte 0 bit 0 is 1.
 ///
-/// A field of bits is a number, its lowest bit of weight 1.
+/// A field is a number whose lowest bit weighs 1.
 #[derive(Clone, Copy)]
 pub struct Pro {
     bytes: [u8; 24],
@@ -35,7 +35,7 @@ impl Pro {
         Pro { bytes: *bytes }
     }
 
-    /// The bytes that it was read from.
+    /// The bytes that the status was read from.
     pub(crate) fn to_bytes(&self) -> [u8; 24]
         ensures { result ≡ self.now }
     {
@@ -91,15 +91,16 @@ impl Pro {
         ProField::User.number(&self.bytes)
     }
 
-    /// The use of the auxiliary bits, and with it the greatest sample word length (AES3-2, byte 2
-    /// bits 0 to 2).
+    /// The use of the auxiliary bits, which determines the greatest sample word length (AES3-2,
+    /// byte 2 bits 0 to 2).
     pub fn aux(&self) -> u8
         ensures { result ≡ aux self.now }
     {
         ProField::Aux.number(&self.bytes)
     }
 
-    /// The source's sample word length, a code under that of `aux` (AES3-2, byte 2 bits 3 to 5).
+    /// The source's sample word length, a code whose meaning depends on `aux` (AES3-2, byte 2 bits
+    /// 3 to 5).
     pub fn word(&self) -> u8
         ensures { result ≡ word self.now }
     {
@@ -171,8 +172,8 @@ impl Pro {
         u32_at(&self.bytes, 18)
     }
 
-    /// Which bytes are unreliable: the lowest bit bytes 0 to 5, then 6 to 13, 14 to 17, 18 to 21
-    /// (AES3-2, byte 22 bits 4 to 7).
+    /// Which bytes are unreliable (AES3-2, byte 22 bits 4 to 7). The lowest bit is for bytes 0 to
+    /// 5, the others for 6 to 13, 14 to 17, and 18 to 21.
     pub fn unreliable(&self) -> u8
         ensures { result ≡ unreliable self.now }
     {

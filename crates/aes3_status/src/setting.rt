@@ -7,36 +7,37 @@ use crate::field::{ConField, Field};
 use crate::place::put_code;
 use crate::wide::{WideSettings, set_wide};
 
-/// How many settings a channel gets at most.
+/// How many settings a channel has at most.
 pub const SETTINGS: usize = 64;
 
-/// A field and the code that it gets.
+/// A field and the code that it is set to.
 #[derive(Clone, Copy, PartialEq, Eq)]
 pub struct Setting {
-    /// The field, of status for one of the two uses.
+    /// The field.
     pub field: Field,
-    /// The code that it gets, by the number that tells what its codes mean: of a sample word length
-    /// in professional status the use of the auxiliary bits, in consumer status the greatest
-    /// length; of the emphasis in consumer status what the sample words carry; of every other field
-    /// 0. `None` leaves the field as it is.
+    /// The code that it is set to, for each value of the number that determines what its codes
+    /// mean. For the sample word length, that number is the use of the auxiliary bits in
+    /// professional status, and the greatest length in consumer status. For the emphasis in
+    /// consumer status, it is what the sample words carry. For every other field it is 0. `None`
+    /// leaves the field unchanged.
     pub codes: [Option<u8>; 8],
 }
 
 impl Setting {
-    /// A setting that leaves every status as it is.
+    /// A setting that leaves every status unchanged.
     pub const NOTHING: Setting = Setting {
         field: Field::Consumer(ConField::Payload),
         codes: [None; 8],
     };
 }
 
-/// What a channel status gets: codes for fields within a byte, one after the other, and then what
-/// its fields of four bytes get.
+/// The settings of a channel status: codes for fields within a byte, one after the other, and then
+/// values for its fields of four bytes.
 #[derive(Clone, Copy, PartialEq, Eq)]
 pub struct Settings {
-    /// The codes; those that are not needed are `Setting::NOTHING`.
+    /// The codes; unused ones are `Setting::NOTHING`.
     pub codes: [Setting; SETTINGS],
-    /// What the fields of four bytes get.
+    /// The values for the fields of four bytes.
     pub wide: WideSettings,
 }
 
@@ -52,8 +53,8 @@ pub(crate) fn code_for(bytes: &[u8; 24], setting: &Setting) -> Option<u8>
     }
 }
 
-/// Writes the setting's code to its field, and leaves all other bits as they were. A status for the
-/// other use than the field's stays as it is, and so does one that the setting has no code for.
+/// Writes the setting's code to its field, and leaves all other bits unchanged. A status for
+/// another use than the field's is unchanged, and so is one that the setting has no code for.
 #[inline(always)]
 pub(crate) fn set_field(bytes: &mut [u8; 24], setting: &Setting)
     ensures { bytes.new ≡ set_by setting.now bytes.old }
@@ -73,8 +74,8 @@ fn set_codes(bytes: &mut [u8; 24], settings: &[Setting; SETTINGS])
     }
 }
 
-/// Writes the codes one after the other, and then the fields of four bytes, which a status for
-/// consumer use has not.
+/// Writes the codes one after the other, and then the fields of four bytes, which only professional
+/// status has.
 #[tactic(auto, unfolding(crate::specs::Settings::set_all))]
 pub fn set_fields(bytes: &mut [u8; 24], settings: &Settings)
     ensures { bytes.new ≡ set_all settings.now bytes.old }

@@ -30,7 +30,7 @@ impl Status {
         }
     }
 
-    /// The 24 bytes that it was read from.
+    /// The 24 bytes that the status was read from.
     pub fn to_bytes(&self) -> [u8; 24]
         ensures { result ≡ bytes_of self.now }
     {

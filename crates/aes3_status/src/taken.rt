@@ -8,29 +8,30 @@ ghost use Rattle.aes3_status.specs.Taken.{AreKindsOf, example_of, has_code, take
 use crate::place::is_for_professional_use;
 use crate::setting::{SETTINGS, Setting, Settings, code_for, set_field};
 
-/// How many bits of a status tell which settings it takes.
+/// How many bits of a status determine which settings it takes.
 pub const TELLING_BITS: usize = 6;
 
 /// How many kinds of status there are.
 pub(crate) const KINDS: usize = 64;
 
-/// Which settings were taken by a status: those that had a code for it where it was their turn.
+/// Which settings some status took: those that had a code for it when they were applied.
 #[derive(Clone, Copy, PartialEq, Eq)]
 pub struct Taken {
-    /// Of each of the codes, whether it was written.
+    /// For each of the codes, whether it was written.
     pub codes: [bool; SETTINGS],
-    /// Whether the fields of four bytes were set: behind the codes, a status was professional.
+    /// Whether the fields of four bytes were set: some status was professional after the codes were
+    /// written.
     pub wide: bool,
 }
 
 impl Taken {
-    /// What no status takes.
+    /// Nothing, as without any status.
     pub const NOTHING: Taken = Taken {
         codes: [false; SETTINGS],
         wide: false,
     };
 
-    /// What one more status takes.
+    /// Adds what one more status takes.
     pub fn add(&mut self, status: &[u8; 24], settings: &Settings)
         ensures { (statuses : List (List ℕ)) → self.old ≡ taken_by settings.now statuses
             → self.new ≡ taken_by settings.now (statuses ++ status.now ∷ []) }
@@ -51,7 +52,7 @@ fn has_code(bytes: &[u8; 24], setting: &Setting) -> bool
     code_for(bytes, setting).is_some()
 }
 
-/// The number of bits that tell, the first of weight 1.
+/// The number made of these bits, the first of weight 1.
 pub(crate) fn number_of(bits: [bool; TELLING_BITS]) -> usize
     ensures value { result ≡ number bits }
     ensures few { result < 64 }
@@ -64,7 +65,7 @@ pub(crate) fn number_of(bits: [bool; TELLING_BITS]) -> usize
         + 32 * usize::from(bits[5])
 }
 
-/// A status of a kind.
+/// A status of this kind.
 pub(crate) fn example(kind: usize) -> [u8; 24]
     requires { kind < 64 }
     ensures { result ≡ example_of kind }
@@ -76,17 +77,17 @@ pub(crate) fn example(kind: usize) -> [u8; 24]
     status
 }
 
-/// Which kinds of status were met. Those of a kind take the same settings, whatever these are: the
-/// bits that tell it are the use of the status, what its sample words carry, and what tells the
-/// meaning of its sample word length, the use of the auxiliary bits or the greatest length (AES3-2,
-/// IEC 60958-3).
+/// Which kinds of status occurred. Statuses of one kind take the same settings, whatever these are.
+/// Three things make the kind: the use of the status, what its sample words carry, and what
+/// determines the meaning of its sample word length. The last is the use of the auxiliary bits or
+/// the greatest length (AES3-2, IEC 60958-3).
 #[derive(Clone, Copy, PartialEq, Eq)]
 pub struct Kinds {
     met: [bool; KINDS],
 }
 
 impl Kinds {
-    /// Those of no status.
+    /// The kinds if there is no status.
     pub fn new() -> Self
         ensures { AreKindsOf result [] }
     {
@@ -95,8 +96,8 @@ impl Kinds {
         }
     }
 
-    /// Takes note of one more status, of which these bits are known: 0 and 1 of byte 0, 0 to 2 of
-    /// byte 2, and 0 of byte 4.
+    /// Notes one more status, given these bits: 0 and 1 of byte 0, 0 to 2 of byte 2, and 0 of byte
+    /// 4.
     pub fn add(&mut self, bits: [bool; TELLING_BITS])
         ensures { (statuses : List (List ℕ)) (status : List ℕ) → telling_bits status ≡ bits
             → AreKindsOf self.old statuses → AreKindsOf self.new (statuses ++ status ∷ []) }
@@ -104,7 +105,7 @@ impl Kinds {
         self.met[number_of(bits)] = true;
     }
 
-    /// What the statuses that were met take of settings.
+    /// What the statuses so far take of settings.
     pub fn taken_by(&self, settings: &Settings) -> Taken
         ensures { (statuses : List (List ℕ)) → All (λ status. length status ≡ 24) statuses
             → AreKindsOf self.now statuses → result ≡ taken_by settings.now statuses }

@@ -7,7 +7,7 @@ use crate::setting::{Setting, Settings};
 use crate::taken::Taken;
 use crate::wide::WideSettings;
 
-/// How many texts settings ask by: each has two settings, one for either use.
+/// How many texts settings come from: each has two settings, one for either use.
 const TEXTS: usize = 32;
 
 /// Whether a setting has any code.
@@ -21,14 +21,14 @@ fn asks(setting: &Setting) -> bool
     found
 }
 
-/// Whether a field of four bytes is given.
+/// Whether a field of four bytes is set.
 fn asks_wide(wide: &WideSettings) -> bool
     ensures { result ≡ asks_wide wide.now }
 {
     wide.origin.is_some() | wide.destination.is_some() | wide.local.is_some() | wide.time.is_some()
 }
 
-/// Whether one of the two settings of a text was taken, or neither asks for anything.
+/// Whether one of the two settings of a text was taken, or neither has any code.
 fn is_text_taken(settings: &Settings, taken: &Taken, text: usize) -> bool
     requires { text < 32 }
     ensures { result ≡ text_taken settings.now taken.now text }
@@ -37,7 +37,7 @@ fn is_text_taken(settings: &Settings, taken: &Taken, text: usize) -> bool
     taken.codes[2 * text] | taken.codes[2 * text + 1] | !either
 }
 
-/// Whether each text is so.
+/// Whether this holds for each text.
 fn are_texts_taken(settings: &Settings, taken: &Taken) -> bool
     ensures { result ≡ texts_taken settings.now taken.now }
 {
@@ -48,8 +48,8 @@ fn are_texts_taken(settings: &Settings, taken: &Taken) -> bool
     all
 }
 
-/// Whether a status takes all settings: of each text one of the two, if they have any code, and
-/// the fields of four bytes, if one of them is given.
+/// Whether a status takes all settings: for each text one of the two, if they have any code, and
+/// the fields of four bytes, if one of them is set.
 pub fn takes_all(status: &[u8; 24], settings: &Settings) -> bool
     ensures { result ≡ takes_all settings.now status.now }
 {

@@ -17,17 +17,17 @@ use crate::wide::wide_named;
 use aes3_status::{Field, WideField};
 use std::alloc::AllocError;
 
-/// How many of the fields for one use the line has by themselves, and so by names of their own: the
-/// use and fourteen others.
+/// How many fields for one use the line shows by themselves, with names of their own: the use and
+/// fourteen others.
 const LINE_FIELDS: usize = 15;
 
 /// How many codes a byte has.
 const BYTE_CODES: u32 = 256;
 
-/// The names of the fields of four bytes, as they stand behind the others.
+/// The names of the fields of four bytes, appended to the others.
 const WIDE_NAMES: &str = " origin destination local time";
 
-/// The name in a text `NAME=WORD`: what stands before its first `=`, or all of it.
+/// The name in a text `NAME=WORD`: the part before its first `=`, or all of it.
 fn name_in(setting: &str) -> &str
     ensures { result.now ≡ name_in setting.now }
 {
@@ -76,8 +76,7 @@ fn has_word(field: Field, under: u8, code: u8) -> bool
     line.as_bytes() != number.as_bytes()
 }
 
-/// Whether a code of the field is printed as this line, where the number `under` tells what its
-/// codes mean.
+/// Whether a code of the field is printed as this line; `under` determines what its codes mean.
 fn is_printed(line: &Line, field: Field, under: u8) -> bool
     ensures { result ≡ is_printed line.now field under }
 {
@@ -92,7 +91,7 @@ fn is_printed(line: &Line, field: Field, under: u8) -> bool
     false
 }
 
-/// Whether a code is printed as one is under a lower number.
+/// Whether a code is printed in the same way as some code under a lower number.
 fn is_told(field: Field, under: u8, code: u8) -> bool
     ensures { result ≡ is_told field under code }
 {
@@ -106,7 +105,7 @@ fn is_told(field: Field, under: u8, code: u8) -> bool
     false
 }
 
-/// Appends what a code is printed as.
+/// Appends the text that a code is printed as.
 fn add_text(text: &mut String, field: Field, under: u8, code: u8) -> Result<(), AllocError>
     ensures { IfOk result (λ _. text.new.bytes.items ≡ text.old.bytes.items
         ++ code_text field under code) }
@@ -119,8 +118,8 @@ fn add_text(text: &mut String, field: Field, under: u8, code: u8) -> Result<(), 
     }
 }
 
-/// Appends what is told of a code: nothing where it has no word or is told already; of the codes of
-/// a byte the first and the last.
+/// Appends what the choices say of a code: nothing if it has no word or is listed already. Of the
+/// codes of a byte, only the first and the last are listed.
 fn add_code(text: &mut String, field: Field, under: u8, code: u8) -> Result<(), AllocError>
     ensures { IfOk result (λ _. text.new.bytes.items ≡ text.old.bytes.items
         ++ code_choice field under code) }
@@ -138,7 +137,7 @@ fn add_code(text: &mut String, field: Field, under: u8, code: u8) -> Result<(), 
     }
 }
 
-/// Appends what the codes of a field are printed as, where the number `under` tells what they mean.
+/// Appends the texts that the codes of a field are printed as; `under` determines what they mean.
 fn add_codes(text: &mut String, field: Field, under: u8) -> Result<(), AllocError>
     ensures { IfOk result (λ _. text.new.bytes.items ≡ text.old.bytes.items
         ++ code_choices field under) }
@@ -149,7 +148,7 @@ fn add_codes(text: &mut String, field: Field, under: u8) -> Result<(), AllocErro
     Ok(())
 }
 
-/// Appends the word of a code as a field, where `show --names` has one.
+/// Appends the word of a code as a field, if `show --names` has one.
 fn add_code_name(text: &mut String, field: Field, code: u8) -> Result<(), AllocError>
     ensures { IfOk result (λ _. text.new.bytes.items ≡ text.old.bytes.items ++ name_text field code) }
 {
@@ -162,7 +161,7 @@ fn add_code_name(text: &mut String, field: Field, code: u8) -> Result<(), AllocE
     Ok(())
 }
 
-/// Appends the words of a field's codes that `show --names` has.
+/// Appends the words that `show --names` has for a field's codes.
 fn add_code_names(text: &mut String, field: Field) -> Result<(), AllocError>
     ensures { IfOk result (λ _. text.new.bytes.items ≡ text.old.bytes.items ++ name_choices field) }
 {
@@ -182,7 +181,7 @@ fn add_field(text: &mut String, field: Field) -> Result<(), AllocError>
     add_code_names(text, field)
 }
 
-/// Appends what those of the fields with the name of a text `NAME=WORD` can be set to.
+/// Appends what the fields with the name of a text `NAME=WORD` can be set to.
 fn add_named(text: &mut String, fields: &[Field], setting: &str) -> Result<(), AllocError>
     ensures { IfOk result (λ _. text.new.bytes.items
         ≡ text.old.bytes.items ++ flat_map (named_choices setting.now) fields.now) }
@@ -206,7 +205,7 @@ fn add_names(text: &mut String, fields: &[Field]) -> Result<(), AllocError>
     Ok(())
 }
 
-/// Appends a line of what those of the fields with the name of a text `NAME=WORD` can be set to.
+/// Appends a line of what the fields with the name of a text `NAME=WORD` can be set to.
 fn add_named_line(
     text: &mut String,
     head: &str,
@@ -222,7 +221,7 @@ fn add_named_line(
     text.push_str("\n")
 }
 
-/// Appends a line of the names of the fields, and of more behind them.
+/// Appends a line of the names of the fields, followed by more names.
 fn add_names_line(
     text: &mut String,
     head: &str,
@@ -239,8 +238,8 @@ fn add_names_line(
 }
 
 /// Appends the line of the fields for one use: what those with the name of a text `NAME=WORD` can
-/// be set to, or, where no field for either use has it, the names of those that the line has, and
-/// more behind them.
+/// be set to. If no field for either use has that name, it is the names of the fields that the line
+/// has, followed by more names.
 #[tactic(auto, unfolding(crate::specs::Choices::use_choices))]
 fn add_use(
     text: &mut String,
@@ -284,12 +283,12 @@ fn add_wide_line(text: &mut String, field: WideField) -> Result<(), AllocError>
     text.push_str(wide_line(field))
 }
 
-/// Appends what can be set in place of a text `NAME=WORD` that sets nothing: where a field of four
-/// bytes has the name its words, else a line for each use of what a field of the name can be set
-/// to, or of the names of the fields. Codes without a word are left out.
+/// Appends what can be set instead of a text `NAME=WORD` that sets nothing. If a field of four
+/// bytes has the name, that is its words. Otherwise it is a line for each use, of what a field with
+/// the name can be set to, or of the names of the fields. Codes without a word are left out.
 ///
 /// # Errors
-/// Memory was refused.
+/// `AllocError` if there is no memory.
 pub fn add_choices(text: &mut String, setting: &str) -> Result<(), AllocError>
     ensures { IfOk result (λ _. text.new.bytes.items ≡ text.old.bytes.items ++ choices setting.now) }
 {

@@ -41,7 +41,7 @@ const ACCURACY: &[(u8, &str)] = &[(0, "level2"), (1, "level1"), (2, "level3")];
 /// The greatest sample word length (byte 4 bit 0).
 const GREATEST: &[(u8, &str)] = &[(0, "20"), (1, "24")];
 
-/// The words of byte 0 bits 3 to 5, which are pre-emphasis of linear PCM alone.
+/// The words of byte 0 bits 3 to 5, which are the pre-emphasis only for linear PCM.
 fn emphasis_words(payload: u8) -> &'static [(u8, &'static str)]
     ensures rows { rows_of result.now ≡ emphasis_words payload }
     ensures short { IsTrue (are_within WORD_LEN result.now) }
@@ -49,7 +49,7 @@ fn emphasis_words(payload: u8) -> &'static [(u8, &'static str)]
     if payload == 0 { EMPHASIS } else { &[] }
 }
 
-/// The sample word lengths under this code of the greatest (byte 4).
+/// The sample word lengths for this code of the greatest length (byte 4).
 fn length_words(greatest: u8) -> &'static [(u8, &'static str)]
     ensures rows { rows_of result.now ≡ length_words greatest }
     ensures short { IsTrue (are_within WORD_LEN result.now) }
@@ -80,7 +80,7 @@ pub(crate) fn consumer_name(field: ConField) -> &'static str
     }
 }
 
-/// Appends a code of a field, where the number `under` tells what its codes mean.
+/// Appends a code of a field; `under` determines what its codes mean.
 pub(crate) fn put_consumer_code(line: &mut Line, field: ConField, under: u8, code: u8)
     requires { length line.old + FIELD_LEN ≤ LINE_LEN }
     ensures code { line.new ≡ line.old ++ con_text field under code }
@@ -102,7 +102,7 @@ pub(crate) fn put_consumer_code(line: &mut Line, field: ConField, under: u8, cod
     }
 }
 
-/// Appends the code of a field of a status, where the number `under` tells what its codes mean.
+/// Appends the code of a field of a status; `under` determines what its codes mean.
 fn put_field(line: &mut Line, status: &Con, field: ConField, under: u8)
     requires { length line.old + FIELD_LEN ≤ LINE_LEN }
     ensures field { line.new ≡ line.old ++ con_text field under (number_at (con_place field) status.now) }

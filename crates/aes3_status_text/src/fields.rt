@@ -28,7 +28,7 @@ pub(crate) const USE: &[(u8, &str)] = &[(0, "consumer"), (1, "professional")];
 /// What the sample words carry (AES3-2, IEC 60958-3, byte 0 bit 1).
 pub(crate) const PAYLOAD: &[(u8, &str)] = &[(0, "pcm"), (1, "other")];
 
-/// Sample word lengths where the greatest is 24 bits (AES3-2, IEC 60958-3).
+/// Sample word lengths if the greatest is 24 bits (AES3-2, IEC 60958-3).
 pub(crate) const UP_TO_24: &[(u8, &str)] = &[
     (0, "not-indicated"),
     (4, "23"),
@@ -38,7 +38,7 @@ pub(crate) const UP_TO_24: &[(u8, &str)] = &[
     (5, "24"),
 ];
 
-/// Sample word lengths where the greatest is 20 bits (AES3-2, IEC 60958-3).
+/// Sample word lengths if the greatest is 20 bits (AES3-2, IEC 60958-3).
 pub(crate) const UP_TO_20: &[(u8, &str)] = &[
     (0, "not-indicated"),
     (4, "19"),
@@ -48,10 +48,10 @@ pub(crate) const UP_TO_20: &[(u8, &str)] = &[
     (5, "20"),
 ];
 
-/// Sample word lengths where the greatest isn't told (AES3-2).
+/// Sample word lengths if the greatest isn't indicated (AES3-2).
 pub(crate) const UP_TO_ANY: &[(u8, &str)] = &[(0, "not-indicated")];
 
-/// The word of a code in a table whose rows are a code and its word: that of the first such row.
+/// The word of a code in a table of codes and their words: that of the first row with the code.
 pub fn word_of<'a>(words: &[(u8, &'a str)], code: u8) -> Option<&'a str>
     requires { IsTrue (are_within WORD_LEN words.now) }
     ensures word { option_copied result ≡ word_of (rows_of words.now) code }
@@ -118,8 +118,8 @@ impl Line {
         }
     }
 
-    /// Appends a field with the word of this code, or `code` and the number where the table has
-    /// none.
+    /// Appends a field with the word of this code, or `code` and the number if the table has no
+    /// word for it.
     #[tactic(auto, unfolding(crate::specs::Fields::field_text, crate::specs::Words::word_for))]
     pub(crate) fn word_field(&mut self, name: &str, words: &[(u8, &str)], code: u8)
         requires name { length name.now ≤ NAME_LEN }
@@ -139,7 +139,7 @@ impl Line {
         }
     }
 
-    /// Appends a field with four characters; `.` stands for a byte that is none from `!` to `~`.
+    /// Appends a field with four characters, with `.` for each byte that is not from `!` to `~`.
     #[tactic(auto, unfolding(crate::specs::Fields::field_text))]
     pub(crate) fn characters_field(&mut self, name: &str, characters: [u8; 4])
         requires name { length name.now ≤ NAME_LEN }
@@ -191,7 +191,7 @@ fn shown(byte: u8) -> u8
     if byte.is_ascii_graphic() { byte } else { b'.' }
 }
 
-/// The bit at a place as a digit.
+/// The bit at a place, as a digit.
 fn digit(bits: u8, place: u32) -> u8
     requires { place < 8 }
     ensures { result ≡ 48 + bit_at bits place }

@@ -1,6 +1,6 @@
-//! Channel status as text (AES3-2, IEC 60958-3): what is printed of each code of a field, the setting
-//! that such a text finds, and what could stand in its place. Beside them how lines are written, as a
-//! command line asks for it.
+//! Channel status as text (AES3-2, IEC 60958-3): the text that each code of a field is printed as,
+//! the setting that such a text selects, and the possible texts. Also how lines are written, as a
+//! command line selects it.
 #![tactic(auto)]
 
 /// What the fields of channel status can be set to, as text.
@@ -13,13 +13,13 @@ mod detail;
 mod fields;
 /// Laws of what is printed of channel status.
 pub mod laws;
-/// A line in the making, from its beginning.
+/// A line that is being written, from its beginning.
 mod line;
 /// Which reports get a line.
 mod lines;
 /// The settings of several texts.
 mod listed;
-/// The words of codes that a line has as numbers.
+/// The words of codes that are numbers in a line.
 mod names;
 /// The fields of a status for professional use.
 mod professional;
@@ -29,11 +29,11 @@ mod settings;
 mod status;
 /// How the lines of events are written.
 mod style;
-/// Settings as they were typed.
+/// Settings as typed.
 mod typed;
 /// Settings that no block took.
 mod untaken;
-/// The fields that have four whole bytes, by their names.
+/// The fields that are four whole bytes, by their names.
 mod wide;
 
 pub use choices::add_choices;

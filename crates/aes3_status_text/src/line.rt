@@ -1,4 +1,4 @@
-//! A line in the making.
+//! A line that is being written.
 
 use aes3_cell::{Fault, Sink, write_all};
 use arrayvec::ArrayVec;
@@ -43,7 +43,7 @@ impl Line {
         }
     }
 
-    /// The line of a refusal: the program's name, the refusal's number, and its place if it has one.
+    /// The line of an error: the program's name, the error's number, and its place if it has one.
     pub fn of_refusal(program: &str, number: u8, place: Option<u64>) -> Line
         requires { length program.now ≤ NAME_LEN }
         ensures { result ≡ refusal_text program.now number place }
@@ -120,10 +120,10 @@ impl Line {
         self.bytes.clear();
     }
 
-    /// Hands it to the sink as one buffer.
+    /// Writes the line to the sink as one buffer.
     ///
     /// # Errors
-    /// The sink's fault; then it has taken a front of it.
+    /// The sink's fault; then it has taken a front of the line.
     pub fn hand_on<T: Sink>(&self, sink: &mut T) -> Result<(), Fault>
         requires room { T.failed sink.old + 1 < 2 ^ 64 }
         ensures { Wrote T.taken T.failed sink.old sink.new self.now result }

@@ -15,13 +15,13 @@ pub const TEXTS: usize = SETTINGS / 2;
 /// Why texts have no settings.
 #[derive(Clone, Copy)]
 pub enum SettingsFault {
-    /// Text number `at`, from 0, sets nothing, the first such text.
+    /// Text number `at`, counted from 0, is the first one that sets nothing.
     Unknown { at: usize },
     /// There are more than 32 texts.
     TooMany,
 }
 
-/// What one text sets: a field of status for each use, or one of four bytes.
+/// What one text sets: a field of status for each use, or a field of four bytes.
 #[derive(Clone, Copy)]
 struct Pair {
     professional: Setting,
@@ -29,7 +29,7 @@ struct Pair {
     wide: Option<(WideField, [u8; 4])>,
 }
 
-/// What a text sets; `None` where it is nothing.
+/// What a text sets; `None` if it sets nothing.
 fn pair_of(text: &str) -> Option<Pair>
     ensures known { IfSome result (λ pair. ¬ IsUnknown text.now) }
     ensures professional { IfSome result (λ pair.
@@ -52,12 +52,12 @@ fn pair_of(text: &str) -> Option<Pair>
 }
 
 /// The settings of texts `NAME=WORD` as `show` prints them, in their order. Each text has two
-/// places among the codes, one for the setting of professional status (AES3-2) and one for that of
-/// consumer status (IEC 60958-3). Of the texts for a field of four bytes the last counts.
+/// places among the codes: one for the setting of professional status (AES3-2), one for that of
+/// consumer status (IEC 60958-3). Of several texts for a field of four bytes the last counts.
 ///
 /// # Errors
-/// `Unknown` where `show` prints no field so as a text, and it names no field of four bytes either
-/// or has no word for it; `TooMany` where there are more than 32 texts.
+/// `Unknown` if `show` prints no field as this text, and it sets no field of four bytes either.
+/// `TooMany` if there are more than 32 texts.
 pub fn settings_of_texts(texts: &[&str]) -> Result<Settings, SettingsFault>
     ensures settings { IfOk result (AreSettingsOf (map (λ text. text.now) texts.now)) }
     ensures fault { IfErr result (IsSettingsFault (map (λ text. text.now) texts.now)) }

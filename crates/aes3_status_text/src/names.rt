@@ -1,8 +1,8 @@
-//! The words of codes that a line of channel status has as numbers (AES3-2, IEC 60958-3).
+//! The words of codes that are numbers in a line of channel status (AES3-2, IEC 60958-3).
 //!
-//! The tables are those of ALSA's `alsa/asoundef.h` (`libasound2-dev` 1.2.8), but for the sampling
-//! frequencies of byte 4 of professional use, which it does not name: a code that has no name in
-//! them has no word here.
+//! The tables are those of ALSA's `alsa/asoundef.h` (`libasound2-dev` 1.2.8), except for the
+//! sampling frequencies of byte 4 of professional use, which it does not name. A code without a
+//! name in them has no word here.
 
 ghost use Rattle.std.specs.Prelude.{◌≡◌, ◌≤◌, ◌+◌, ◌++◌, length, IfSome, IsTrue};
 ghost use Rattle.std.specs.Option.{option_copied};
@@ -19,8 +19,8 @@ use aes3_status::{ConField, Field, ProField};
 /// Channel modes of professional use (byte 1 bits 0 to 3; `IEC958_AES1_PRO_MODE`).
 const MODE: &[(u8, &str)] = &[(15, "vector-to-byte-3")];
 
-/// Sampling frequencies of professional use in hertz where byte 0 has no code for them (byte 4 bits 3
-/// to 6; AES3-2).
+/// Sampling frequencies of professional use in hertz that byte 0 has no code for (byte 4 bits 3 to
+/// 6; AES3-2).
 const FREQUENCY: &[(u8, &str)] = &[
     (1, "24000"),
     (2, "96000"),
@@ -107,7 +107,7 @@ fn original_names() -> &'static [(u8, &'static str)]
     ORIGINAL
 }
 
-/// The name of a field, as `show` prints it; of the use `show` prints the word alone.
+/// The name of a field, as `show` prints it. For the use, `show` prints only the word.
 pub fn name_of(field: Field) -> &'static str
     ensures name { result.now ≡ name_of field }
     ensures len { length result.now ≤ NAME_LEN }
@@ -119,7 +119,7 @@ pub fn name_of(field: Field) -> &'static str
     }
 }
 
-/// The words of a field's codes, none where no code of it has one.
+/// The words of a field's codes; none if no code of it has one.
 fn code_names(field: Field) -> &'static [(u8, &'static str)]
     ensures rows { rows_of result.now ≡ code_names field }
     ensures short { IsTrue (are_within WORD_LEN result.now) }
@@ -134,8 +134,8 @@ fn code_names(field: Field) -> &'static [(u8, &'static str)]
     }
 }
 
-/// The word of a field's code, in the terms of the standards (AES3-2, IEC 60958-3); `None` where
-/// it has none, or where `show` prints one without being asked for names.
+/// The word of a field's code, in the terms of the standards (AES3-2, IEC 60958-3). `None` if it
+/// has no word, or if `show` prints one without `--names`.
 pub fn name_of_code(field: Field, code: u8) -> Option<&'static str>
     ensures word { option_copied result ≡ word_of (code_names field) code }
     ensures len { IfSome result (λ word. length word.now ≤ WORD_LEN) }
@@ -143,7 +143,7 @@ pub fn name_of_code(field: Field, code: u8) -> Option<&'static str>
     word_of(code_names(field), code)
 }
 
-/// Appends the word of a code as a field, where it has one.
+/// Appends the word of a code as a field, if it has one.
 pub(crate) fn put_name(line: &mut Line, field: Field, code: u8)
     requires { length line.old + FIELD_LEN ≤ LINE_LEN }
     ensures name { line.new ≡ line.old ++ name_text field code }

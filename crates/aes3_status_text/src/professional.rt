@@ -47,7 +47,8 @@ const AUX: &[(u8, &str)] = &[
     (6, "user"),
 ];
 
-/// The sample word lengths under this use of the auxiliary bits, which tells the greatest (byte 2).
+/// The sample word lengths for this use of the auxiliary bits, which determines the greatest (byte
+/// 2).
 fn length_words(aux: u8) -> &'static [(u8, &'static str)]
     ensures rows { rows_of result.now ≡ length_words aux }
     ensures short { IsTrue (are_within WORD_LEN result.now) }
@@ -59,7 +60,7 @@ fn length_words(aux: u8) -> &'static [(u8, &'static str)]
     }
 }
 
-/// How the status stands to its check byte, in one word (byte 23).
+/// The state of the check byte, in one word (byte 23).
 fn check_word(check: Check) -> &'static str
     ensures word { result.now ≡ check_word check }
     ensures len { length result.now ≤ WORD_LEN }
@@ -95,8 +96,8 @@ pub(crate) fn professional_name(field: ProField) -> &'static str
     }
 }
 
-/// Whether the line has the field by itself: the sampling frequency of byte 4 stands in that of the
-/// whole byte.
+/// Whether the line shows the field by itself. The sampling frequency of byte 4 is shown only as
+/// part of the whole byte.
 fn is_in_line(field: ProField) -> bool
     ensures { result ≡ is_in_line field }
 {
@@ -106,8 +107,8 @@ fn is_in_line(field: ProField) -> bool
     }
 }
 
-/// Appends a code of a field, where the number `under` tells what its codes mean; nothing where the
-/// line does not have the field by itself.
+/// Appends a code of a field; `under` determines what its codes mean. Appends nothing if the line
+/// does not show the field by itself.
 pub(crate) fn put_professional_code(line: &mut Line, field: ProField, under: u8, code: u8)
     requires { length line.old + FIELD_LEN ≤ LINE_LEN }
     ensures code { line.new ≡ line.old ++ pro_text field under code }
@@ -144,7 +145,7 @@ fn put_line_code(line: &mut Line, field: ProField, under: u8, code: u8)
     }
 }
 
-/// Appends the code of a field of a status, where the number `under` tells what its codes mean.
+/// Appends the code of a field of a status; `under` determines what its codes mean.
 fn put_field(line: &mut Line, status: &Pro, field: ProField, under: u8)
     requires { length line.old + FIELD_LEN ≤ LINE_LEN }
     ensures field { line.new ≡ line.old ++ pro_text field under (number_at (pro_place field) status.now) }

@@ -15,7 +15,7 @@ use crate::professional::put_professional_code;
 use aes3_status::{ConField, Field, ProField, Setting};
 
 /// The fields of professional status (AES3-2) that can be set: its use, the others as `show` prints
-/// them, and the sampling frequency of byte 4, which `show --names` prints behind the line.
+/// them, and the sampling frequency of byte 4, which `show --names` appends to the line.
 pub(crate) const PROFESSIONAL: &[Field] = &[
     Field::Use,
     Field::Professional(ProField::Payload),
@@ -55,7 +55,7 @@ pub(crate) const CONSUMER: &[Field] = &[
     Field::Consumer(ConField::Original),
 ];
 
-/// Appends a code of a field, where the number `under` tells what its codes mean.
+/// Appends a code of a field; `under` determines what its codes mean.
 pub(crate) fn put_code(line: &mut Line, field: Field, under: u8, code: u8)
     requires { length line.old + FIELD_LEN ≤ LINE_LEN }
     ensures code { line.new ≡ line.old ++ code_text field under code }
@@ -68,8 +68,8 @@ pub(crate) fn put_code(line: &mut Line, field: Field, under: u8, code: u8)
     }
 }
 
-/// Whether `show` prints a code of a field as this text, where the number `under` tells what its
-/// codes mean, or `show --names` does.
+/// Whether `show` or `show --names` prints a code of a field as this text; `under` determines what
+/// its codes mean.
 fn is_printed_so(field: Field, under: u8, code: u8, text: &str) -> bool
     ensures { IsTrue result ↔ IsPrintedSo text.now field under code }
 {
@@ -83,8 +83,7 @@ fn is_printed_so(field: Field, under: u8, code: u8, text: &str) -> bool
     line.is_spaced(text)
 }
 
-/// The first code of a field that is printed as this text, where the number `under` tells what its
-/// codes mean.
+/// The first code of a field that is printed as this text; `under` determines what its codes mean.
 pub(crate) fn code_of(field: Field, under: u8, text: &str) -> Option<u8>
     ensures some { IfSome result (IsCodeOf text.now field under) }
     ensures none { result ≡ None → (code : ℕ) → ¬ IsCodeOf text.now field under code }
@@ -97,8 +96,8 @@ pub(crate) fn code_of(field: Field, under: u8, text: &str) -> Option<u8>
     None
 }
 
-/// The codes of a field that are printed as this text, by the number that tells what its codes
-/// mean.
+/// The codes of a field that are printed as this text, for each value of the number that determines
+/// what its codes mean.
 fn codes_of(field: Field, text: &str) -> [Option<u8>; 8]
     ensures len { length result ≡ 8 }
     ensures some { (under : ℕ) → under < 8 → IfSome (get_or result under None)
@@ -118,7 +117,7 @@ fn codes_of(field: Field, text: &str) -> [Option<u8>; 8]
     ]
 }
 
-/// Whether there is a code.
+/// Whether there is any code.
 fn has_code(codes: &[Option<u8>; 8]) -> bool
     ensures some { IsTrue result → (under : ℕ) × (under < 8)
         × (get_or codes.now under None ≢ None) }
@@ -132,7 +131,7 @@ fn has_code(codes: &[Option<u8>; 8]) -> bool
     false
 }
 
-/// The setting of one of the fields that is printed as this text.
+/// The setting of one of these fields that is printed as this text.
 fn setting_in(fields: &[Field], text: &str) -> Option<Setting>
     ensures some { IfSome result (IsSettingOf text.now fields.now) }
     ensures none { result ≡ None → IsNoSetting text.now fields.now }
@@ -149,9 +148,9 @@ fn setting_in(fields: &[Field], text: &str) -> Option<Setting>
     None
 }
 
-/// The setting of a field of professional status (AES3-2) by a text `NAME=WORD` as `show` prints
-/// it, a code without a word as `code` and its number, or as `show --names` tells it behind the
-/// line; `None` where no code of such a field is printed so.
+/// The setting of a field of professional status (AES3-2) by a text `NAME=WORD`, as `show` or `show
+/// --names` prints it. A code without a word is printed as `code` and its number. `None` if no code
+/// of such a field is printed as this text.
 pub fn professional_setting(text: &str) -> Option<Setting>
     ensures some { IfSome result (IsSettingOf text.now professional_fields) }
     ensures shown { IfSome result (IsShownThen text.now) }
@@ -160,7 +159,7 @@ pub fn professional_setting(text: &str) -> Option<Setting>
     setting_in(PROFESSIONAL, text)
 }
 
-/// The same of consumer status (IEC 60958-3).
+/// The same for consumer status (IEC 60958-3).
 pub fn consumer_setting(text: &str) -> Option<Setting>
     ensures some { IfSome result (IsSettingOf text.now consumer_fields) }
     ensures shown { IfSome result (IsShownThen text.now) }

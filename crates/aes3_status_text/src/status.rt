@@ -8,7 +8,7 @@ use crate::line::{LINE_LEN, Line};
 use crate::professional::put_professional;
 use aes3_status::{Status, check_state};
 
-/// How many bytes a channel status has at most, as it is printed.
+/// How many bytes a printed channel status has at most.
 pub const STATUS_LEN: usize = 800;
 
 /// Appends the use and the fields of a channel status (AES3-2, IEC 60958-3), each with a space

@@ -1,9 +1,9 @@
 //! How the lines of events are written.
 
-/// As what the line of an event is written.
+/// The notation of the line of an event.
 #[derive(Clone, Copy, PartialEq, Eq)]
 pub enum Notation {
-    /// As words.
+    /// In words.
     Words,
     /// As a JSON object.
     Json,
@@ -13,6 +13,6 @@ pub enum Notation {
 #[derive(Clone, Copy, PartialEq, Eq)]
 pub struct Style {
     pub notation: Notation,
-    /// How many frames a second has, one at least, where times are written.
+    /// The number of frames in a second, at least one, if times are written.
     pub rate: Option<u32>,
 }

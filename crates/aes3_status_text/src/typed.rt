@@ -1,4 +1,4 @@
-//! Settings as they were typed.
+//! Settings as typed.
 
 ghost use Rattle.std.specs.Prelude.{◌≡◌, map, take};
 ghost use Rattle.aes3_status_text.specs.Untaken.{texts_of};
@@ -6,17 +6,17 @@ ghost use Rattle.aes3_status_text.specs.Untaken.{texts_of};
 use crate::listed::TEXTS;
 use arrayvec::ArrayVec;
 
-/// The texts that set fields of each channel, as they were typed, in their order.
+/// The texts that set fields of each channel, as typed, in their order.
 #[derive(Drop)]
 pub struct TypedSettings<'a> {
-    /// Those of channel 1.
+    /// The texts of channel 1.
     pub first: ArrayVec<&'a str, TEXTS>,
-    /// Those of channel 2.
+    /// The texts of channel 2.
     pub second: ArrayVec<&'a str, TEXTS>,
 }
 
 impl<'a> TypedSettings<'a> {
-    /// These texts of channel 1 and of channel 2, of each channel the first 32.
+    /// These texts of channel 1 and of channel 2, the first 32 of each channel.
     pub fn new(first: &[&'a str], second: &[&'a str]) -> Self
         ensures first { texts_of result.first ≡ take 32 (map (λ text. text.now) first.now) }
         ensures second { texts_of result.second ≡ take 32 (map (λ text. text.now) second.now) }

@@ -14,7 +14,7 @@ fn has_code(setting: &Setting) -> bool
     setting.codes.iter().any(Option::is_some)
 }
 
-/// Whether a status took what text number `at` sets: one of its codes, or, where it has none, the
+/// Whether a status took what text number `at` sets: one of its codes, or, if it has no codes, the
 /// field of four bytes that it sets.
 fn is_taken(settings: &Settings, taken: &Taken, at: usize) -> bool
     requires { at < TEXTS }
@@ -27,9 +27,9 @@ fn is_taken(settings: &Settings, taken: &Taken, at: usize) -> bool
     }
 }
 
-/// What a status lacks that takes nothing of a text, by whether this has a code for professional
-/// and for consumer use. A text with neither sets a field of four bytes, which are for professional
-/// use.
+/// What a status lacks if it takes nothing of a text. It depends on whether the text has a code for
+/// professional and for consumer use. A text with neither sets a field of four bytes, which only
+/// professional status has.
 fn remedy(professional: bool, consumer: bool) -> &'static str
     ensures { result.now ≡ remedy professional consumer }
 {
@@ -41,9 +41,9 @@ fn remedy(professional: bool, consumer: bool) -> &'static str
     }
 }
 
-/// What stands behind text number `at` in the line which says that no status took what it sets;
-/// `None` where one did. Of several texts that set the same field each is taken where a status has a
-/// code for it at its turn.
+/// What follows text number `at` in the line which says that no status took its setting; `None` if
+/// one did. Of several texts that set the same field, each is taken if a status has a code for it
+/// when it is applied.
 pub fn untaken_remedy(settings: &Settings, taken: &Taken, at: usize) -> Option<&'static str>
     requires { at < TEXTS }
     ensures { option_map (λ remedy. remedy.now) result ≡ untaken_remedy settings.now taken.now at }

@@ -1,4 +1,4 @@
-//! Texts of the fields of professional channel status that have four whole bytes.
+//! Texts of the fields of professional channel status that are four whole bytes.
 
 ghost use Rattle.std.specs.Prelude.{◌≡◌, ◌≤◌, get_or, length};
 ghost use Rattle.std.specs.List.{list_all};
@@ -18,14 +18,14 @@ fn is_printable(byte: &u8) -> bool
     byte.is_ascii_graphic() || *byte == b' '
 }
 
-/// Whether each of these is.
+/// Whether all these bytes are.
 fn are_printable(word: &[u8]) -> bool
     ensures { result ≡ list_all is_printable word.now }
 {
     word.iter().all(is_printable)
 }
 
-/// Whether these begin with a character from `!` to `~`.
+/// Whether these bytes begin with a character from `!` to `~`.
 fn begins_graphic(word: &[u8]) -> bool
     ensures { result ≡ is_character (get_or word.now 0 32) }
 {
@@ -35,14 +35,14 @@ fn begins_graphic(word: &[u8]) -> bool
     }
 }
 
-/// Whether these are one to four characters, of which the first is no space.
+/// Whether these bytes are one to four characters, the first not a space.
 fn is_label(word: &[u8]) -> bool
     ensures { result ≡ is_label word.now }
 {
     (word.len() <= FIELD_BYTES) & begins_graphic(word) & are_printable(word)
 }
 
-/// These characters with spaces behind them.
+/// These characters, padded with spaces.
 fn padded(word: &[u8]) -> [u8; FIELD_BYTES]
     requires { length word.now ≤ FIELD_BYTES }
     ensures { result ≡ padded word.now }
@@ -52,8 +52,8 @@ fn padded(word: &[u8]) -> [u8; FIELD_BYTES]
     characters
 }
 
-/// The four characters that a word of one to four stands for: spaces may stand in it, and are put
-/// behind it.
+/// The four characters of a word of one to four, which may contain spaces: it is padded with
+/// spaces.
 fn characters_of(word: &str) -> Option<[u8; FIELD_BYTES]>
     ensures { result ≡ characters_in word.now }
 {
@@ -65,7 +65,7 @@ fn characters_of(word: &str) -> Option<[u8; FIELD_BYTES]>
     }
 }
 
-/// The four bytes of the number that a word writes, the lowest first.
+/// The four bytes of the number that a word represents, the lowest first.
 fn address_of(word: &str) -> Option<[u8; 4]>
     ensures { result ≡ address_in word.now }
 {
@@ -88,7 +88,7 @@ pub(crate) fn wide_named(name: &str) -> Option<WideField>
     }
 }
 
-/// The four bytes that a word is for a field.
+/// The four bytes of a word for a field.
 fn four_of(field: WideField, word: &str) -> Option<[u8; 4]>
     ensures { result ≡ four_in field word.now }
 {
@@ -98,9 +98,8 @@ fn four_of(field: WideField, word: &str) -> Option<[u8; 4]>
     }
 }
 
-/// The field that a text `NAME=WORD` names, and the four bytes that its word is for it: characters
-/// as they are, of an address the number of 32 bits with the lowest byte first (AES3-2, bytes 6 to
-/// 21).
+/// The field that a text `NAME=WORD` names, and the four bytes of its word: characters as they are,
+/// or the number of 32 bits of an address, lowest byte first (AES3-2, bytes 6 to 21).
 pub(crate) fn wide_of(text: &str) -> Option<(WideField, [u8; 4])>
     ensures { result ≡ wide_in text.now }
 {
@@ -110,7 +109,7 @@ pub(crate) fn wide_of(text: &str) -> Option<(WideField, [u8; 4])>
     Some((field, four))
 }
 
-/// Takes what a text sets, in place of what those before it set of the same field.
+/// Takes what a text sets, in place of what earlier texts set in the same field.
 pub(crate) fn take_wide(wide: &mut WideSettings, set: Option<(WideField, [u8; 4])>)
     ensures { wide.new ≡ with_wide set wide.old }
 {

@@ -1,10 +1,10 @@
-//! Where a block carries channel status, its samples, and block files read by words.
+//! The places of channel status in a block, its samples, and reading block files by words.
 
 use crate::status::with_byte;
 use aes3_block::{Block, BlockFile, Channel, FileFault, Frame, Subframe, samples_of_block};
 
-/// Whether of all first payloads of a block that of one frame alone has a bit, the last but one, and
-/// no second payload has any.
+/// Whether, among the first payloads of a block, only that of one frame has a bit, the last but
+/// one, and no second payload has any.
 fn has_bit_in(block: &Block, frame: usize) -> bool {
     for i in 0..192 {
         let carried = block.frame(i);
@@ -16,7 +16,7 @@ fn has_bit_in(block: &Block, frame: usize) -> bool {
     true
 }
 
-/// Whether a channel status that has one bit is carried in this frame.
+/// Whether a channel status with a single bit is carried in this frame.
 fn is_carried_in(status: &[u8; 24], frame: usize) -> bool {
     let mut block = Block::zero();
     block.set_channel_status(Channel::First, status);
@@ -44,7 +44,7 @@ const WORD: &[u8; 4] = &[0x10, 0, 0, 0x80];
 /// The same without the parity bit.
 const WRONG: &[u8; 4] = &[0x10, 0, 0, 0];
 
-/// A word's bytes one by one, as far as they are no fault: whether they end a block.
+/// Feeds a word's bytes one by one, as long as there is no fault. Returns whether they end a block.
 fn by_bytes(file: &mut BlockFile, bytes: &[u8; 4]) -> Result<bool, FileFault> {
     let mut block = false;
     for byte in bytes.iter() {
@@ -60,7 +60,7 @@ fn is_taken(file: &mut BlockFile, bytes: &[u8; 4]) -> bool {
     file.seen() < 1 << 20 && file.feed_word(bytes)
 }
 
-/// Whether all words of a block but the last are taken at once, and that one byte by byte.
+/// Whether all words of a block but the last are taken at once, and the last one byte by byte.
 fn takes_a_block(file: &mut BlockFile) -> bool {
     for _ in 0..383 {
         if !is_taken(file, WORD) {
@@ -70,8 +70,8 @@ fn takes_a_block(file: &mut BlockFile) -> bool {
     !is_taken(file, WORD) && by_bytes(file, WORD) == Ok(true)
 }
 
-/// Whether a word behind a block that is not lawful is left to be refused byte by byte, and none is
-/// taken behind it.
+/// Whether an invalid word after a block is left to be rejected byte by byte, and no word after it
+/// is taken.
 fn refuses_a_word(file: &mut BlockFile) -> bool {
     let fault = FileFault::BadParity { at: 384 };
     let is_left = !is_taken(file, WRONG) && file.seen() == 1_536;
@@ -98,7 +98,7 @@ fn samples_of_subframes(rt: HostRuntime) {
     assert!(rt; samples_of(16_777_216).is_none());
 }
 
-/// A block of zeros but for the last frame.
+/// A block of zeros except for the last frame.
 fn with_last_frame() -> Option<Block> {
     let mut block = Block::zero();
     let frame = Frame {
@@ -109,7 +109,7 @@ fn with_last_frame() -> Option<Block> {
     Some(block)
 }
 
-/// Whether the samples of a block are zeros but for the last two, which are these.
+/// Whether the samples of a block are zeros except for the last two, which are these.
 fn ends_in_samples(block: &Block, last: &[u8; 8]) -> bool {
     let mut samples = [0; 1_536];
     samples[1_528..].copy_from_slice(last);

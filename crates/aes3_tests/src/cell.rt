@@ -1,4 +1,5 @@
-//! Worked rows of both written forms of cells, the refusals, and ends that fail or move few bytes.
+//! Worked rows of both written forms of cells, their errors, and sources and sinks that fail or
+//! move few bytes.
 
 use aes3_cell::{
     BadCell, BadPadding, BufferedSink, CellText, FailingSink, Fault, Form, HoldingSink, Level,
@@ -55,7 +56,7 @@ fn cells_among_separators(rt: HostRuntime) {
     assert!(rt; CellText::new().feed_scattered(&bytes).is_none());
 }
 
-/// Octets of packed cells, and what stands at their end.
+/// Octets of packed cells, and the result at their end.
 type PackedRow = (&'static [u8], Result<Option<(u8, u8)>, BadPadding>);
 
 const PACKED_ROWS: &[PackedRow] = &[
@@ -71,7 +72,7 @@ const PACKED_ROWS: &[PackedRow] = &[
     (&[], Err(BadPadding { at: 0 })),
 ];
 
-/// A reader of packed cells behind a few octets.
+/// A reader of packed cells after a few octets.
 fn packed_in(octets: &[u8]) -> PackedIn {
     let mut packed = PackedIn::new();
     for octet in octets.iter() {
@@ -89,7 +90,7 @@ fn packed_rows_read(rt: HostRuntime) {
     }
 }
 
-/// The word of the cells that stand before the last octet, and how many octets are then seen.
+/// The word of the cells before the last octet, and how many octets have been taken then.
 fn word_behind_two(octets: &[u8; 8]) -> Option<(u64, u64)> {
     let mut packed = packed_in(&[0x01, 0x03]);
     if packed.seen() != 2 {
@@ -206,7 +207,7 @@ fn sinks_over_memory(rt: HostRuntime) {
     assert!(rt; takes_three(rt.alloc()) && passes_on_at_a_flush(rt.alloc()));
 }
 
-/// Puts 130 times 16 lines through a buffer, which is more than it holds, and passes them on.
+/// Puts 130 times 16 lines through a buffer, more than it can hold, and flushes it.
 fn put_through<T: Sink + Drop>(sink: &mut BufferedSink<T>) -> Result<(), Fault> {
     for _ in 0..130 {
         if sink.failures() > 0 {
@@ -220,7 +221,7 @@ fn put_through<T: Sink + Drop>(sink: &mut BufferedSink<T>) -> Result<(), Fault> 
     sink.flush()
 }
 
-/// Whether bytes are so many lines of the word.
+/// Whether bytes are `lines` lines of the word.
 fn are_lines(bytes: &[u8], lines: usize) -> bool {
     for (i, byte) in bytes.iter().enumerate() {
         let column = i % 65;
@@ -249,7 +250,7 @@ fn buffered_sinks(rt: HostRuntime) {
     assert!(rt; tells_the_second_write(rt.alloc()) == Ok(true));
 }
 
-/// What is answered where nothing, five bytes and a flush go to a place for three.
+/// The results of writing nothing, five bytes and a flush to a place for three bytes.
 fn put_five(
     place: &mut [u8],
 ) -> (
@@ -289,7 +290,7 @@ impl Read for InterruptedReader {
     }
 }
 
-/// What a read of three bytes behind so many interruptions answers, and the bytes.
+/// The result of a read of three bytes after `left` interruptions, and the bytes.
 fn read_three(left: u32) -> (Result<usize, Fault>, [u8; 3]) {
     let mut piece = *b"000";
     let mut source = StdSource::new(InterruptedReader { left });

@@ -1,5 +1,5 @@
-//! Three blocks one behind the other, of zeros or of speech, of which cells are changed, lost or
-//! put in: the blocks that the lock gives are those that the laws of damage name.
+//! Three blocks in a row, of zeros or of speech, with cells changed, lost or inserted: the blocks
+//! that the lock gives are those that the laws of damage name.
 ghost use Rattle.std.specs.Prelude.{◌<◌, ◌≤◌};
 
 use aes3_block::{Block, mark_of};
@@ -8,7 +8,7 @@ use aes3_lock::{Lock, Report};
 use aes3_slot::slots_cells;
 use std::alloc::{AllocError, Global};
 
-/// The bits of the slots of 24 subframes, which the blocks have again and again.
+/// The bits of the slots of 24 subframes, which the blocks repeat.
 type Subframes = [u32; 24];
 
 const ZEROS: Subframes = [0; 24];
@@ -31,28 +31,28 @@ const STARTS: [usize; 3] = [0, 24_576, 49_152];
 /// Many more cells than a test has.
 const MANY: u64 = 1 << 40;
 
-/// A place behind all cells.
+/// A place after all cells.
 const NOWHERE: usize = 80_000;
 
-/// How many blocks a test looks at.
+/// How many blocks a test checks.
 const ROOM: usize = 4;
 
 #[derive(Clone, Copy)]
 enum Damage {
-    /// The cells at these places changed; the places rise.
+    /// The cells at these places are changed; the places are in rising order.
     Changed([usize; 4]),
     Lost(usize),
-    /// A cell put in before the one at this place.
+    /// A cell is inserted before the one at this place.
     Inserted(usize, Level),
 }
 
-/// A block that is given: its place, and of a payload that is another one than it was the subframe
-/// and the bits.
+/// A block that is given: its place, and if a payload differs from what it was, the subframe and
+/// the bits that differ.
 #[derive(Clone, Copy, PartialEq, Eq)]
 struct Given {
     at: u64,
     other: Option<(usize, u32)>,
-    /// More than one payload is another one, or the level before it is.
+    /// More than one payload differs, or the level before the block does.
     more: bool,
 }
 
@@ -75,7 +75,7 @@ fn block_given(at: u64, before: Level, block: &Block, subframes: &Subframes) -> 
     Given { at, other, more }
 }
 
-/// The blocks that are given, as many as there is room for.
+/// The blocks that are given, up to the room for them.
 #[derive(Drop)]
 struct Found {
     blocks: [Option<Given>; ROOM],
@@ -138,7 +138,7 @@ fn push_each(
     }
 }
 
-/// The blocks that the lock gives of the subframes three times, with some damage.
+/// The blocks that the lock gives for three times the subframes, with some damage.
 fn blocks_of(words: &[u64], subframes: &Subframes, damage: Damage) -> [Option<Given>; ROOM] {
     let mut found = Found::new();
     let mut lock = Lock::new();
@@ -171,7 +171,7 @@ fn is_one_in(places: &[usize; 4], word: usize) -> bool {
     false
 }
 
-/// What stands in place of cell `k` of a word.
+/// What replaces cell `k` of a word.
 fn damaged(damage: Damage, word: usize, k: usize, cell: Level) -> (Option<Level>, Option<Level>) {
     match damage {
         Damage::Changed(places) => (Some(changed(&places, word, k, cell)), None),
@@ -185,7 +185,7 @@ fn is_at(place: usize, word: usize, k: usize) -> bool {
     place / 64 == word && place % 64 == k
 }
 
-/// The cell, changed where one of these places is its own.
+/// The cell, changed if it is at one of these places.
 fn changed(places: &[usize; 4], word: usize, k: usize, cell: Level) -> Level {
     for place in places.iter() {
         if is_at(*place, word, k) {
@@ -195,7 +195,7 @@ fn changed(places: &[usize; 4], word: usize, k: usize, cell: Level) -> Level {
     cell
 }
 
-/// The block that begins at a place as it was, or with other bits in one payload.
+/// The block that begins at a place, unchanged or with other bits in one payload.
 fn block_at(start: usize, other: Option<(usize, u32)>) -> Option<Given> {
     Some(Given {
         at: start as u64,
@@ -204,7 +204,7 @@ fn block_at(start: usize, other: Option<(usize, u32)>) -> Option<Given> {
     })
 }
 
-/// What changed cells leave of a block: all of it, nothing, or one with the bits of two slots
+/// What changed cells leave of a block: all of it, nothing, or a block with the bits of two slots
 /// inverted.
 fn left_of_changed(places: &[usize; 4], start: usize) -> Option<Given>
     requires { start ≤ 50_000 }
@@ -244,7 +244,7 @@ fn left_of(damage: Damage, start: usize) -> Option<Given>
         }
         Damage::Lost(place) if place - start < BLOCK_LEN => None,
         Damage::Lost(_) => block_at(start, None),
-        // A cell more in the first run of the preamble makes it one cell longer.
+        // One more cell in the first run of the preamble only makes the run longer.
         Damage::Inserted(place, level) => {
             if place <= start || (place - start <= 3 && level == Level::High) {
                 block_at(start + 1, None)
@@ -292,7 +292,7 @@ fn is_left_each_way(words: &[u64], subframes: &Subframes, place: usize) -> bool 
         && is_left(words, subframes, Damage::Inserted(place, Level::High))
 }
 
-/// Every cell of the subframes before and behind the borders of the second block.
+/// Tests every cell of the subframes before and after the borders of the second block.
 fn is_left_around_borders(words: &[u64], subframes: &Subframes) -> bool {
     for first in [24_512_usize, 24_576, 49_088, 49_152] {
         for k in 0..65 {
@@ -304,21 +304,21 @@ fn is_left_around_borders(words: &[u64], subframes: &Subframes) -> bool {
     true
 }
 
-/// A place among the cells by a number.
+/// A place among the cells, derived from a number.
 fn place_of(number: u64) -> usize
     ensures { result < 73728 }
 {
     (number >> 16) as usize % 73_728
 }
 
-/// The next of a row of numbers (xorshift).
+/// The next number of a sequence (xorshift).
 fn next(number: u64) -> u64 {
     let number = number ^ (number << 13);
     let number = number ^ (number >> 7);
     number ^ (number << 17)
 }
 
-/// A cell, a pair that rises and three that rise.
+/// Tests one cell, a rising pair and a rising triple.
 fn is_left_of_three(words: &[u64], subframes: &Subframes, a: usize, b: usize, c: usize) -> bool {
     let pair = Damage::Changed([a, b, NOWHERE, NOWHERE]);
     let three = Damage::Changed([a, b, c, NOWHERE]);
@@ -327,7 +327,7 @@ fn is_left_of_three(words: &[u64], subframes: &Subframes, a: usize, b: usize, c:
         && (a >= b || b >= c || is_left(words, subframes, three))
 }
 
-/// Pairs and triples by a row of numbers, every second time next to each other.
+/// Tests pairs and triples by a sequence of numbers, every second time next to each other.
 fn is_left_at_random(words: &[u64], subframes: &Subframes) -> bool {
     let mut number = 0x9E37_79B9;
     for round in 0..1_000 {

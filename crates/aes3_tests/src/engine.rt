@@ -1,4 +1,4 @@
-//! Whole runs: samples, lines of any length, the limit of bytes, and what has left when a read
+//! Whole runs: samples, lines of any length, the limit of bytes, and what is written before a read
 //! fails.
 
 ghost use Rattle.std.specs.Prelude.{◌<◌, ◌≤◌, ◌^◌};
@@ -35,7 +35,7 @@ fn line_of(number: usize) -> &'static [u8; 65] {
     }
 }
 
-/// The same as packed cells.
+/// The same subframe as packed cells.
 fn octets_of(number: usize) -> &'static [u8; 8] {
     match (number % 384, number % 2) {
         (0, _) => b"\xE8\xCC\xCC\xCC\xCC\xCC\xCC\xCC",
@@ -44,7 +44,7 @@ fn octets_of(number: usize) -> &'static [u8; 8] {
     }
 }
 
-/// The first so many subframes of zero blocks as cell text, for each number.
+/// For each number, this many first subframes of zero blocks as cell text.
 fn text_of(alloc: Global, fronts: &[usize]) -> Result<Vec<u8>, AllocError> {
     let mut text = Vec::new(alloc);
     for lines in fronts {
@@ -55,7 +55,7 @@ fn text_of(alloc: Global, fronts: &[usize]) -> Result<Vec<u8>, AllocError> {
     Ok(text)
 }
 
-/// So many subframes of zero blocks as packed cells, and the octet behind them.
+/// The first `lines` subframes of zero blocks as packed cells, and the last octet.
 fn packed_of(alloc: Global, lines: usize) -> Result<Vec<u8>, AllocError> {
     let mut octets = Vec::new(alloc);
     for number in 0..lines {
@@ -65,11 +65,11 @@ fn packed_of(alloc: Global, lines: usize) -> Result<Vec<u8>, AllocError> {
     Ok(octets)
 }
 
-/// How many cells there are, how many in a line, what stands behind every eighth and behind a line,
-/// and how many bytes are read at once.
+/// How many cells there are, how many are in a line, what follows every eighth cell and what
+/// follows a line, and how many bytes are read at once.
 type Layout = (usize, usize, &'static [u8], &'static [u8], usize);
 
-/// What stands behind a cell.
+/// What follows a cell.
 fn behind(layout: &Layout, number: usize) -> &'static [u8] {
     if number % layout.1.max(1) == layout.1.max(1) - 1 {
         layout.3
@@ -90,7 +90,7 @@ fn in_lines(alloc: Global, layout: &Layout) -> Result<Vec<u8>, AllocError> {
     Ok(lines)
 }
 
-/// Writes the blocks of at most `max_bytes` as text, and answers what was written too.
+/// Writes the blocks of at most `max_bytes` as text. Returns also what was written.
 fn blocks_within(
     alloc: Global,
     input: &[u8],
@@ -107,7 +107,7 @@ fn blocks_within(
     (answer, sink)
 }
 
-/// The first block and more behind it.
+/// The first block and more cells after it.
 const LAYOUTS: &[Layout] = &[
     (25_856, 64, b"", b"\n", 4_096),
     (25_793, 64, b"", b"\n", 4_096),
@@ -120,7 +120,7 @@ const LAYOUTS: &[Layout] = &[
     (25_856, 1, b"", b"\n", 4_096),
 ];
 
-/// Whether the first block is cut out of cells in lines, and each cell counted.
+/// Whether `cut` writes the first block of cells in lines, and each cell is counted.
 fn is_first_block_cut(alloc: Global, layout: &Layout) -> Result<bool, AllocError> {
     let text = in_lines(alloc, layout)?;
     let block = text_of(alloc, &[384])?;
@@ -141,7 +141,7 @@ fn lines_of_any_length_change_no_output(rt: HostRuntime) {
     }
 }
 
-/// How many bytes have left where this read of two blocks fails, of a line each.
+/// How many bytes are written if this read of two blocks fails, with one line in each read.
 fn left_at_read(alloc: Global, call: u64) -> Option<usize>
     requires { 0 < call }
 {
@@ -164,8 +164,8 @@ fn what_is_decided_leaves_before_the_next_read(rt: HostRuntime) {
     assert!(rt; left_at_read(rt.alloc(), 769) == Some(BLOCK_TEXT));
 }
 
-/// So many subframes of zero blocks in a form, the most bytes, whether they are more, and how many
-/// bytes are written.
+/// The number of subframes of zero blocks in a form, the limit of bytes, whether they exceed it,
+/// and how many bytes are written.
 type Limit = (usize, Form, u64, bool, usize);
 
 const LIMITS: &[Limit] = &[
@@ -182,7 +182,7 @@ const LIMITS: &[Limit] = &[
     (768, Form::Packed, 6_144, true, BLOCK_TEXT),
 ];
 
-/// Whether an input of at most 2^40 bytes is too long, and how many bytes are written of it.
+/// Whether an input of at most 2^40 bytes is too long, and how many bytes are written for it.
 fn too_long(alloc: Global, input: &[u8], form: Form, max_bytes: u64) -> Option<(bool, usize)> {
     let (answer, sink) = blocks_within(alloc, input, 4_096, max_bytes.min(1 << 40), form);
     match answer {
@@ -222,8 +222,8 @@ fn inputs_without_an_end(rt: HostRuntime) {
     }
 }
 
-/// What is counted where blocks are written from the second on, of a block behind the front of
-/// another and before one more subframe, and nothing is written.
+/// The counts if blocks are written from the second on, and the input has one block, after the
+/// front of another and before one more subframe. Nothing is written.
 fn counted(alloc: Global) -> Option<Counts> {
     let text = text_of(alloc, &[200, 384, 1]).ok()?;
     let mut source = MemorySource::new(&text, 4_096);

@@ -1,5 +1,5 @@
-//! What no contract says of the codec's crates: worked vectors, ends that fail in mid-stream, a call
-//! of each function.
+//! What no contract says about the codec's crates: worked vectors, sources and sinks that fail in
+//! mid-stream, a call of each function.
 #![tactic(auto)]
 
 #[cfg(test)]

@@ -23,7 +23,7 @@ fn is_zero(block: &Block) -> bool {
     true
 }
 
-/// Keeps what a report gives where there is room.
+/// Keeps what a report gives, if there is room.
 fn keep(blocks: &mut Blocks, report: Option<Report>) {
     if let Some(Report::Whole { at, block, .. }) = report {
         let place = usize::from(blocks[0].is_some());
@@ -33,7 +33,7 @@ fn keep(blocks: &mut Blocks, report: Option<Report>) {
     }
 }
 
-/// The first two blocks that the lock gives of cells, of which some are lost.
+/// The first two blocks that the lock gives for cells, some of which are lost.
 fn blocks_of(cells: &[Level], lost: &[usize]) -> Blocks {
     let mut blocks = [None; 2];
     let mut lock = Lock::new();
@@ -47,7 +47,7 @@ fn blocks_of(cells: &[Level], lost: &[usize]) -> Blocks {
     blocks
 }
 
-/// The cells of two zero blocks, one behind the other.
+/// The cells of two zero blocks in a row.
 fn two_blocks(alloc: Global) -> Result<Vec<Level>, AllocError> {
     let mut cells = Vec::new(alloc);
     for subframe in 0..768 {
@@ -63,14 +63,14 @@ fn two_blocks(alloc: Global) -> Result<Vec<Level>, AllocError> {
     Ok(cells)
 }
 
-/// Gives a cell the other level.
+/// Inverts a cell.
 fn change(cells: &mut [Level], place: usize) {
     if let Some(cell) = cells.get_mut(place) {
         *cell = cell.flip();
     }
 }
 
-/// Whether the lock gives these blocks of two zero blocks, of which cells are changed.
+/// Whether the lock gives these blocks for two zero blocks with changed cells.
 fn gives_behind_changes(alloc: Global, places: &[usize], blocks: Blocks) -> bool {
     let Ok(mut cells) = two_blocks(alloc) else {
         return false;
@@ -81,7 +81,7 @@ fn gives_behind_changes(alloc: Global, places: &[usize], blocks: Blocks) -> bool
     blocks_of(&cells, &[]) == blocks
 }
 
-/// Whether the lock gives these blocks of two zero blocks, of which cells are lost.
+/// Whether the lock gives these blocks for two zero blocks with lost cells.
 fn gives_behind_losses(alloc: Global, places: &[usize], blocks: Blocks) -> bool {
     match two_blocks(alloc) {
         Ok(cells) => blocks_of(&cells, places) == blocks,
@@ -89,9 +89,10 @@ fn gives_behind_losses(alloc: Global, places: &[usize], blocks: Blocks) -> bool 
     }
 }
 
-/// Where no block of a stream begins, its cells differ from those of every block in 4 cells or more:
-/// here in 4, so it is not 5, and three changed cells make no block there, but four can. They are
-/// cells of two preambles: those of the first alone make none, and no change makes none.
+/// If no block of a stream begins at a place, its cells there differ from those of every block in
+/// at least 4 cells. Here they differ in 4, so it is not 5. Three changed cells make no block
+/// there, but four can. They are cells of two preambles: those of the first alone make no block,
+/// and without changes there is none.
 #[test]
 fn four_changed_cells_make_a_block_elsewhere(rt: HostRuntime) {
     let unchanged = [Some((0, true)), Some((24_576, true))];
@@ -102,27 +103,29 @@ fn four_changed_cells_make_a_block_elsewhere(rt: HostRuntime) {
     assert!(rt; gives_behind_changes(rt.alloc(), &[132, 134, 24_580, 24_582], elsewhere));
 }
 
-/// Two blocks after one level differ in 2 cells or more: here in 2, so it is not 3. And two changed
-/// cells need not take the block in which both are: between two slots they leave another.
+/// Two blocks after the same level differ in at least 2 cells. Here they differ in 2, so it is not
+/// 3. Two changed cells need not destroy the block that has both: between two slots they leave
+/// another block.
 #[test]
 fn two_changed_cells_make_another_block(rt: HostRuntime) {
     let another = [Some((0, false)), Some((24_576, true))];
     assert!(rt; gives_behind_changes(rt.alloc(), &[9, 10], another));
 }
 
-/// Two cells of each subframe changed of a block that begins with the second subframe of a frame.
+/// Changes two cells of each subframe of a block that begins with the second subframe of a frame.
 fn change_many(cells: &mut [Level]) {
     for subframe in 1..385_usize {
         let start = 64 * subframe;
         change(cells, start + 5);
-        // The preamble of a block has its other cell before that one, the others behind it.
+        // The preamble of a block has its other changed cell before that one, other preambles after
+        // it.
         let at_block = subframe == 1 || subframe == 384;
         change(cells, if at_block { start + 4 } else { start + 6 });
     }
 }
 
-/// Where at most 383 cells change, no block is given but where a frame began. It is not so however
-/// many change: 768 can make one that begins with the second subframe of a frame.
+/// If at most 383 cells change, blocks are given only where a frame began. This does not hold for
+/// any number of changes: 768 can make a block that begins with the second subframe of a frame.
 #[test]
 fn many_changed_cells_make_a_block_at_no_frame(rt: HostRuntime) {
     let mut cells = two_blocks(rt.alloc()).expect(&rt, "memory");
@@ -130,16 +133,16 @@ fn many_changed_cells_make_a_block_at_no_frame(rt: HostRuntime) {
     assert!(rt; blocks_of(&cells, &[]) == [Some((64, true)), None]);
 }
 
-/// Where at most three cells are lost, no block is changed. Four can change one: two of its last
-/// subframe, in whose place two of the next preamble come, and two of that preamble.
+/// If at most three cells are lost, no block is changed. Four can change one: two cells of its last
+/// subframe, which two of the next preamble replace, and two of that preamble.
 #[test]
 fn four_lost_cells_change_a_block(rt: HostRuntime) {
     let changed = [Some((0, false)), None];
     assert!(rt; gives_behind_losses(rt.alloc(), &[24_521, 24_522, 24_576, 24_577], changed));
 }
 
-/// A block that is given where cells are lost stood that many cells later at most: here as many, so
-/// it is not fewer.
+/// If cells are lost, a block that is given began at most that many cells later. Here it is exactly
+/// that many, so it is not fewer.
 #[test]
 fn a_block_stands_as_many_cells_later_as_are_lost(rt: HostRuntime) {
     let behind_one = [Some((24_575, true)), None];

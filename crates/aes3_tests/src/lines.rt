@@ -13,14 +13,14 @@ use aes3_text::{
 use aes3_watch::line_of_gap;
 use std::alloc::Global;
 
-/// Whether a report is told in this line.
+/// Whether a report has this line.
 fn is_told(alloc: Global, report: &Report, expected: &str) -> bool {
     let mut sink = MemorySink::new(alloc);
     let _ = line_of_report(report, &mut sink);
     sink.bytes() == expected.as_bytes()
 }
 
-/// Whether the fault of a cell far behind is told in this line.
+/// Whether the fault of a late cell has this line.
 fn is_fault_told(alloc: Global, why: Why, expected: &str) -> bool {
     let fault = Report::Fault {
         at: 0,
@@ -58,7 +58,7 @@ fn lines_of_reports(rt: HostRuntime) {
     assert!(rt; is_told(rt.alloc(), &unfinished, "unfinished at 131 cells 8\n"));
 }
 
-/// Whether a preamble and a gap are told in these lines.
+/// Whether a preamble and a gap have these lines.
 fn are_told(alloc: Global, mark: Mark, before: Level, expected: &str) -> bool {
     let mut sink = MemorySink::new(alloc);
     line_of_mark(131, mark, before, &mut sink).is_ok()
@@ -140,7 +140,7 @@ fn lines_of_status(rt: HostRuntime) {
 /// A byte's number, its value, and what the line then has.
 type Part = (usize, u8, &'static str);
 
-/// The other bytes are zero, but for byte 0, which is 1.
+/// The other bytes are zero, except byte 0, which is 1.
 const PROFESSIONAL: &[Part] = &[
     (0, 0x01, " payload=pcm "),
     (0, 0x03, " payload=other "),
@@ -273,7 +273,7 @@ const CONSUMER: &[Part] = &[
     (23, 0x0F, " rest=0000000000000000000000000000000000000f\n"),
 ];
 
-/// Whether the line of a status whose other bytes are zero but for the first has a part.
+/// Whether the line of a status has a part; its other bytes but the first are zero.
 fn has_part(alloc: Global, first: u8, part: &Part) -> bool {
     let (at, value, text) = *part;
     let status = with_byte(with_byte([0; 24], 0, first), at, value);
@@ -298,7 +298,7 @@ fn fields_of_consumer_lines(rt: HostRuntime) {
     }
 }
 
-/// A block of whose second channel one V bit is 1 and two U bits are.
+/// A block whose second channel has one V bit and two U bits that are 1.
 fn block_with_details() -> Block {
     let mut block = Block::zero();
     block.set_validity(Channel::Second, &status_of([0x80, 0, 0, 0, 0, 0], 0));
@@ -306,7 +306,7 @@ fn block_with_details() -> Block {
     block
 }
 
-/// Whether the line of the second channel of a block ends so.
+/// Whether the line of the second channel of a block ends like this.
 fn ends(alloc: Global, detail: Detail, block: &Block, expected: &str) -> bool {
     let mut sink = MemorySink::new(alloc);
     let text = text_of_detail(detail, Channel::Second, 24_445, block);

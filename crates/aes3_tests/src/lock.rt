@@ -8,7 +8,7 @@ use aes3_slot::{Mark, slots_cells};
 use arrayvec::ArrayVec;
 use std::alloc::{AllocError, Global};
 
-/// A report in few words; of a whole block, whether it is the zero block.
+/// A report in short form; for a whole block, whether it is the zero block.
 #[derive(Clone, Copy, PartialEq, Eq)]
 enum Line {
     Whole(u64, Level, bool),
@@ -17,16 +17,16 @@ enum Line {
     Unfinished(u64, u64),
 }
 
-/// How many reports a test looks at.
+/// How many reports a test checks.
 const LINES: usize = 16;
 
 /// Many more cells than a test has.
 const MANY: u64 = 1 << 40;
 
-/// The bits of slots 4 to 31 of a subframe whose parity bit alone is 1, and wrong.
+/// The bits of slots 4 to 31 of a subframe in which only the parity bit is 1, which is wrong.
 const ODD: u32 = 1 << 27;
 
-/// The same where all are 1.
+/// The same bits if all are 1.
 const ALL_ONES: u32 = (1 << 28) - 1;
 
 fn line_of(report: Report) -> Line {
@@ -77,7 +77,7 @@ fn add_lines(
     Ok(())
 }
 
-/// The cells `1110100010` again and again: candidates five cells apart.
+/// The cells `1110100010`, repeated: candidates five cells apart.
 const DENSE: u64 = 0x745D_1745_D174_5D17;
 
 #[derive(Clone, Copy)]
@@ -152,7 +152,7 @@ fn by_places(alloc: Global, cells: &[Level]) -> Result<[Option<Line>; LINES], Al
     Ok(lines)
 }
 
-/// These lines, and none behind them.
+/// These lines, and none after them.
 fn only(lines: &[Line]) -> [Option<Line>; LINES] {
     let mut all = [None; LINES];
     for (i, line) in lines.iter().enumerate() {
@@ -163,7 +163,7 @@ fn only(lines: &[Line]) -> [Option<Line>; LINES] {
     all
 }
 
-/// Whether the lock and the slow form both give these reports, and none behind them.
+/// Whether the lock and the slow form both give these reports, and none after them.
 fn are_told(alloc: Global, pieces: &[Piece], lines: &[Line]) -> Result<bool, AllocError> {
     let cells = cells_of(alloc, pieces)?;
     let places = by_places(alloc, &cells)?;
@@ -187,7 +187,7 @@ const ROWS: &[(&[Piece], &[Line])] = &[
         PREAMBLE_IN_A_PREAMBLE,
         &[Line::Fault(0, 138, Why::Biphase), Line::Unfinished(131, 8)],
     ),
-    // A block of the other polarity whose first cell is the last of the block before.
+    // A block of inverted polarity whose first cell is the last cell of the block before.
     (
         &[
             Piece::Lines(Level::Low, 0, 383),
@@ -200,7 +200,7 @@ const ROWS: &[(&[Piece], &[Line])] = &[
             Line::Whole(24_575, Level::High, true),
         ],
     ),
-    // A block with one wrong parity bit, and one behind it.
+    // A block with one wrong parity bit, and one after it.
     (
         &[
             Piece::Slots(Level::Low, Mark::Z, ODD),
@@ -212,8 +212,8 @@ const ROWS: &[(&[Piece], &[Line])] = &[
             Line::Whole(24_576, Level::High, true),
         ],
     ),
-    // Four cells changed make a block where none began: a third preamble becomes a first one,
-    // and the next first one a third.
+    // Four changed cells make a block where none began: an X preamble becomes a Z, and the next Z
+    // an X.
     (
         &[
             Piece::Lines(Level::Low, 0, 2),
@@ -258,7 +258,7 @@ fn fourteen_reports_within_64_cells(rt: HostRuntime) {
     assert!(rt; are_told(rt.alloc(), DENSE_PIECES, &lines) == Ok(true));
 }
 
-/// Run with each allocation refused in turn, this shows that the slow form answers its error or the
+/// Run with each allocation failing in turn, this shows that the slow form returns its error or the
 /// same reports.
 #[test]
 fn refused_memory_is_told(rt: HostRuntime) {

@@ -64,7 +64,7 @@ fn preambles_among_all_octets(rt: HostRuntime) {
     }
 }
 
-/// The cells of a word, the octet behind them, and where the preambles of blocks begin.
+/// The cells of a word, the octet after them, and where the preambles of blocks begin.
 const BEGINNINGS: &[(u64, u8, u64)] = &[
     (0, 0, 0),
     (0x17, 0, 1),
@@ -75,7 +75,7 @@ const BEGINNINGS: &[(u64, u8, u64)] = &[
     (ZEROS, 0x27, 1),
 ];
 
-/// Where the preambles of blocks begin in a word, found alone and among words.
+/// Where the preambles of blocks begin in a word, searched alone and among words.
 fn found_in(cells: u64, next: u8) -> (u64, u64) {
     let mut found = [0];
     find_marks(&[cells], next, &mut found);
@@ -90,7 +90,7 @@ fn preambles_in_words(rt: HostRuntime) {
     assert!(rt; preambles(ZEROS, 0x27) == 1);
 }
 
-/// One preamble across the border of the eighth and the ninth of ten words.
+/// A preamble across the border of the eighth and the ninth of ten words.
 #[test]
 fn a_preamble_across_a_border(rt: HostRuntime) {
     let mut words = [0; 10];

@@ -2,7 +2,7 @@
 
 use aes3_status::{Check, Con, Pro, Status, check_byte, check_state, with_check};
 
-/// A channel status that begins with these bytes, zeros behind them, and byte 23.
+/// A channel status that begins with these bytes, followed by zeros and byte 23.
 pub(crate) fn status_of(front: [u8; 6], last: u8) -> [u8; 24] {
     let mut bytes = [0; 24];
     bytes[..6].copy_from_slice(&front);
@@ -10,7 +10,7 @@ pub(crate) fn status_of(front: [u8; 6], last: u8) -> [u8; 24] {
     bytes
 }
 
-/// A channel status with one byte as it is given.
+/// A channel status with one byte replaced.
 pub(crate) fn with_byte(mut bytes: [u8; 24], at: usize, value: u8) -> [u8; 24] {
     if let Some(byte) = bytes.get_mut(at) {
         *byte = value;
@@ -18,8 +18,8 @@ pub(crate) fn with_byte(mut bytes: [u8; 24], at: usize, value: u8) -> [u8; 24] {
     bytes
 }
 
-/// The first bytes of a channel status, the check byte that is sent, the right one, and what the
-/// first is.
+/// The first bytes of a channel status, the check byte that is sent, the right one, and the state
+/// of the one that is sent.
 const CHECKS: &[([u8; 6], u8, u8, Check)] = &[
     ([0x01, 0, 0, 0, 0, 0], 0x32, 0x32, Check::Good),
     ([0x01, 0, 0, 0, 0, 0], 0x00, 0x32, Check::Absent),
@@ -68,7 +68,7 @@ fn professional_codes(bytes: &[u8; 24]) -> Option<[u8; 12]> {
     ])
 }
 
-/// Each field another number than its neighbours.
+/// A status in which each field has another number than its neighbours.
 const PROFESSIONAL: [u8; 24] = [
     0xAF, 0xC2, 0x6C, 3, 42, 5, b'A', b'B', b'C', b'D', b'W', b'X', b'Y', b'Z', 4, 3, 2, 1, 13, 12,
     11, 10, 0xA5, 0,
@@ -101,7 +101,7 @@ fn professional_texts_and_times(rt: HostRuntime) {
     assert!(rt; status.to_bytes() == PROFESSIONAL);
 }
 
-/// The fields of bytes 0 to 4, and the bytes behind them.
+/// The fields of bytes 0 to 4, and the bytes after them.
 fn consumer_codes(bytes: &[u8; 24]) -> Option<([u8; 14], [u8; 19])> {
     let Status::Consumer(fields) = Status::read(bytes) else {
         return None;

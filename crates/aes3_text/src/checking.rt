@@ -43,15 +43,17 @@ impl Reporter for ReportLines {
     }
 }
 
-/// Reads cells from any cell on, and writes a line for each report on them: each block that stands
-/// whole and closed, each with wrong parity bits, each place where a block begins and is faulty or
-/// cut; or for each but the whole blocks.
+/// Reads cells from any cell on, and writes a line for each report on them: whole, closed blocks,
+/// those with wrong parity bits, and places where a block begins that is faulty or cut off. The
+/// lines of whole blocks can be left out.
 ///
 /// # Errors
-/// `BadCell` where a byte of cell text is neither a cell nor a separator, `BadPadding` where packed
-/// cells end wrongly, `TooLong` where the input has more than `max_bytes` bytes, `Read` and `Write`
-/// where an end failed. Then the lines of the reports are written that were decided before, and
-/// after `Write` a front of them.
+/// - `BadCell` if a byte of cell text is neither a cell nor a separator.
+/// - `BadPadding` if packed cells end wrongly.
+/// - `TooLong` if the input has more than `max_bytes` bytes.
+/// - `Read` and `Write` if the input or output failed.
+///
+/// The lines of the reports that were decided before are written; after `Write`, a front of them.
 pub fn check<S: Source, T: Sink>(
     source: &mut S,
     sink: &mut T,
@@ -63,13 +65,13 @@ pub fn check<S: Source, T: Sink>(
     requires sink_room { T.failed sink.old + 1 < 2 ^ 64 }
     requires limit { max_bytes ≤ 2 ^ 40 }
 
-    // Where it answers Ok, exactly the lines of the reports are written, in order of place.
+    // If it returns Ok, exactly the lines of the reports are written, in order of place.
     ensures lines { IfOk result (λ _. (b : List ℕ)
         → Told (S.given source.old) (S.given source.new) b
         → Grew (T.taken sink.old) (T.taken sink.new)
         (report_lines lines (reports (cells_of input b)))) }
-    // It is a run over cells: Ok is owed, a refusal has its cause, and what was decided before it
-    // is written.
+    // A run over cells: it returns Ok if it can. An error has its cause, and what was decided
+    // before it is written.
     ensures run { CellRun max_bytes input (record {
       whole = λ c. report_lines lines (reports c);
       begun = λ c. report_lines lines (decided c);

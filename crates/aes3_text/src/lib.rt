@@ -1,6 +1,6 @@
-//! Runs that write lines of text, of each report or each block on cells (AES3-2, AES3-3, IEC 60958-1,
-//! IEC 60958-3). The lines themselves, and `scan`, stand in crates below and can be named from here
-//! too.
+//! Runs that write lines of text for each report or each block on cells (AES3-2, AES3-3, IEC
+//! 60958-1, IEC 60958-3). The lines themselves, and `scan`, are in lower crates and are re-exported
+//! here.
 #![tactic(auto)]
 
 /// The reports on cells, line by line.

@@ -23,7 +23,7 @@ use aes3_lock::{Ending, Lock};
 use aes3_lock_runs::{Reporter, run_reports};
 use aes3_text_lines::{Detail, line_of_status_with, text_of_detail};
 
-/// Where a block stands: its number, of blocks from 0, and the cell at which it begins.
+/// The place of a block: its number, counted from 0, and the cell at which it begins.
 #[derive(Clone, Copy)]
 pub(crate) struct Place {
     pub(crate) number: u64,
@@ -33,9 +33,9 @@ pub(crate) struct Place {
 /// Writes the channel status of blocks.
 #[derive(Drop)]
 pub(crate) struct StatusLines {
-    /// What stands behind a line.
+    /// What follows a line.
     pub(crate) detail: Detail,
-    /// Whether the lines are left out that tell no change.
+    /// Whether lines that report no change are left out.
     pub(crate) changes: bool,
     /// The statuses of the block before, if there is one.
     pub(crate) first: Option<[u8; 24]>,
@@ -57,8 +57,8 @@ impl StatusLines {
         }
     }
 
-    /// Writes the line of a channel's status in a block, unless it is left out behind the one before
-    /// it.
+    /// Writes the line of a channel's status in a block, unless it is left out because of the one
+    /// before it.
     ///
     /// # Errors
     /// The sink's fault; then it has taken a front of the line.
@@ -197,12 +197,12 @@ fn show_lines<S: Source, T: Sink>(
     Ok(counts)
 }
 
-/// Reads cells from any cell on, and writes two lines for each block that stands whole and closed
-/// in them: the channel status of channel 1 and that of channel 2 (AES3-2, IEC 60958-3).
+/// Reads cells from any cell on, and writes two lines for each whole, closed block in them. They
+/// are the channel status of channel 1 and that of channel 2 (AES3-2, IEC 60958-3).
 ///
 /// # Errors
-/// Those of `check`; then the lines of the blocks are written that were decided before, and after
-/// `Write` a front of them.
+/// Those of `check`. The lines of the blocks that were decided before are written; after `Write`, a
+/// front of them.
 pub fn show<S: Source, T: Sink>(
     source: &mut S,
     sink: &mut T,
@@ -213,12 +213,12 @@ pub fn show<S: Source, T: Sink>(
     requires sink_room { T.failed sink.old + 1 < 2 ^ 64 }
     requires limit { max_bytes ≤ 2 ^ 40 }
 
-    // Where it answers Ok, exactly the lines of the blocks are written, in order of place.
+    // If it returns Ok, exactly the lines of the blocks are written, in order of place.
     ensures lines { IfOk result (λ _. (b : List ℕ)
         → Told (S.given source.old) (S.given source.new) b
         → Grew (T.taken sink.old) (T.taken sink.new) (status_lines (blocks (cells_of input b)))) }
-    // It is a run over cells: Ok is owed, a refusal has its cause, and what was decided before it
-    // is written.
+    // A run over cells: it returns Ok if it can. An error has its cause, and what was decided
+    // before it is written.
     ensures run { CellRun max_bytes input (record {
       whole = λ c. status_lines (blocks c);
       begun = λ c. status_lines (decided_blocks c);
@@ -230,7 +230,7 @@ pub fn show<S: Source, T: Sink>(
     show_lines(source, sink, max_bytes, input, Detail::Plain, false)
 }
 
-/// Does what `show` does, with this detail behind each line (AES3-1, IEC 60958-1: validity and user
+/// Does what `show` does, with this detail after each line (AES3-1, IEC 60958-1: validity and user
 /// bits).
 ///
 /// # Errors
@@ -246,13 +246,13 @@ pub fn show_detail<S: Source, T: Sink>(
     requires sink_room { T.failed sink.old + 1 < 2 ^ 64 }
     requires limit { max_bytes ≤ 2 ^ 40 }
 
-    // Where it answers Ok, exactly the lines of the whole blocks are written, in order of place.
+    // If it returns Ok, exactly the lines of the whole blocks are written, in order of place.
     ensures lines { IfOk result (λ _. (b : List ℕ)
         → Told (S.given source.old) (S.given source.new) b
         → Grew (T.taken sink.old) (T.taken sink.new)
         (detail_lines detail (reports (cells_of input b)))) }
-    // It is a run over cells: Ok is owed, a refusal has its cause, and what was decided before it
-    // is written.
+    // A run over cells: it returns Ok if it can. An error has its cause, and what was decided
+    // before it is written.
     ensures run { CellRun max_bytes input (record {
       whole = λ c. detail_lines detail (reports c);
       begun = λ c. detail_lines detail (decided c);
@@ -264,14 +264,14 @@ pub fn show_detail<S: Source, T: Sink>(
     show_lines(source, sink, max_bytes, input, detail, false)
 }
 
-/// Reads cells from any cell on, and writes the channel status of the blocks that stand whole and
-/// closed in them, where it changes (AES3-2, IEC 60958-3), with this detail behind each line: both
-/// lines of the first, and of each other a channel's line where its status is not that of the block
-/// before.
+/// Reads cells from any cell on, and writes the channel status of the whole, closed blocks in them
+/// if it changes (AES3-2, IEC 60958-3). It writes both lines of the first block. Of each other
+/// block it writes a channel's line if its status is not that of the block before. This detail
+/// follows each line.
 ///
 /// # Errors
-/// Those of `show`; then the lines of the blocks are written that were decided before, and after
-/// `Write` a front of them.
+/// Those of `show`. The lines of the blocks that were decided before are written; after `Write`, a
+/// front of them.
 pub fn show_changes<S: Source, T: Sink>(
     source: &mut S,
     sink: &mut T,
@@ -283,14 +283,14 @@ pub fn show_changes<S: Source, T: Sink>(
     requires sink_room { T.failed sink.old + 1 < 2 ^ 64 }
     requires limit { max_bytes ≤ 2 ^ 40 }
 
-    // Where it answers Ok, exactly the lines of the blocks are written that are their first or a
-    // change, in order of place.
+    // If it returns Ok, exactly the lines of the first block and of changes are written, in order
+    // of place.
     ensures lines { IfOk result (λ _. (b : List ℕ)
         → Told (S.given source.old) (S.given source.new) b
         → Grew (T.taken sink.old) (T.taken sink.new)
         (change_details detail (reports (cells_of input b)))) }
-    // It is a run over cells: Ok is owed, a refusal has its cause, and what was decided before it
-    // is written.
+    // A run over cells: it returns Ok if it can. An error has its cause, and what was decided
+    // before it is written.
     ensures run { CellRun max_bytes input (record {
       whole = λ c. change_details detail (reports c);
       begun = λ c. change_details detail (decided c);

@@ -1,4 +1,4 @@
-//! What ends a line.
+//! The end of a line.
 
 ghost use Rattle.std.specs.Prelude.{◌≡◌, ◌<◌, ◌≤◌, ◌+◌, [], ◌∷◌, ◌++◌, ◌^◌, length};
 ghost use Rattle.aes3_cell.specs.Writes.{Wrote};
@@ -18,7 +18,7 @@ pub(crate) fn digit_of(level: Level) -> &'static [u8; 1]
     }
 }
 
-/// Hands the line and a line feed to the sink as one buffer.
+/// Writes the line and a line feed to the sink as one buffer.
 ///
 /// # Errors
 /// The sink's fault; then it has taken a front of the line.

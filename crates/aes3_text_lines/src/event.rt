@@ -1,4 +1,4 @@
-//! Events of a line that is watched, and their lines.
+//! Events of a watched line, and their lines.
 
 ghost use Rattle.std.specs.Prelude.{◌≡◌, ◌<◌, ◌≤◌, ◌+◌, ◌*◌, ◌%◌, ◌^◌, ◌++◌, length, codes, decimal};
 ghost use Rattle.aes3_cell.specs.Writes.{Wrote};
@@ -16,37 +16,38 @@ use aes3_cell::{Fault, Level, Sink};
 use aes3_frame::Channel;
 use aes3_status_text::{DIGITS, LINE_LEN, Line, Notation, Style};
 
-/// What a channel's validity bits are in a block: 0 says that a sample can be taken as it is
-/// (AES3-1, IEC 60958-1).
+/// The validity bits of a channel in a block; 0 means that the sample is valid (AES3-1, IEC
+/// 60958-1).
 #[derive(Clone, Copy)]
 pub enum Marking {
     /// All are 0.
     Clear,
     /// All are 1.
     Set,
-    /// Some are.
+    /// Some are 0, some are 1.
     Mixed,
 }
 
 /// What changes on a line, and where. Cells are counted from 0.
 #[derive(Clone, Copy)]
 pub enum Event {
-    /// The first whole block begins at this cell, behind this level.
+    /// The first whole block begins at this cell, after this level.
     Locked {
         at: u64,
         before: Level,
     },
-    /// A block's length of cells or more from this cell on lies in no whole block.
+    /// At least a block's length of cells from this cell on lies in no whole block.
     Lost {
         at: u64,
     },
-    /// The first whole block behind them begins at this cell, and they are `lost`.
+    /// The first whole block after lost cells begins at this cell; `lost` is the number of these
+    /// cells.
     Back {
         at: u64,
         lost: u64,
     },
-    /// A whole block begins at this cell, `cells` cells, fewer than a block has, behind the one
-    /// before it.
+    /// A whole block begins at this cell. It begins `cells` cells after the whole block before it;
+    /// `cells` is less than a block's length.
     Slipped {
         at: u64,
         cells: u64,
@@ -57,13 +58,13 @@ pub enum Event {
         channel: Channel,
         status: [u8; 24],
     },
-    /// The same of its validity bits.
+    /// The whole block at this cell has other validity bits of this channel than the one before it.
     Validity {
         at: u64,
         channel: Channel,
         marking: Marking,
     },
-    /// The cells end before this one.
+    /// The cells end before this cell.
     End {
         at: u64,
         locked: bool,
@@ -81,10 +82,10 @@ impl Default for Event {
     }
 }
 
-/// How many bytes the name of a field has at most, and the word of an event.
+/// How many bytes the name of a field or the word of an event has at most.
 const NAME_LEN: usize = 10;
 
-/// How many bytes a word in a field has at most: those of a status.
+/// How many bytes a word in a field has at most; a status is the longest.
 const WORD_LEN: usize = 48;
 
 /// How many bytes a field has at most.
@@ -93,7 +94,7 @@ pub(crate) const FIELD_LEN: usize = 64;
 /// How many cells a frame has.
 const FRAME_CELLS: u64 = 128;
 
-/// Begins the line of an event of this word.
+/// Begins the line of an event with this word.
 #[tactic(auto, unfolding(crate::specs::Events::opening))]
 pub(crate) fn put_opening(line: &mut Line, notation: Notation, word: &str)
     requires word { length word.now ≤ NAME_LEN }
@@ -175,7 +176,7 @@ fn digit(number: u64) -> u8
     b'0' + (number % 10) as u8
 }
 
-/// How many cells a second has on a line of so many frames a second.
+/// How many cells a second has at `rate` frames in a second.
 fn second_cells(rate: u32) -> u64
     ensures cells { result ≡ second_cells rate }
     ensures some { 0 < result }
@@ -184,7 +185,7 @@ fn second_cells(rate: u32) -> u64
     FRAME_CELLS * u64::from(rate.max(1))
 }
 
-/// Appends the time at which cell `at` begins, in seconds, where a second has so many cells.
+/// Appends the time at which cell `at` begins, in seconds, if a second has `cells` cells.
 #[tactic(auto, unfolding(crate::specs::Events::seconds))]
 fn put_seconds(line: &mut Line, cells: u64, at: u64)
     requires some { 0 < cells }
@@ -203,7 +204,7 @@ fn put_seconds(line: &mut Line, cells: u64, at: u64)
     ]);
 }
 
-/// Appends the time of cell `at`, where the rate is known.
+/// Appends the time of cell `at`, if the rate is known.
 #[tactic(auto, unfolding(crate::specs::Events::time_field))]
 pub(crate) fn put_time(line: &mut Line, style: &Style, at: u64)
     requires space { length line.old + FIELD_LEN ≤ LINE_LEN }
@@ -216,7 +217,7 @@ pub(crate) fn put_time(line: &mut Line, style: &Style, at: u64)
     }
 }
 
-/// Appends where an event is.
+/// Appends the place of an event.
 #[tactic(auto, unfolding(crate::specs::Events::place_fields))]
 fn put_place(line: &mut Line, style: &Style, at: u64)
     requires space { length line.old + 2 * FIELD_LEN ≤ LINE_LEN }
@@ -243,7 +244,7 @@ fn word_of(event: &Event) -> &'static str
     }
 }
 
-/// Where it is.
+/// The place of an event.
 fn place_of(event: &Event) -> u64
     ensures { result ≡ event_place event.now }
 {
@@ -258,7 +259,7 @@ fn place_of(event: &Event) -> u64
     }
 }
 
-/// What validity bits are, in one word.
+/// The state of validity bits, in one word.
 fn marking_word(marking: Marking) -> &'static str
     ensures word { result.now ≡ marking_word marking }
     ensures len { length result.now ≤ NAME_LEN }
@@ -311,7 +312,7 @@ fn put_status(line: &mut Line, notation: Notation, status: &[u8; 24])
     put_word(line, notation, "status", &digits);
 }
 
-/// Appends what an event tells besides its place.
+/// Appends what an event says besides its place.
 fn put_fields(line: &mut Line, notation: Notation, event: &Event)
     requires space { length line.old + 4 * FIELD_LEN ≤ LINE_LEN }
     ensures text { line.new ≡ line.old ++ event_fields notation event.now }
@@ -349,7 +350,7 @@ fn put_fields(line: &mut Line, notation: Notation, event: &Event)
     }
 }
 
-/// Appends what ends the line of an event.
+/// Appends the end of the line of an event.
 #[tactic(auto, unfolding(crate::specs::Events::closing))]
 pub(crate) fn put_closing(line: &mut Line, notation: Notation)
     requires space { length line.old + FIELD_LEN ≤ LINE_LEN }

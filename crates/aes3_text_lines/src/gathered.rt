@@ -1,4 +1,4 @@
-//! Lines of preambles that are handed on together.
+//! Lines of preambles that are written together.
 
 use crate::mark::{LONG, MARK_LEN, UpperDigits, put_mark, text_of_mark};
 use aes3_cell::{Fault, Level, Sink, write_all};
@@ -8,7 +8,7 @@ use std::marker::Model;
 /// How many bytes are gathered at most.
 pub const GATHERED_LEN: usize = 4096;
 
-/// Lines of preambles that are to be handed on as one buffer.
+/// Lines of preambles that will be written as one buffer.
 ///
 /// A contract sees their bytes.
 #[derive(Drop)]
@@ -83,10 +83,10 @@ impl GatheredLines {
         self.len += written;
     }
 
-    /// Hands them to the sink as one buffer, and keeps none.
+    /// Writes the lines to the sink as one buffer, and empties itself.
     ///
     /// # Errors
-    /// The sink's fault; then it has taken a front of them.
+    /// The sink's fault; then it has taken a front of the lines.
     pub fn hand_on<T: Sink>(&mut self, sink: &mut T) -> Result<(), Fault>
         requires room { T.failed sink.old + 1 < 2 ^ 64 }
         ensures wrote { Wrote T.taken T.failed sink.old sink.new self.old result }

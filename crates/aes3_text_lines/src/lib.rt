@@ -2,21 +2,21 @@
 //! IEC 60958-3).
 #![tactic(auto)]
 
-/// What ends a line.
+/// The end of a line.
 mod ending;
-/// Events of a line that is watched, and their lines.
+/// Events of a watched line, and their lines.
 mod event;
-/// Lines of preambles that are handed on together.
+/// Lines of preambles that are written together.
 mod gathered;
 /// The line of a preamble.
 mod mark;
-/// The words of codes that a line of channel status has as numbers.
+/// The words of codes that are numbers in a line of channel status.
 mod names;
 /// The line of a channel status.
 mod status;
-/// Sums of a line that is watched, and their lines.
+/// Sums of a watched line, and their lines.
 mod sum;
-/// A short line, made from its end.
+/// A short line, written from its end.
 mod tail;
 
 pub use aes3_status_text::{

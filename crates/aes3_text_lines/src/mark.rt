@@ -15,13 +15,14 @@ use itoa::Buffer;
 /// How many bytes a preamble's line has at most.
 pub const MARK_LEN: usize = 40;
 
-/// From here on a number has digits before its last four.
+/// The least number with digits before its last four.
 pub(crate) const LONG: u64 = 10_000;
 
-/// How many digits a number has at most, but for its last four.
+/// How many digits a number has at most before its last four.
 const UPPER_LEN: usize = 16;
 
-/// A number's digits but the last four: lines whose numbers differ in those alone share them.
+/// A number's digits but the last four. Lines whose numbers differ only in the last four share
+/// them.
 #[derive(Drop)]
 pub(crate) struct UpperDigits {
     number: u64,
@@ -36,7 +37,7 @@ pub(crate) struct UpperDigits {
 }
 
 impl UpperDigits {
-    /// The digits of a number that has some before its last four.
+    /// The digits of a number of at least five digits.
     pub(crate) fn new(number: u64) -> Self
         requires { 10000 ≤ number }
         ensures { result.number ≡ number / 10000 }
@@ -55,7 +56,7 @@ impl UpperDigits {
         }
     }
 
-    /// Makes them those of a number that has some before its last four.
+    /// Replaces these digits by those of a number of at least five digits.
     #[inline(always)]
     pub(crate) fn renew(&mut self, number: u64)
         requires { 10000 ≤ number }
@@ -66,8 +67,8 @@ impl UpperDigits {
         }
     }
 
-    /// Makes them those of a number with others than these.
-    // Not inlined, so that lines that share their digits have no room for new ones made.
+    /// Replaces these digits by those of a number with other ones.
+    // Not inlined, so that lines that share their digits need no space for making new ones.
     #[cold]
     #[inline(never)]
     fn replace(&mut self, number: u64)
@@ -117,7 +118,7 @@ pub fn line_of_mark<T: Sink>(at: u64, mark: Mark, before: Level, sink: &mut T) -
     end_line(&mut line, sink)
 }
 
-/// What a preamble's line begins with.
+/// The beginning of a preamble's line.
 fn beginning(mark: Mark) -> &'static [u8; 10]
     ensures { result.now ≡ mark_beginning mark }
 {
@@ -128,7 +129,7 @@ fn beginning(mark: Mark) -> &'static [u8; 10]
     }
 }
 
-/// What stands behind the number in it.
+/// What follows the number in the line.
 fn ending(before: Level) -> [u8; 10]
     ensures { result ≡ mark_ending before }
 {
@@ -139,20 +140,20 @@ fn ending(before: Level) -> [u8; 10]
     [b' ', b'b', b'e', b'f', b'o', b'r', b'e', b' ', level, b'\n']
 }
 
-/// The digits of a number: those of its two pairs at once, each pair in its half of a word.
+/// The digits of a number: those of both pairs at once, with each pair in its half of a word.
 fn four_digits(number: u32) -> [u8; 4]
     requires { number < 10000 }
     ensures { result ≡ (48 + number / 100 / 10) ∷ (48 + number / 100 % 10)
         ∷ (48 + number % 100 / 10) ∷ (48 + number % 100 % 10) ∷ [] }
 {
     let pairs = number / 100 + (number % 100 << 16);
-    // A tenth of each pair: 103 of 1024 are a tenth of all numbers below 100, rounded down.
+    // The tens of each pair: 103/1024 gives a tenth, rounded down, of all numbers below 100.
     let tens = pairs * 103 >> 10 & 0x000F_000F;
     let digits = tens + (pairs - 10 * tens << 8);
     (digits + 0x3030_3030).to_le_bytes()
 }
 
-/// Puts these bytes into the line, from place `at` of it on.
+/// Puts these bytes into the line, from place `at` on.
 #[inline(always)]
 fn put_at<const N: usize>(line: &mut [u8], at: usize, bytes: &[u8; N])
     requires room { at + N ≤ length line.old }
@@ -162,7 +163,7 @@ fn put_at<const N: usize>(line: &mut [u8], at: usize, bytes: &[u8; N])
     line[at..at + N].copy_from_slice(bytes);
 }
 
-/// Puts the line of a preamble at cell `at`, whose number begins with these digits, and answers how
+/// Puts the line of a preamble at cell `at`, whose number begins with these digits. Returns how
 /// many bytes it has.
 #[inline(always)]
 pub(crate) fn put_mark(
@@ -180,7 +181,7 @@ pub(crate) fn put_mark(
 {
     let last = (at - upper.first) as u32;
     let end = 10 + upper.len;
-    // Copied at first: the compiler need not ask then whether they lie in the line.
+    // Copied first, so that the compiler need not check whether they are in the line.
     let beginning = *beginning(mark);
     let text = upper.text;
     put_at(line, 0, &beginning);

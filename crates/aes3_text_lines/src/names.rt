@@ -1,4 +1,4 @@
-//! The words of codes that a line of channel status has as numbers (AES3-2, IEC 60958-3).
+//! The words of codes that are numbers in a line of channel status (AES3-2, IEC 60958-3).
 
 ghost use Rattle.std.specs.Prelude.{◌≡◌, ◌≤◌, ◌+◌, ◌*◌, ◌++◌, length};
 ghost use Rattle.aes3_status_text.specs.Names.{name_of, name_text};
@@ -9,13 +9,13 @@ use crate::tail::{TAIL_LEN, Tail};
 use aes3_status::{Con, ConField, Field, Pro, ProField, Status};
 use aes3_status_text::{name_of, name_of_code};
 
-/// How many bytes the name of a field has at most whose codes have words.
+/// How many bytes the name of a field whose codes have words has at most.
 const NAME_LEN: usize = 8;
 
 /// How many bytes a field has at most.
 const FIELD_LEN: usize = 30;
 
-/// Puts the word of a code before the text, as a field, where it has one.
+/// Puts the word of a code before the text, as a field, if it has one.
 fn put_name(text: &mut Tail, field: Field, code: u8)
     requires name { length (name_of field) ≤ NAME_LEN }
     requires space { length text.old + FIELD_LEN ≤ TAIL_LEN }
@@ -53,7 +53,7 @@ fn put_consumer_names(text: &mut Tail, status: &Con)
     put_name(text, Field::Consumer(ConField::Category), status.category());
 }
 
-/// Puts the words of a status' codes that its line has as numbers before the text.
+/// Puts the words of a status's codes that are numbers in its line before the text.
 #[tactic(auto, unfolding(aes3_status_text::specs::StatusTexts::names_text))]
 pub(crate) fn put_names(text: &mut Tail, status: &[u8; 24])
     requires { length text.old + 3 * FIELD_LEN ≤ TAIL_LEN }

@@ -39,8 +39,8 @@ fn head_of(block: u64, channel: Channel) -> Line
     line
 }
 
-/// What stands behind the status of a channel of a block that begins at cell `at` (AES3-1,
-/// IEC 60958-1: validity and user bits; AES3-2, IEC 60958-3: words of codes).
+/// What follows the status of a channel of a block that begins at cell `at` (AES3-1, IEC 60958-1:
+/// validity and user bits; AES3-2, IEC 60958-3: words of codes).
 pub fn text_of_detail(detail: Detail, channel: Channel, at: u64, block: &Block) -> Tail
     ensures { result ≡ detail_text detail channel at block.now }
 {
@@ -64,8 +64,8 @@ pub fn text_of_detail(detail: Detail, channel: Channel, at: u64, block: &Block) 
     text
 }
 
-/// Writes the line of a channel status, that of `channel` in block number `block`, with a text
-/// before its line feed, as one buffer.
+/// Writes the line of the status of `channel` in block number `block`, with a text before its line
+/// feed, as one buffer.
 ///
 /// # Errors
 /// The sink's fault; then it has taken a front of the line.
@@ -86,7 +86,7 @@ pub fn line_of_status_with<T: Sink>(
     end_line(&mut line, sink)
 }
 
-/// Writes the line of a channel status, that of `channel` in block number `block`, as one buffer.
+/// Writes the line of the status of `channel` in block number `block`, as one buffer.
 ///
 /// # Errors
 /// The sink's fault; then it has taken a front of the line.

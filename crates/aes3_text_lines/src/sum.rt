@@ -1,4 +1,4 @@
-//! Sums of a line that is watched, and their lines.
+//! Sums of a watched line, and their lines.
 
 ghost use Rattle.std.specs.Prelude.{◌≡◌, ◌<◌, ◌≤◌, ◌+◌, ◌*◌, ◌^◌, ◌++◌, length};
 ghost use Rattle.aes3_cell.specs.Writes.{Wrote};
@@ -10,33 +10,33 @@ use crate::event::{FIELD_LEN, put_closing, put_number, put_opening, put_time};
 use aes3_cell::{Fault, Sink};
 use aes3_status_text::{LINE_LEN, Line, Notation, Style};
 
-/// What is counted of the cells of a period.
+/// The counts of the cells of a period.
 #[derive(Clone, Copy)]
 pub struct Figures {
     /// How many whole blocks begin in it.
     pub whole: u64,
-    /// How many of which a subframe has a wrong parity bit.
+    /// How many blocks with a wrong parity bit in a subframe begin in it.
     pub marked: u64,
-    /// How many candidates that a cell refutes, whatever the cause.
+    /// How many candidates that a cell refutes begin in it, whatever the cause.
     pub fault: u64,
-    /// How many of them a cell of a preamble refutes.
+    /// How many of these are refuted by a cell of a preamble.
     pub preamble: u64,
-    /// How many that a time slot refutes which begins with no change of level.
+    /// How many of these are refuted by a time slot that begins without a change of level.
     pub biphase: u64,
-    /// How many that the cell behind their last subframe refutes.
+    /// How many of these are refuted by the cell after their last subframe.
     pub unclosed: u64,
     /// How many cells lie in gaps that count.
     pub lost: u64,
     /// How many subframes of the first channel of whole blocks have a validity bit of 1: their
-    /// sample cannot be taken as it is (AES3-1, IEC 60958-1).
+    /// sample is not valid (AES3-1, IEC 60958-1).
     pub invalid_first: u64,
-    /// How many of the second channel.
+    /// How many subframes of the second channel.
     pub invalid_second: u64,
-    /// How many events tell of another status, or of other validity bits.
+    /// How many events report another status or other validity bits.
     pub changes: u64,
 }
 
-/// What is counted from cell `from` on and before cell `to`. Cells are counted from 0.
+/// The counts from cell `from` on and before cell `to`. Cells are counted from 0.
 #[derive(Clone, Copy)]
 pub struct Sum {
     pub from: u64,
@@ -44,7 +44,7 @@ pub struct Sum {
     pub figures: Figures,
 }
 
-/// Appends which cells the period has.
+/// Appends the cells of the period.
 #[tactic(auto, unfolding(crate::specs::SumLines::period_fields))]
 fn put_period(line: &mut Line, style: &Style, from: u64, to: u64)
     requires space { length line.old + 3 * FIELD_LEN ≤ LINE_LEN }
@@ -56,7 +56,7 @@ fn put_period(line: &mut Line, style: &Style, from: u64, to: u64)
     put_number(line, style.notation, "to", to);
 }
 
-/// Appends the reports of the period by their kinds.
+/// Appends the numbers of the period's reports by their kinds.
 #[tactic(auto, unfolding(crate::specs::SumLines::report_fields))]
 fn put_reports(line: &mut Line, notation: Notation, figures: &Figures)
     requires space { length line.old + 6 * FIELD_LEN ≤ LINE_LEN }
@@ -71,7 +71,7 @@ fn put_reports(line: &mut Line, notation: Notation, figures: &Figures)
     put_number(line, notation, "unclosed", figures.unclosed);
 }
 
-/// Appends the cells that were lost, and what the whole blocks say of their samples.
+/// Appends the number of lost cells, and what the whole blocks say of their samples.
 #[tactic(auto, unfolding(crate::specs::SumLines::sample_fields))]
 fn put_samples(line: &mut Line, notation: Notation, figures: &Figures)
     requires space { length line.old + 4 * FIELD_LEN ≤ LINE_LEN }
@@ -84,8 +84,7 @@ fn put_samples(line: &mut Line, notation: Notation, figures: &Figures)
     put_number(line, notation, "changes", figures.changes);
 }
 
-/// Writes the line of a sum as one buffer, with the time of the cell that it begins with where the
-/// rate is known.
+/// Writes the line of a sum as one buffer. If the rate is known, it has the time of the first cell.
 ///
 /// # Errors
 /// The sink's fault; then it has taken a front of the line.

@@ -1,4 +1,4 @@
-//! A short line, made from its end.
+//! A short line, written from its end.
 
 use crate::ending::digit_of;
 use aes3_cell::{Fault, Level, Sink, write_all};
@@ -8,12 +8,12 @@ use std::marker::Model;
 /// How many bytes a short line has at most.
 pub const TAIL_LEN: usize = 96;
 
-/// The end of a short line, as far as it is written: so each number's digits are put where they
-/// stay, the last first.
+/// The end of a short line, as far as it is written. It is written backwards, so that each number's
+/// digits are put where they stay, the last first.
 #[derive(Drop)]
 pub struct Tail {
     bytes: [u8; TAIL_LEN],
-    /// Where it begins.
+    /// The place where it begins.
     at: usize,
 }
 
@@ -32,7 +32,7 @@ impl Tail {
     ghost use Rattle.aes3_cell.specs.Writes.{Wrote};
     ghost use Rattle.aes3_text_lines.specs.MarkLines.{level_digit};
 
-    /// The end of a line of which nothing is written.
+    /// The end of an empty line.
     #[inline]
     pub fn new() -> Self
         ensures { result ≡ [] }
@@ -50,7 +50,7 @@ impl Tail {
         ensures text { self.new ≡ text.now ++ self.old }
         ensures len { length self.new ≡ N + length self.old }
     {
-        // Copied at first: the compiler need not ask then whether it lies in the line.
+        // Copied first, so that the compiler need not check whether it is in the line.
         let text = *text;
         let end = self.at;
         self.at -= N;
@@ -78,7 +78,7 @@ impl Tail {
         self.at = write_digits(number, &mut self.bytes, self.at);
     }
 
-    /// Puts `0` before it for the lower level, `1` for the higher.
+    /// Puts `0` before it for the lower level, or `1` for the higher.
     #[inline]
     pub fn level(&mut self, level: Level)
         requires { length self.old + 1 ≤ TAIL_LEN }
@@ -97,10 +97,10 @@ impl Tail {
         &self.bytes[self.at..]
     }
 
-    /// Hands it to the sink as one buffer.
+    /// Writes the line to the sink as one buffer.
     ///
     /// # Errors
-    /// The sink's fault; then it has taken a front of it.
+    /// The sink's fault; then it has taken a front of the line.
     #[inline]
     pub fn hand_on<T: Sink>(&self, sink: &mut T) -> Result<(), Fault>
         requires room { T.failed sink.old + 1 < 2 ^ 64 }

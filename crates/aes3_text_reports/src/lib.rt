@@ -1,4 +1,4 @@
-//! What stands in cells, line by line: reports and preambles (AES3-3, IEC 60958-1).
+//! Reports and preambles in cells, line by line (AES3-3, IEC 60958-1).
 #![tactic(auto)]
 
 /// The line of a report.

@@ -9,7 +9,7 @@ use aes3_cell::{Fault, Sink};
 use aes3_lock::{Ending, Report, Why};
 use aes3_text_lines::{Lines, TAIL_LEN, Tail};
 
-/// Puts why a cell refutes a candidate, in one word.
+/// Puts the reason why a cell refutes a candidate, in one word.
 fn put_reason(line: &mut Tail, why: Why)
     requires { length line.old + 8 ≤ TAIL_LEN }
     ensures reason { line.new ≡ reason_word why ++ line.old }
@@ -22,8 +22,8 @@ fn put_reason(line: &mut Tail, why: Why)
     }
 }
 
-/// Makes the line of the report of an ending. None of it is of the block's bits.
-// Not inlined, so that what calls it is, up to the lock, as it answers every few cells where many
+/// Makes the line of the report of an ending. It contains none of the block's bits.
+// Not inlined, so that its callers are, up to the lock, which returns every few cells if many
 // candidates end.
 #[inline(never)]
 fn put_ending(line: &mut Tail, ending: Ending)
@@ -129,7 +129,7 @@ pub fn line_of_report<T: Sink>(report: &Report, sink: &mut T) -> Result<(), Faul
     line.hand_on(sink)
 }
 
-/// Writes the line of the report of an ending where it gets one.
+/// Writes the line of the report of an ending, if it gets one.
 ///
 /// # Errors
 /// The sink's fault; then it has taken a front of the line.

@@ -25,7 +25,7 @@ use aes3_lock::{Scan, WordMarks};
 use aes3_slot::Mark;
 use aes3_text_lines::{GATHERED_LEN, GatheredLines, MARK_LEN};
 
-/// Writes the line of each preamble, and counts them. Between its calls it holds no line.
+/// Writes the line of each preamble, and counts them. Between calls it holds no line.
 #[derive(Drop)]
 struct MarkLines {
     scan: Scan,
@@ -46,7 +46,7 @@ impl MarkLines {
         }
     }
 
-    /// Counts a preamble that the scan told, and makes its line.
+    /// Counts a preamble that the scan found, and makes its line.
     #[inline(always)]
     fn gather(&mut self, found: (u64, Mark, Level))
         requires fits { length self.old.lines + MARK_LEN ≤ GATHERED_LEN }
@@ -59,8 +59,8 @@ impl MarkLines {
         self.lines.push(found.0, found.1, found.2);
     }
 
-    /// Counts a preamble that the scan told, and makes its line. It hands on the lines where a
-    /// further one might not fit, or where the sink would rather take each alone.
+    /// Counts a preamble that the scan found, and makes its line. It writes the lines if one more
+    /// might not fit, or if the sink prefers each by itself.
     ///
     /// # Errors
     /// The sink's fault; then it has taken a front of the lines.
@@ -85,7 +85,7 @@ impl MarkLines {
         self.lines.hand_on(sink)
     }
 
-    /// Writes the line of a preamble that the scan told at once, and counts it.
+    /// Counts a preamble that the scan found, and writes its line at once.
     ///
     /// # Errors
     /// The sink's fault; then it has taken a front of the line.
@@ -103,7 +103,7 @@ impl MarkLines {
         self.lines.hand_on(sink)
     }
 
-    /// Tells the preambles of a word.
+    /// Counts the preambles of a word, and writes their lines.
     ///
     /// # Errors
     /// The sink's fault; then it has taken a front of the lines.
@@ -152,7 +152,7 @@ impl MarkLines {
         self.tell_all(sink, found)
     }
 
-    /// Takes cells of the word that was begun, up to the next preamble.
+    /// Takes cells of the current word, up to the next preamble.
     ///
     /// # Errors
     /// The sink's fault; then it has taken a front of the lines.
@@ -211,11 +211,11 @@ impl Taker for MarkLines {
 }
 
 /// Reads cells from any cell on, and writes a line for each place where eight cells are a preamble,
-/// in step with a block or not (AES3-3; IEC 60958-1).
+/// whether or not it belongs to a block (AES3-3; IEC 60958-1).
 ///
 /// # Errors
-/// Those of `check`; then the lines of the preambles are written that ended before, and after
-/// `Write` a front of them.
+/// Those of `check`. The lines of the preambles that ended before are written; after `Write`, a
+/// front of them.
 pub fn scan<S: Source, T: Sink>(
     source: &mut S,
     sink: &mut T,
@@ -226,12 +226,12 @@ pub fn scan<S: Source, T: Sink>(
     requires sink_room { T.failed sink.old + 1 < 2 ^ 64 }
     requires limit { max_bytes ≤ 2 ^ 40 }
 
-    // Where it answers Ok, exactly the lines of the preambles are written, in order of place.
+    // If it returns Ok, exactly the lines of the preambles are written, in order of place.
     ensures lines { IfOk result (λ _. (b : List ℕ)
         → Told (S.given source.old) (S.given source.new) b
         → Grew (T.taken sink.old) (T.taken sink.new) (mark_lines (marks (cells_of input b)))) }
-    // It is a run over cells: Ok is owed, a refusal has its cause, and what was told before it is
-    // written.
+    // A run over cells: it returns Ok if it can. An error has its cause, and what was reported
+    // before it is written.
     ensures run { CellRun max_bytes input (record {
       whole = λ c. mark_lines (marks c);
       begun = λ c. mark_lines (marks c);

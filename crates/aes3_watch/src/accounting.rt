@@ -14,18 +14,18 @@ use aes3_cell::{Counts, Fault, Form, RunError, Sink, Source};
 use aes3_lock_runs::run_cells;
 use aes3_text_lines::Lines;
 
-/// Reads cells from any cell on, and accounts for all of them: writes a line for each report on
-/// them, or each but those of whole blocks, and between these a line for each gap, cells that lie
-/// in no whole block, of 24,576 cells at most.
+/// Reads cells from any cell on, and accounts for all of them. It writes a line for each report on
+/// them, or only for those not of whole blocks. Between these it writes a line for each gap: at
+/// most 24,576 cells that lie in no whole block.
 ///
-/// A gap stands behind the reports that begin in it, and is written when a report behind it is
-/// decided or two blocks' cells have come from its first cell on. The counts have the gaps of
-/// 24,576 cells and those between two whole blocks among the faults: shorter ones before the first
-/// and behind the last whole block are where the input is cut.
+/// A gap comes after the reports that begin in it. It is written when a report after it is decided,
+/// or when two blocks' cells have come from its first cell on. Gaps of 24,576 cells and those
+/// between two whole blocks are counted as faults. Shorter ones before the first whole block and
+/// after the last are where the input is cut.
 ///
 /// # Errors
-/// Those of `check`; then the lines are written that stood before, whatever cells follow, and after
-/// `Write` a front of them.
+/// Those of `check`. The lines that were certain before, whatever cells follow, are written; after
+/// `Write`, a front of them.
 pub fn account<S: Source, T: Sink>(
     source: &mut S,
     sink: &mut T,
@@ -37,13 +37,13 @@ pub fn account<S: Source, T: Sink>(
     requires sink_room { T.failed sink.old + 1 < 2 ^ 64 }
     requires limit { max_bytes ≤ 2 ^ 40 }
 
-    // Where it answers Ok, exactly the lines of the account are written.
+    // If it returns Ok, exactly the lines of the account are written.
     ensures lines { IfOk result (λ _. (b : List ℕ)
         → Told (S.given source.old) (S.given source.new) b
         → Grew (T.taken sink.old) (T.taken sink.new)
         (account_lines lines (account (cells_of input b)))) }
-    // It is a run over cells: Ok is owed, a refusal has its cause, and what stood before it is
-    // written.
+    // A run over cells: it returns Ok if it can. An error has its cause, and what was certain
+    // before it is written.
     ensures run { CellRun max_bytes input (record {
       whole = λ c. account_lines lines (account c);
       begun = λ c. account_lines lines (begun_account c);

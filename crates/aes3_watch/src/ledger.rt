@@ -20,7 +20,7 @@ use aes3_lock_runs::Listener;
 use aes3_text_lines::Lines;
 use aes3_text_reports::tell_ending;
 
-/// What is accounted for, and how many gaps of it count.
+/// What is accounted for, and how many of its gaps count as faults.
 #[derive(Drop)]
 pub(crate) struct Ledger {
     pub(crate) lines: Lines,
@@ -29,7 +29,7 @@ pub(crate) struct Ledger {
 }
 
 impl Ledger {
-    /// No cell is accounted for.
+    /// A ledger that accounts for no cell.
     pub(crate) fn new(lines: Lines) -> Self
         ensures lines { result.lines ≡ lines }
         ensures none { IsLedgerOf result [] }
@@ -41,7 +41,7 @@ impl Ledger {
         }
     }
 
-    /// Writes a gap, and counts it among those that count.
+    /// Writes a gap, and counts it if it is a fault.
     ///
     /// # Errors
     /// The sink's fault; then it has taken a front of its line.
@@ -86,7 +86,8 @@ impl Ledger {
         Ok(())
     }
 
-    /// Writes the gaps before a report, and takes the place up to which it accounts for the cells.
+    /// Writes the gaps before a report, and notes the place up to which the cells are accounted
+    /// for.
     ///
     /// # Errors
     /// The sink's fault; then it has taken a front of their lines.
@@ -122,7 +123,7 @@ impl Ledger {
         Ok(())
     }
 
-    /// Writes a report behind the gaps before it.
+    /// Writes the gaps before a report, and then the report.
     ///
     /// # Errors
     /// The sink's fault; then it has taken a front of their lines.

@@ -1,4 +1,4 @@
-//! The account of all cells of an input, and a line watched: where no whole block is, line by line
+//! The account of all cells of an input, and a watched line: where no whole block is, line by line
 //! (AES3-3, IEC 60958-1).
 #![tactic(auto)]
 
@@ -6,15 +6,15 @@
 mod accounting;
 /// The line of a gap.
 mod gap;
-/// What is accounted for of all cells.
+/// What is accounted for among all cells.
 mod ledger;
 /// What the whole blocks of a line say of their samples, and where that changes.
 mod signals;
-/// What is known of a line of which sums are told.
+/// The state of a line whose sums are written.
 mod summed;
-/// A line watched, with a sum for each period of it.
+/// A watched line, with a sum for each period of it.
 mod summing;
-/// A line watched: what changes, in a few lines.
+/// A watched line: what changes, in a few lines.
 mod watching;
 
 pub use accounting::account;

@@ -26,7 +26,7 @@ pub(crate) const EVENTS: usize = 8;
 const LANES: usize = 16;
 
 /// Among the last eight cells of a subframe, the first of the two that carry its validity bit, and
-/// of those that carry its bit of channel status.
+/// the first of the two that carry its channel status bit.
 const FIRST_CELLS: u8 = 1 | 1 << 4;
 
 /// What a whole block says of a channel's samples.
@@ -76,7 +76,7 @@ fn last_cells(words: &[u64; SLOTS], at: usize) -> u8x16
     (u64x16::from_slice(&words[at..]) >> u64x16::splat(56)).cast::<u8>()
 }
 
-/// The cells of no block.
+/// The cells to compare with before the first block.
 pub(crate) fn no_cells() -> [u8; SLOTS] {
     [0; SLOTS]
 }
@@ -93,7 +93,7 @@ pub(crate) fn last_cells_of(words: &[u64; SLOTS]) -> [u8; SLOTS]
 }
 
 /// Whether the cells of a block's subframes carry the same validity bits and channel status as
-/// those of which these are the last eight each: two cells that carry a 1 differ.
+/// those whose last eight cells are `lasts`. The two cells of a 1 differ.
 pub(crate) fn carry_the_same(words: &[u64; SLOTS], lasts: &[u8; SLOTS]) -> bool
     ensures { result ≡ true → (others : List ℕ) → map last_cells others ≡ lasts.now
         → signals_of (payloads_of (read_words words.now))
@@ -108,7 +108,7 @@ pub(crate) fn carry_the_same(words: &[u64; SLOTS], lasts: &[u8; SLOTS]) -> bool
     unlike.reduce_or() & FIRST_CELLS == 0
 }
 
-/// What 192 validity bits are of which so many are 1.
+/// The state of 192 validity bits, `invalid` of which are 1.
 fn marking_of(invalid: u64) -> Marking
     ensures { result ≡ marking_of invalid }
 {
@@ -119,7 +119,7 @@ fn marking_of(invalid: u64) -> Marking
     }
 }
 
-/// Whether they are the same.
+/// Whether the two states are the same.
 fn is_same(one: Marking, other: Marking) -> bool
     ensures { result ≡ same_marking one other }
 {
@@ -131,7 +131,7 @@ fn is_same(one: Marking, other: Marking) -> bool
     }
 }
 
-/// Adds the event of a channel's status where it is another than before.
+/// Adds the event of a channel's status, if it differs from the one before.
 fn add_status(
     events: &mut ArrayVec<Event, EVENTS>,
     at: u64,
@@ -153,7 +153,7 @@ fn add_status(
     }
 }
 
-/// Adds the event of a channel's validity bits where they are another than before.
+/// Adds the event of a channel's validity bits, if their state differs from the one before.
 fn add_validity(
     events: &mut ArrayVec<Event, EVENTS>,
     at: u64,
@@ -176,7 +176,8 @@ fn add_validity(
     }
 }
 
-/// Adds the events of a whole block at cell `at` behind the one before it, if there is one.
+/// Adds the events of a whole block at cell `at`, compared with the whole block before it, if there
+/// is one.
 #[tactic(auto, unfolding(crate::specs::Signals::change_events))]
 pub(crate) fn add_changes(
     events: &mut ArrayVec<Event, EVENTS>,

@@ -1,4 +1,4 @@
-//! A line watched, with a sum for each period of it.
+//! A watched line, with a sum for each period of it.
 
 ghost use Rattle.std.specs.Prelude.{◌≡◌, ℕ, ◌+◌, ◌*◌, ◌-◌, ◌<◌, ◌≤◌, ◌^◌, ◌++◌, [], List, Some, IfOk, false};
 ghost use Rattle.std.specs.Prelude.{if◌then◌else◌};
@@ -31,7 +31,7 @@ use arrayvec::ArrayVec;
 /// How many cells a block has (AES3-3).
 const BLOCK_CELLS: u64 = 24_576;
 
-/// Nothing is counted.
+/// Counts that are all zero.
 fn no_figures() -> Figures
     ensures { result ≡ no_figures }
 {
@@ -49,7 +49,7 @@ fn no_figures() -> Figures
     }
 }
 
-/// More of what is counted.
+/// The sum of two counts, which stops at the greatest number.
 #[tactic(auto, unfolding(crate::specs::Sums::more))]
 fn more(count: u64, new: u64) -> u64
     ensures { result ≡ more count new }
@@ -65,7 +65,7 @@ fn with_lost(mut figures: Figures, cells: u64) -> Figures
     figures
 }
 
-/// Counts a whole block that says this of its samples, of which so many events tell a change.
+/// Counts a whole block with these signals, and the events of a change among `changes`.
 fn with_whole(mut figures: Figures, now: &Signals, changes: u64) -> Figures
     ensures { result ≡ with_whole figures now.now.first.invalid now.now.second.invalid changes }
 {
@@ -76,7 +76,7 @@ fn with_whole(mut figures: Figures, now: &Signals, changes: u64) -> Figures
     figures
 }
 
-/// Counts a block of which a subframe has a wrong parity bit.
+/// Counts a block with a wrong parity bit in a subframe.
 fn with_marked(mut figures: Figures) -> Figures
     ensures { result ≡ with_marked figures }
 {
@@ -100,7 +100,7 @@ fn with_fault(mut figures: Figures, why: Why) -> Figures
     figures
 }
 
-/// Whether an event tells of a change of what the blocks say of their samples, as a number.
+/// Whether an event reports a change of the blocks' signals, as a number.
 fn change_of(event: &Event) -> u64
     ensures change { result ≡ change_of event.now }
     ensures one { result ≤ 1 }
@@ -115,7 +115,7 @@ fn change_of(event: &Event) -> u64
     }
 }
 
-/// How many events tell of such a change.
+/// How many events report such a change.
 fn changes_in(events: &[Event]) -> u64
     ensures { result ≡ changes_in events.now }
 {
@@ -126,7 +126,8 @@ fn changes_in(events: &[Event]) -> u64
     found
 }
 
-/// Where the candidate of a report begins, that of an ending that a lock has just answered.
+/// The place where the candidate of a report begins, given the ending that a lock has just
+/// returned.
 fn place_in(_lock: &Lock, ending: Ending) -> u64
     ensures { result ≡ place_of (report_in _lock.now ending) }
 {
@@ -138,22 +139,22 @@ fn place_in(_lock: &Lock, ending: Ending) -> u64
     }
 }
 
-/// What is kept of a line of which sums are told.
+/// What is kept of a line whose sums are written.
 #[derive(Drop)]
 struct Summer {
     watcher: Watcher,
     /// How many cells a period has.
     every: u64,
-    /// The first cell of the open one.
+    /// The first cell of the current period.
     from: u64,
-    /// The cells before it are in a whole block or in a gap that is decided.
+    /// All cells before it are in a whole block or in a gap that is decided.
     place: u64,
-    /// What is counted in the open period.
+    /// The counts of the current period.
     figures: Figures,
 }
 
 impl Summer {
-    /// No cell has come.
+    /// The state before the first cell.
     fn new(style: Style, every: u64) -> Self
         requires some { 0 < every }
         requires few { every ≤ 2 ^ 40 }
@@ -185,7 +186,7 @@ impl Summer {
         self.place += cells;
     }
 
-    /// Goes on to cell `to` of the open period, before which no whole block begins.
+    /// Advances to cell `to` of the current period. No whole block begins before it.
     ///
     /// # Errors
     /// The sink's fault; then it has taken a front of the line of the event.
@@ -207,7 +208,7 @@ impl Summer {
         put_events(&self.watcher.style, &events, sink)
     }
 
-    /// Writes the sum of the open period, which ends before cell `to`.
+    /// Writes the sum of the current period, which ends before cell `to`.
     ///
     /// # Errors
     /// The sink's fault; then it has taken a front of the line.
@@ -228,7 +229,7 @@ impl Summer {
         line_of_sum(&self.watcher.style, &sum, sink)
     }
 
-    /// Goes on to the end of the open period, writes its sum and opens the next.
+    /// Advances to the end of the current period, writes its sum and begins the next.
     ///
     /// # Errors
     /// The sink's fault; then it has taken a front of the lines.
@@ -255,7 +256,7 @@ impl Summer {
         Ok(())
     }
 
-    /// Goes on over all ends of periods up to cell `to`, before which no whole block begins.
+    /// Advances over all ends of periods up to cell `to`. No whole block begins before it.
     ///
     /// # Errors
     /// The sink's fault; then it has taken a front of the lines.
@@ -286,7 +287,7 @@ impl Summer {
         Ok(())
     }
 
-    /// Goes on to cell `to`, before which no whole block begins.
+    /// Advances to cell `to`. No whole block begins before it.
     ///
     /// # Errors
     /// The sink's fault; then it has taken a front of the lines.
@@ -313,8 +314,9 @@ impl Summer {
         Ok(())
     }
 
-    /// Counts a report at the cell that is reached, that of an ending that a lock has just answered,
-    /// of which so many events tell a change; a whole block stood before it or not.
+    /// Counts a report at the cell that is reached, given the ending that a lock has just returned.
+    /// `changes` of its events report a change; `found` says whether there was a whole block before
+    /// it.
     fn count_report(&mut self, _lock: &Lock, ending: Ending, found: bool, changes: u64)
         requires near { place_of (report_in _lock.now ending) ≤ 2 ^ 43 }
         ensures watcher { self.new.watcher ≡ self.old.watcher }
@@ -345,7 +347,7 @@ impl Summer {
         }
     }
 
-    /// Goes on to a report, that of an ending that a lock has just answered, and behind it.
+    /// Advances to and past a report, given the ending that a lock has just returned.
     ///
     /// # Errors
     /// The sink's fault; then it has taken a front of the lines.
@@ -383,7 +385,7 @@ impl Summer {
         Ok(())
     }
 
-    /// Writes the sum of the open period at the end of `seen` cells, if it has cells.
+    /// Writes the sum of the current period at the end of `seen` cells, if the period has cells.
     ///
     /// # Errors
     /// The sink's fault; then it has taken a front of the line.
@@ -399,7 +401,7 @@ impl Summer {
         self.tell(sink, seen)
     }
 
-    /// Goes on to the end of `seen` cells.
+    /// Advances to the end of `seen` cells.
     ///
     /// # Errors
     /// The sink's fault; then it has taken a front of the lines.
@@ -464,18 +466,18 @@ impl Listener for Summer {
     }
 }
 
-/// Watches a line as `watch` does, and writes a line of sums for each `every` cells beside the
-/// events: what is decided of the cells from 0 on and before `every`, of the next `every`, and so
-/// on up to the end of the input.
+/// Watches a line as `watch` does, and writes a line of sums for each `every` cells besides the
+/// events. The first sum is of the first `every` cells, the second of the next, and so on up to the
+/// end of the input.
 ///
-/// A sum is written as soon as a report behind its period is decided, or a block's length of cells
-/// has come from the end of the period on; the last one, if it has cells, before `end`. A report is
-/// counted where it begins, a gap of a block's length where its last cell lies, and a shorter one
-/// with the whole block that ends it.
+/// A sum is written as soon as a report after its period is decided, or a block's length of cells
+/// has come from the end of the period on. The last one, if it has cells, is written before `end`.
+/// A report is counted where it begins. A gap of a block's length is counted where its last cell
+/// lies, a shorter one with the whole block that ends it.
 ///
 /// # Errors
-/// Those of `check`; then the lines are written that stood before, whatever cells follow, and after
-/// `Write` a front of them.
+/// Those of `check`. The lines that were certain before, whatever cells follow, are written; after
+/// `Write`, a front of them.
 pub fn watch_sums<S: Source, T: Sink>(
     source: &mut S,
     sink: &mut T,
@@ -490,12 +492,12 @@ pub fn watch_sums<S: Source, T: Sink>(
     requires some { 0 < every }
     requires few { every ≤ 2 ^ 40 }
 
-    // Where it answers Ok, exactly the lines of the cells are written.
+    // If it returns Ok, exactly the lines of the cells are written.
     ensures lines { IfOk result (λ _. (b : List ℕ)
         → Told (S.given source.old) (S.given source.new) b
         → Grew (T.taken sink.old) (T.taken sink.new) (sum_lines style every (cells_of input b))) }
-    // It is a run over cells: Ok is owed, a refusal has its cause, and what stood before it is
-    // written.
+    // A run over cells: it returns Ok if it can. An error has its cause, and what was certain
+    // before it is written.
     ensures run { CellRun max_bytes input (record {
       whole = sum_lines style every;
       begun = begun_sums style every;

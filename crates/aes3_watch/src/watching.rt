@@ -1,4 +1,4 @@
-//! A line watched: what changes, in a few lines.
+//! A watched line: what changes, in a few lines.
 
 ghost use Rattle.std.specs.Prelude.{◌≡◌, ℕ, ◌+◌, ◌<◌, ◌≤◌, ◌^◌, ◌++◌, ◌∷◌, [], List, Some, IfOk, length};
 ghost use Rattle.arrayvec.specs.ArrayVec.{array_vec_len};
@@ -48,23 +48,23 @@ pub(crate) fn put_events<T: Sink>(
     Ok(())
 }
 
-/// What is known of a line of which some cells have come.
+/// The state of a line after some cells.
 #[derive(Clone, Copy)]
 pub(crate) struct Watched {
     /// Whether a whole block has come.
     pub(crate) found: bool,
-    /// The cell behind the last whole block, or the first of all.
+    /// The cell after the last whole block, or the first cell of all.
     pub(crate) place: u64,
-    /// Whether the cells from there on are told as lost.
+    /// Whether the cells from there on are reported as lost.
     pub(crate) lost: bool,
-    /// How often cells were told as lost, and whole blocks as slipped.
+    /// How often cells were reported as lost, and whole blocks as slipped.
     pub(crate) losses: u64,
     /// What the last whole block says of its samples, if there is one.
     pub(crate) latest: Option<Signals>,
 }
 
 impl Watched {
-    /// No cell has come.
+    /// The state before the first cell.
     fn new() -> Self
         ensures { result ≡ unwatched }
     {
@@ -77,8 +77,8 @@ impl Watched {
         }
     }
 
-    /// Whether nothing is left to tell of the cells up to cell `to`, before which no whole block
-    /// begins.
+    /// Whether nothing is left to report of the cells up to cell `to`. No whole block begins before
+    /// it.
     #[inline(always)]
     fn is_told(&self, to: u64) -> bool
         ensures { result ≡ is_told self.now to }
@@ -86,23 +86,22 @@ impl Watched {
         self.lost || to.saturating_sub(self.place) < BLOCK_CELLS
     }
 
-    /// Whether a whole block at cell `at` stands fewer cells than a block has behind the one before
-    /// it.
+    /// Whether a whole block at cell `at` begins fewer cells than a block has after the whole block
+    /// before it.
     fn slips(&self, at: u64) -> bool
         ensures { result ≡ slips self.now at }
     {
         self.found && !self.lost && self.place < at
     }
 
-    /// Whether the last whole block is followed by fewer cells than a block has, or not yet told
-    /// otherwise.
+    /// Whether there was a whole block, and the cells after the last one are not reported as lost.
     fn is_locked(&self) -> bool
         ensures { result ≡ is_locked self.now }
     {
         self.found && !self.lost
     }
 
-    /// Goes on to cell `to`, before which no whole block begins.
+    /// Advances to cell `to`. No whole block begins before it.
     #[inline(always)]
     fn up_to(self, to: u64) -> Self
         requires few { self.losses + 1 < 2 ^ 64 }
@@ -120,7 +119,7 @@ impl Watched {
         }
     }
 
-    /// Goes on behind a whole block at cell `at`, which says this of its samples.
+    /// Advances past a whole block at cell `at` with these signals.
     fn behind_whole(self, at: u64, now: Signals) -> Self
         requires few { self.losses + 1 < 2 ^ 64 }
         requires near { at ≤ 2 ^ 43 }
@@ -136,7 +135,7 @@ impl Watched {
         }
     }
 
-    /// Adds the event of cells up to cell `to` where they are to be told as lost.
+    /// Adds the event of lost cells up to cell `to`, if they are to be reported.
     #[inline(always)]
     fn add_loss(&self, events: &mut ArrayVec<Event, EVENTS>, to: u64)
         requires { array_vec_len events.old + 1 ≤ EVENTS }
@@ -148,7 +147,7 @@ impl Watched {
         }
     }
 
-    /// Adds the event of a whole block's place, where it gets one.
+    /// Adds the event of a whole block's place, if it gets one.
     fn add_whole(&self, events: &mut ArrayVec<Event, EVENTS>, at: u64, before: Level)
         requires { array_vec_len events.old + 1 ≤ EVENTS }
         ensures events { events.new.items ≡ events.old.items ++ whole_events self.now at before }
@@ -166,18 +165,18 @@ impl Watched {
     }
 }
 
-/// What is kept of a line that is watched.
+/// What is kept of a watched line.
 #[derive(Drop)]
 pub(crate) struct Watcher {
     pub(crate) style: Style,
     pub(crate) state: Watched,
-    /// The last eight cells of each subframe of a whole block that says the same of its samples as
-    /// the last one.
+    /// The last eight cells of each subframe of a whole block with the same signals as the last
+    /// one.
     pub(crate) lasts: [u8; SLOTS],
 }
 
 impl Watcher {
-    /// No cell has come.
+    /// A watcher before the first cell.
     pub(crate) fn new(style: Style) -> Self
         ensures state { Watches result.state result.lasts [] }
         ensures style { result.style ≡ style }
@@ -208,7 +207,7 @@ impl Watcher {
         }
     }
 
-    /// Goes on to cell `to`, before which no whole block begins.
+    /// Advances to cell `to`. No whole block begins before it.
     #[inline(always)]
     pub(crate) fn go_on(&mut self, events: &mut ArrayVec<Event, EVENTS>, to: u64)
         requires few { self.old.state.losses + 1 < 2 ^ 64 }
@@ -225,7 +224,7 @@ impl Watcher {
         self.state = self.state.up_to(to);
     }
 
-    /// Goes on to a lock's whole block at cell `at`, and behind it.
+    /// Advances to and past a lock's whole block at cell `at`.
     #[inline(never)]
     fn take_whole(
         &mut self,
@@ -256,7 +255,7 @@ impl Watcher {
         self.state = self.state.behind_whole(at, now);
     }
 
-    /// Goes on to a report.
+    /// Advances to a report.
     #[inline(always)]
     pub(crate) fn take_report(
         &mut self,
@@ -284,7 +283,7 @@ impl Watcher {
         }
     }
 
-    /// Goes on to the end of `seen` cells.
+    /// Advances to the end of `seen` cells.
     pub(crate) fn go_to_end(&mut self, events: &mut ArrayVec<Event, EVENTS>, seen: u64)
         requires few { self.old.state.losses + 1 < 2 ^ 64 }
         requires room { array_vec_len events.old + 2 ≤ EVENTS }
@@ -352,20 +351,26 @@ impl Listener for Watcher {
     }
 }
 
-/// Reads cells from any cell on, and writes a line where what is known of them as an AES3 line
-/// changes: `locked` at the first whole block; `lost` where a block's length of cells or more lies
-/// in no whole block; `back` at the first whole block behind them; `slipped` at a whole block that
-/// stands fewer cells than that behind the one before it; `status` and `validity` at a whole block
-/// of which a channel's status (AES3-2, IEC 60958-3) is not that of the one before it, or its
-/// validity bits are not all 0, all 1 or mixed as there; and `end`.
+/// Reads cells from any cell on, and writes a line if what is known of them as an AES3 line
+/// changes:
 ///
-/// A loss is written when a report behind it is decided, or two blocks' cells have come from its
-/// first cell on. The counts have losses and slips among the faults: there is one where a gap of
-/// `account` counts.
+/// - `locked`: the first whole block.
+/// - `lost`: at least a block's length of cells lies in no whole block.
+/// - `back`: the first whole block after these cells.
+/// - `slipped`: a whole block follows the one before it after a gap of fewer cells.
+/// - `status`: in a whole block, a channel's status (AES3-2, IEC 60958-3) is not that of the whole
+///   block before it.
+/// - `validity`: a channel's validity bits are not all 0, all 1 or mixed as in the whole block
+///   before it.
+/// - `end`: the input has ended.
+///
+/// A loss is written when a report after it is decided, or when two blocks' cells have come from
+/// its first cell on. Losses and slips are counted as faults: there is one if a gap of `account`
+/// counts.
 ///
 /// # Errors
-/// Those of `check`; then the lines are written that stood before, whatever cells follow, and after
-/// `Write` a front of them.
+/// Those of `check`. The lines that were certain before, whatever cells follow, are written; after
+/// `Write`, a front of them.
 pub fn watch<S: Source, T: Sink>(
     source: &mut S,
     sink: &mut T,
@@ -377,12 +382,12 @@ pub fn watch<S: Source, T: Sink>(
     requires sink_room { T.failed sink.old + 1 < 2 ^ 64 }
     requires limit { max_bytes ≤ 2 ^ 40 }
 
-    // Where it answers Ok, exactly the lines of the cells are written.
+    // If it returns Ok, exactly the lines of the cells are written.
     ensures lines { IfOk result (λ _. (b : List ℕ)
         → Told (S.given source.old) (S.given source.new) b
         → Grew (T.taken sink.old) (T.taken sink.new) (watch_lines style (cells_of input b))) }
-    // It is a run over cells: Ok is owed, a refusal has its cause, and what stood before it is
-    // written.
+    // A run over cells: it returns Ok if it can. An error has its cause, and what was certain
+    // before it is written.
     ensures run { CellRun max_bytes input (record {
       whole = watch_lines style;
       begun = begun_watch style;

@@ -1,4 +1,4 @@
-//! What the chunks before the samples say.
+//! The chunks before the samples.
 
 ghost use Rattle.std.specs.Prelude.{◌≡◌, ◌≤◌, ◌<◌, ◌+◌, ◌^◌, None, false, length, IfErr, IfOk};
 ghost use Rattle.aes3_wave.specs.Chunks.{chunk_len, content_len, head_len, is_data, is_format};
@@ -12,19 +12,19 @@ use crate::error::{Cause, HeaderError};
 use crate::format::{WaveFormat, format_of};
 use crate::octets::{u32_at, u64_at};
 
-/// How many octets a chunk has before its content: its name and its length.
+/// How many octets come before the content of a chunk: its name and its length.
 pub(crate) const HEAD_LEN: usize = 8;
 
-/// How many octets a file has before its first chunk.
+/// How many octets come before the first chunk of a file.
 pub(crate) const FIRST_LEN: usize = 12;
 
-/// How many octets of a chunk's content have to be known at most: those of an extensible format.
+/// How many octets of a chunk's content are needed at most: those of an extensible format.
 const MOST_CONTENT: u32 = 40;
 
-/// The same with the octets before it.
+/// The same, including the octets before the content.
 pub(crate) const MOST_HEAD: usize = 48;
 
-/// The length that stands for one that is not known, or is in `ds64`.
+/// The length that means that the length is not known, or is in `ds64`.
 const NOT_NAMED: u64 = 4_294_967_295;
 
 /// The header of a WAV file.
@@ -33,7 +33,7 @@ pub struct WaveHeader {
     pub format: WaveFormat,
     /// The octet of the file at which the samples begin.
     pub start: u64,
-    /// How many octets they have; `None` where they go on to the end of the file.
+    /// How many octets they have; `None` if they go on to the end of the file.
     pub len: Option<u64>,
 }
 
@@ -47,10 +47,10 @@ pub(crate) struct Known {
     pub format: Option<WaveFormat>,
 }
 
-/// What the first octets of a chunk decide.
+/// What is decided by the first octets of a chunk.
 #[derive(Clone, Copy)]
 pub(crate) enum Step {
-    /// Nothing, as long as no more of them are there.
+    /// Nothing, until more of them are there.
     More,
     /// What is known after the chunk, and how many octets it has.
     Next { known: Known, len: u64 },
@@ -66,7 +66,7 @@ fn content_len(chunk: &[u8]) -> u32
     u32_at(chunk, 4)
 }
 
-/// How long a chunk is, with the octet that is added where its content has an odd length.
+/// How long a chunk is, with the octet that is added if its content has an odd length.
 pub(crate) fn chunk_len(chunk: &[u8]) -> u64
     requires { HEAD_LEN ≤ length chunk.now }
     ensures len { result ≡ chunk_len chunk.now }
@@ -83,21 +83,21 @@ pub(crate) fn is_data(chunk: &[u8]) -> bool
     chunk.starts_with(b"data")
 }
 
-/// Whether a file that begins so is one of 32-bit lengths.
+/// Whether a file that begins like this has 32-bit lengths.
 fn is_riff(first: &[u8]) -> bool
     ensures { result ≡ is_riff first.now }
 {
     first.starts_with(b"RIFF")
 }
 
-/// Whether it is one of 64-bit lengths.
+/// Whether it has 64-bit lengths.
 fn is_long(first: &[u8]) -> bool
     ensures { result ≡ is_long first.now }
 {
     first.starts_with(b"RF64") || first.starts_with(b"BW64")
 }
 
-/// Whether it is one of sound.
+/// Whether it is a sound file.
 fn is_wave(first: &[u8]) -> bool
     requires { length first.now ≡ FIRST_LEN }
     ensures { result ≡ is_wave first.now }
@@ -105,7 +105,7 @@ fn is_wave(first: &[u8]) -> bool
     first[8..].starts_with(b"WAVE")
 }
 
-/// A length, if it is named.
+/// A length, if it is known.
 fn named(greatest: u64, len: u64) -> Option<u64>
     ensures { result ≡ named greatest len }
 {
@@ -150,14 +150,14 @@ impl Known {
         chunk.starts_with(b"fmt ") && self.format.is_none()
     }
 
-    /// Whether it is the first chunk of 64-bit lengths in a file that has them.
+    /// Whether it is the first chunk of 64-bit lengths in a file with such lengths.
     fn is_sizes(&self, chunk: &[u8]) -> bool
         ensures { result ≡ is_sizes self.now chunk.now }
     {
         chunk.starts_with(b"ds64") && self.is_long && self.sizes.is_none()
     }
 
-    /// How many of a chunk's first octets have to be known.
+    /// How many of a chunk's first octets are needed.
     pub(crate) fn head_len(&self, chunk: &[u8]) -> usize
         requires { HEAD_LEN ≤ length chunk.now }
         ensures len { result ≡ head_len self.now chunk.now }
@@ -171,7 +171,7 @@ impl Known {
         }
     }
 
-    /// What is known with the 64-bit lengths in this chunk.
+    /// What is known after this chunk of 64-bit lengths.
     fn with_sizes(&self, head: &[u8]) -> Result<Self, HeaderError>
         ensures known { result ≡ with_sizes self.now head.now }
         ensures frame { IfOk result (λ known. known.format ≡ self.now.format) }
@@ -188,7 +188,7 @@ impl Known {
         })
     }
 
-    /// What is known after a chunk with this head.
+    /// What is known after a chunk with these first octets.
     ///
     /// # Errors
     /// What is wrong with the chunk, and where in it.
@@ -213,7 +213,7 @@ impl Known {
         Ok(*self)
     }
 
-    /// How many octets the samples have, where the length of their chunk is `len`.
+    /// How many octets the samples have, if the length of their chunk is `len`.
     fn samples_len(&self, len: u32) -> Option<u64>
         ensures { result ≡ samples_len self.now len }
     {

@@ -1,4 +1,4 @@
-//! Why a header is refused.
+//! Why a header is rejected.
 
 ghost use Rattle.std.specs.Prelude.{◌≡◌, ◌<◌, ◌+◌, ◌^◌};
 
@@ -17,7 +17,8 @@ pub enum Cause {
     NotPcm { format: u16 },
     /// The samples have no channels.
     NoChannels,
-    /// A sample has another number of bits than 8, 16, 20, 24 or 32, or more than its octets hold.
+    /// A sample has another number of bits than 8, 16, 20, 24 or 32, or more bits than its octets
+    /// hold.
     WrongBits { bits: u16 },
     /// A frame has another number of octets than the samples of its channels.
     WrongFrame { octets: u16 },
@@ -27,17 +28,17 @@ pub enum Cause {
     Ended,
 }
 
-/// Why a header is refused, and where.
+/// Why a header is rejected, and where.
 #[derive(Clone, Copy, PartialEq, Eq)]
 pub struct HeaderError {
     pub cause: Cause,
-    /// The octet of the file that is wrong, or with which what is wrong begins; at the end of the file
-    /// how many octets it has.
+    /// The first wrong octet of the file. At the end of the file it is how many octets the file
+    /// has.
     pub at: u64,
 }
 
 impl HeaderError {
-    /// The same, where places are counted from `at` on.
+    /// The same error, with places counted from `at` on.
     pub(crate) fn behind(self, at: u64) -> Self
         requires { at + self.at < 2 ^ 64 }
         ensures cause { result.cause ≡ self.cause }

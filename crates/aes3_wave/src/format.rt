@@ -8,22 +8,23 @@ ghost use Rattle.aes3_wave.specs.Formats.{is_extensible, is_short, valid_bits, w
 use crate::error::{Cause, HeaderError};
 use crate::octets::{u16_at, u32_at};
 
-/// How many octets of a `fmt ` chunk say what PCM samples are, with the eight before its content.
+/// How many octets of a `fmt ` chunk describe PCM samples, with the eight before its content.
 const PLAIN_LEN: usize = 24;
 
-/// How many do where the format is extensible.
+/// How many octets do if the format is extensible.
 const EXTENSIBLE_LEN: usize = 48;
 
-/// The number of an extensible format, whose own number is in its GUID.
+/// The number of an extensible format, which has its actual number in its GUID.
 const EXTENSIBLE: u16 = 65_534;
 
 /// The number of PCM.
 const PCM: u16 = 1;
 
-/// How a GUID ends that holds the number of a format, from its third octet on.
+/// The end of a GUID that holds the number of a format, from its third octet on.
 const GUID_END: [u8; 14] = [0, 0, 0, 0, 16, 0, 128, 0, 0, 170, 0, 56, 155, 113];
 
-/// How many octets a sample has, the lowest first. In one octet it has no sign, and 128 is its zero.
+/// How many octets a sample has, the lowest first. A sample of one octet is unsigned, with 128 as
+/// zero.
 #[derive(Clone, Copy, PartialEq, Eq)]
 pub enum Container {
     Octets1,
@@ -32,7 +33,7 @@ pub enum Container {
     Octets4,
 }
 
-/// How many of a sample's bits count, the highest ones.
+/// How many of a sample's bits are valid, the highest ones.
 #[derive(Clone, Copy, PartialEq, Eq)]
 pub enum Width {
     Bits8,
@@ -45,18 +46,18 @@ pub enum Width {
 /// The format of PCM samples.
 #[derive(Clone, Copy, PartialEq, Eq)]
 pub struct WaveFormat {
-    /// How many channels a frame has, one at least.
+    /// How many channels a frame has, at least one.
     pub channels: u16,
     /// How many frames a second has.
     pub rate: u32,
     /// How many octets a sample has.
     pub container: Container,
-    /// How many of its bits count.
+    /// How many of the sample's bits are valid.
     pub width: Width,
 }
 
 impl Container {
-    /// How many octets these are.
+    /// The number of octets.
     pub fn len(self) -> usize
         ensures len { result ≡ container_len self }
         ensures few { result ≤ 4 }
@@ -81,7 +82,7 @@ impl WaveFormat {
     }
 }
 
-/// The octets that hold a sample of so many bits, of 32 at most.
+/// The container of a sample of this number of bits, at most 32.
 fn container_of(bits: u16) -> Container
     ensures { result ≡ container_of bits }
 {
@@ -96,7 +97,7 @@ fn container_of(bits: u16) -> Container
     }
 }
 
-/// The width that has so many bits.
+/// The width of this number of bits.
 fn width_of(bits: u16) -> Option<Width>
     ensures { result ≡ width_of bits }
 {
@@ -110,7 +111,7 @@ fn width_of(bits: u16) -> Option<Width>
     }
 }
 
-/// Whether a `fmt ` chunk that begins so has an extensible format.
+/// Whether a `fmt ` chunk that begins like this has an extensible format.
 fn is_extensible(chunk: &[u8]) -> bool
     requires { PLAIN_LEN ≤ length chunk.now }
     ensures { result ≡ is_extensible chunk.now }
@@ -118,7 +119,7 @@ fn is_extensible(chunk: &[u8]) -> bool
     u16_at(chunk, 8) == EXTENSIBLE
 }
 
-/// Whether too few octets of a chunk are there for its format.
+/// Whether a chunk has too few octets for its format.
 fn is_short(chunk: &[u8]) -> bool
     ensures { result ≡ is_short chunk.now }
 {
@@ -146,7 +147,7 @@ fn format_number(chunk: &[u8]) -> u16
     }
 }
 
-/// How many bits of a sample count.
+/// How many bits of a sample are valid.
 fn valid_bits(chunk: &[u8]) -> u16
     requires { is_short chunk.now ≡ false }
     ensures { result ≡ valid_bits chunk.now }
@@ -158,7 +159,7 @@ fn valid_bits(chunk: &[u8]) -> u16
     }
 }
 
-/// The width of a sample of which so many bits count.
+/// The width of a sample with this number of valid bits.
 fn width_in(chunk: &[u8], valid: u16) -> Option<Width>
     requires long { is_short chunk.now ≡ false }
     requires valid { valid ≡ valid_bits chunk.now }
@@ -195,7 +196,7 @@ fn format_with(chunk: &[u8], width: Width) -> Result<WaveFormat, HeaderError>
     })
 }
 
-/// The format that the first octets of a `fmt ` chunk say.
+/// The format that the first octets of a `fmt ` chunk describe.
 ///
 /// # Errors
 /// What is wrong with it, and where in the chunk.

@@ -2,7 +2,7 @@
 
 ghost use Rattle.aes3_wave.specs.Laws.{DecidedStays, HeadersHaveParts, PartsAreRead, WrittenAreRead};
 
-/// A header that is refused, or whole, is so with any octets after it.
+/// A header that is rejected, or whole, stays so whatever octets follow.
 pub fn decided_stays()
     ensures { DecidedStays }
 {}
@@ -12,12 +12,12 @@ pub fn parts_are_read()
     ensures { PartsAreRead }
 {}
 
-/// Octets that have a header begin with the chunks of one.
+/// Octets that have a header begin with the chunks of a header.
 pub fn headers_have_parts()
     ensures { HeadersHaveParts }
 {}
 
-/// A header that is written is read again.
+/// A header that is written is read back.
 pub fn written_are_read()
     ensures { WrittenAreRead }
 {}

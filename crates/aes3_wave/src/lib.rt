@@ -1,10 +1,10 @@
-//! WAV files: the header that is read and the one that is written, and the samples after it (RIFF/WAVE;
-//! RF64 of EBU Tech 3306 and BW64 of ITU-R BS.2088).
+//! WAV files: reading and writing the header, and the samples after it (RIFF/WAVE; RF64 of EBU Tech
+//! 3306 and BW64 of ITU-R BS.2088).
 #![tactic(auto)]
 
-/// What the chunks before the samples say.
+/// The chunks before the samples.
 mod chunk;
-/// Why a header is refused.
+/// Why a header is rejected.
 mod error;
 /// The format of the samples.
 mod format;
@@ -20,7 +20,7 @@ mod samples;
 mod span;
 /// What the reader keeps.
 mod state;
-/// The header that is written.
+/// Writing the header.
 mod written;
 
 pub use chunk::WaveHeader;

@@ -1,4 +1,4 @@
-//! The reader of a header.
+//! Reading a header.
 
 ghost use Rattle.std.specs.Prelude.{◌≡◌, ◌<◌, ◌≤◌, ◌+◌, ◌++◌, ◌^◌, List, ℕ, [], None, Ok, length, IfOk, IfSome, take};
 ghost use Rattle.aes3_wave.specs.Following.{Decided, Follows, TookFront, TookOctet, TookPiece};
@@ -12,7 +12,7 @@ use crate::error::{Cause, HeaderError};
 use crate::state::{HeaderReader, Stage};
 
 impl Known {
-    /// What the first octets of a chunk at place `at` decide.
+    /// What is decided by the first octets of a chunk at place `at`.
     ///
     /// # Errors
     /// What is wrong with it, and where in the file.
@@ -43,7 +43,7 @@ impl Known {
     }
 }
 
-/// What the first octets of a file decide.
+/// What is decided by the first octets of a file.
 ///
 /// # Errors
 /// `NotRiff` and `NotWave`.
@@ -76,7 +76,7 @@ impl HeaderReader {
         }
     }
 
-    /// The header, once it is whole: the next octet is the first one of the samples then.
+    /// The header, once it is whole. Then the next octet is the first one of the samples.
     pub fn header(&self) -> Option<WaveHeader>
         ensures stage { result ≡ header_of self.now.stage }
         ensures judged { (b : List ℕ) → Follows self.now b → judged b ≡ Ok result }
@@ -102,8 +102,8 @@ impl HeaderReader {
         }
     }
 
-    /// How many octets more it takes at least until the header is whole or refused; 0 once it is
-    /// whole. A read of so many octets at most goes no further than the header.
+    /// The least number of octets that it takes until the header is whole or rejected; 0 once it is
+    /// whole. A read of at most this number of octets goes no further than the header.
     pub fn wanted(&self) -> u64
         ensures some { (b : List ℕ) → Follows self.now b → judged b ≡ Ok None → 0 < result }
         ensures open { (b piece : List ℕ) → Follows self.now b → length piece < result
@@ -119,7 +119,7 @@ impl HeaderReader {
     /// Takes the end of the file.
     ///
     /// # Errors
-    /// `Ended` where the header is not whole.
+    /// `Ended` if the header is not whole.
     pub fn end(&self) -> Result<WaveHeader, HeaderError>
         ensures judged { (b : List ℕ) → Follows self.now b → result ≡ judged_at_end b }
         ensures frame { IfOk result (λ header. frame_len header.format < 2 ^ 16) }
@@ -133,7 +133,7 @@ impl HeaderReader {
         }
     }
 
-    /// What the octets decide that it would hold with the next one.
+    /// What is decided by the octets that it would hold with the next one.
     fn decide(&self, front: &[u8]) -> Result<Step, HeaderError>
         requires few { length front.now ≤ MOST_HEAD }
         requires room { self.now.at + MOST_HEAD < 2 ^ 64 }
@@ -148,7 +148,7 @@ impl HeaderReader {
         }
     }
 
-    /// Takes an octet of a header that is not whole, where none is left out.
+    /// Takes an octet of a header that is not whole, if no octets are being skipped.
     fn take_octet(&mut self, octet: u8) -> Result<(), HeaderError>
         requires room { self.old.seen < 2 ^ 63 }
         requires open { header_of self.old.stage ≡ None }
@@ -182,7 +182,7 @@ impl HeaderReader {
         Ok(())
     }
 
-    /// Takes a front of a piece, at least one octet of it, where the header is not whole.
+    /// Takes at least one octet from the front of a piece, if the header is not whole.
     fn take_front(&mut self, piece: &[u8]) -> Result<usize, HeaderError>
         requires some { 0 < length piece.now }
         requires room { self.old.seen + length piece.now ≤ 2 ^ 63 }
@@ -202,8 +202,8 @@ impl HeaderReader {
         Ok(n as usize)
     }
 
-    /// Takes octets of a file up to its samples, and answers how many they are: all, if the header is
-    /// not whole with them. Where it answers an error, it can't be used any more.
+    /// Takes octets of a file up to its samples, and returns how many: all, if the header is not
+    /// whole with them. After an error the reader can't be used any more.
     ///
     /// # Errors
     /// What is wrong with the header, and where.

@@ -11,27 +11,27 @@ use crate::format::{Container, WaveFormat, Width};
 /// How many octets a sample of 32 bits has.
 const SAMPLE_LEN: usize = 4;
 
-/// How many octets two of them have.
+/// How many octets two of these samples have.
 const FRAME_LEN: usize = 8;
 
-/// The channels of a frame whose samples are taken; the first one is 0.
+/// The channels of a frame whose samples are taken, counted from 0.
 #[derive(Clone, Copy, PartialEq, Eq)]
 pub struct Channels {
     pub first: u16,
-    /// `None` has samples that are zero in its place.
+    /// `None` means zero samples in its place.
     pub second: Option<u16>,
 }
 
-/// Which channels the samples of a file are for that has one.
+/// Which channels the samples of a file with one channel are for.
 #[derive(Clone, Copy, PartialEq, Eq)]
 pub enum Mono {
     /// Both.
     Both,
-    /// Channel 1; those of the other are zero.
+    /// Channel 1; the samples of channel 2 are zero.
     First,
 }
 
-/// The highest octet of a number with a sign, of one that has 128 for its zero.
+/// The highest octet of a signed number, from an unsigned one with 128 as zero.
 fn signed(octet: u8) -> u8
     ensures { result ≡ signed octet }
 {
@@ -42,7 +42,7 @@ fn signed(octet: u8) -> u8
     }
 }
 
-/// A sample of 32 bits with those bits 0 that don't count.
+/// A sample of 32 bits with the bits that are not valid set to 0.
 fn counted(width: Width, sample: [u8; SAMPLE_LEN]) -> [u8; SAMPLE_LEN]
     ensures { result ≡ counted width sample }
 {
@@ -57,7 +57,7 @@ fn counted(width: Width, sample: [u8; SAMPLE_LEN]) -> [u8; SAMPLE_LEN]
 }
 
 impl Mono {
-    /// The second channel of a file that has one.
+    /// The second channel for a file that has one channel.
     fn usual_second(self) -> Option<u16>
         ensures { result ≡ usual_second self }
     {
@@ -69,7 +69,7 @@ impl Mono {
 }
 
 impl WaveFormat {
-    /// The sample whose octets begin at place `at`, as one of 32 bits.
+    /// The sample whose octets begin at place `at`, as a sample of 32 bits.
     fn sample_at(self, frame: &[u8], at: usize) -> [u8; SAMPLE_LEN]
         requires { at + container_len self.container ≤ length frame.now }
         ensures { result ≡ sample_at self at frame.now }
@@ -83,7 +83,7 @@ impl WaveFormat {
         counted(self.width, wide)
     }
 
-    /// That of a channel.
+    /// The sample of a channel, as a sample of 32 bits.
     fn sample_of(self, frame: &[u8], channel: u16) -> [u8; SAMPLE_LEN]
         requires frame { length frame.now ≡ frame_len self }
         requires channel { channel < self.channels }
@@ -92,7 +92,7 @@ impl WaveFormat {
         self.sample_at(frame, channel as usize * self.container.len())
     }
 
-    /// That of a channel, or where there is none a sample that is zero.
+    /// The sample of a channel, or a zero sample if there is no channel.
     fn sample_or_zero(self, frame: &[u8], channel: Option<u16>) -> [u8; SAMPLE_LEN]
         requires frame { length frame.now ≡ frame_len self }
         requires channel { ForSome channel (λ n. n < self.channels) }
@@ -104,8 +104,8 @@ impl WaveFormat {
         }
     }
 
-    /// The samples of two channels of a frame, each as one of 32 bits with the lowest octet first: the
-    /// bits that it has count most, and those that don't count are 0.
+    /// The samples of two channels of a frame, each with 32 bits, lowest octet first. The bits of a
+    /// sample are the highest ones, and bits that are not valid are 0.
     pub fn two_samples(self, channels: Channels, frame: &[u8]) -> [u8; FRAME_LEN]
         requires frame { length frame.now ≡ frame_len self }
         requires first { channels.first < self.channels }
@@ -117,7 +117,8 @@ impl WaveFormat {
         [a, b, c, d, e, f, g, h]
     }
 
-    /// The channels that are taken where none are chosen: the first two, or of one what `mono` says.
+    /// The channels that are taken if none are chosen: the first two. For a file with one channel
+    /// `mono` selects them.
     pub fn usual_channels(self, mono: Mono) -> Channels
         ensures { result ≡ usual_channels self mono }
     {

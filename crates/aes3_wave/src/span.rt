@@ -5,10 +5,10 @@ ghost use Rattle.aes3_wave.specs.Samples.{up_to};
 
 use crate::chunk::WaveHeader;
 
-/// How many of the octets that come are samples, in pieces of any size.
+/// How many of the coming octets are samples, in pieces of any size.
 #[derive(Clone, Copy, PartialEq, Eq)]
 pub struct SampleSpan {
-    /// How many more there are; `None` where they go on to the end of the file.
+    /// How many are left; `None` if they go on to the end of the file.
     pub left: Option<u64>,
 }
 
@@ -20,7 +20,7 @@ impl SampleSpan {
         SampleSpan { left: header.len }
     }
 
-    /// Takes a piece of so many octets, and answers how many of its first ones are samples.
+    /// Takes a piece of `len` octets, and returns how many of its first ones are samples.
     pub fn take(&mut self, len: usize) -> usize
         ensures within { result ≤ len }
         ensures samples { (piece more : List ℕ) → length piece ≡ len

@@ -5,14 +5,14 @@ ghost use Rattle.aes3_wave.specs.Frames.{stage_len};
 
 use crate::chunk::{Known, MOST_HEAD, WaveHeader};
 
-/// Where in a header the next octet is.
+/// The part of a header that the next octet is in.
 #[derive(Clone, Copy)]
 pub(crate) enum Stage {
-    /// In its first twelve.
+    /// The first twelve octets.
     First,
-    /// In chunks before that of the samples.
+    /// Chunks before that of the samples.
     Chunks(Known),
-    /// After it.
+    /// After the header.
     Whole(WaveHeader),
 }
 
@@ -22,12 +22,12 @@ pub struct HeaderReader {
     /// How many octets it has taken.
     pub(crate) seen: u64,
     pub(crate) stage: Stage,
-    /// Where in the file the chunk begins that is begun, or else the next one.
+    /// The place in the file where the current chunk begins, or else the next one.
     pub(crate) at: u64,
-    /// The octets of it that were taken, and how many they are.
+    /// The octets of that chunk that were taken, and how many there are.
     pub(crate) held: [u8; MOST_HEAD],
     pub(crate) len: usize,
-    /// How many octets come before the next chunk that say nothing.
+    /// How many octets to skip before the next chunk.
     pub(crate) left: u64,
     ghost few: { len < 48 },
     ghost place: { at + len ≡ seen + left },

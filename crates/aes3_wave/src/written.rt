@@ -1,4 +1,4 @@
-//! The header that is written.
+//! Writing the header.
 
 use arrayvec::ArrayVec;
 use std::marker::Model;
@@ -6,7 +6,7 @@ use std::marker::Model;
 /// How many octets a header has at most.
 const MOST_LEN: usize = 104;
 
-/// How many bits a sample has that is written.
+/// How many bits a written sample has.
 #[derive(Clone, Copy, PartialEq, Eq)]
 pub enum Depth {
     Sixteen,
@@ -31,7 +31,7 @@ impl Model for HeaderOctets {
 impl HeaderOctets {
     ghost use Rattle.std.specs.Prelude.{◌≡◌, ◌≤◌, ◌+◌, [], ◌++◌, length};
 
-    /// None.
+    /// No octets.
     fn new() -> Self
         ensures { result ≡ [] }
     {
@@ -49,7 +49,7 @@ impl HeaderOctets {
         let _ = self.octets.try_extend_from_slice(octets);
     }
 
-    /// All of them.
+    /// All octets of the header.
     pub fn as_slice(&self) -> &[u8]
         ensures octets { result.now ≡ self.now }
         ensures len { length result.now ≤ MOST_LEN }
@@ -64,7 +64,7 @@ ghost use Rattle.aes3_wave.specs.Written.{data_head, depth_bits, extension, file
 ghost use Rattle.aes3_wave.specs.Written.{format_len, format_tag, frame_octets, junk, per_second};
 ghost use Rattle.aes3_wave.specs.Written.{rf64, riff, sizes, written, written_known};
 
-/// The greatest number of 32 bits, for a length that is not known or has 64.
+/// The greatest number of 32 bits, for a length that is not known or needs 64 bits.
 const NOT_NAMED: u32 = u32::MAX;
 
 impl Depth {
@@ -92,7 +92,7 @@ impl Depth {
         }
     }
 
-    /// How long its `fmt ` chunk's content is.
+    /// How long the content of its `fmt ` chunk is.
     fn format_len(self) -> u32
         ensures len { result ≡ format_len self }
         ensures few { result ≤ 40 }
@@ -115,14 +115,14 @@ impl Depth {
         }
     }
 
-    /// How many octets a second has, or the greatest number.
+    /// How many octets a second has, or the greatest number if it is less.
     fn per_second(self, rate: u32) -> u32
         ensures { result ≡ per_second self rate }
     {
         (rate as u64 * self.frame_octets() as u64).min(NOT_NAMED as u64) as u32
     }
 
-    /// What an extensible format has more.
+    /// The part of an extensible format that a plain one doesn't have.
     fn extension(self) -> HeaderOctets
         ensures octets { result ≡ extension self }
         ensures len { length result + 16 ≡ format_len self }
@@ -155,18 +155,18 @@ impl Depth {
     }
 }
 
-/// What the format of 24 bits has more than a plain one: the length of what follows, the bits that
-/// count, the two front speakers, and the GUID of PCM.
+/// The part of the format of 24 bits that a plain one doesn't have: the length of what follows, the
+/// number of valid bits, the two front speakers, and the GUID of PCM.
 const EXTENSION_24: [u8; 24] = [
     22, 0, 24, 0, 3, 0, 0, 0, 1, 0, 0, 0, 0, 0, 16, 0, 128, 0, 0, 170, 0, 56, 155, 113,
 ];
 
-/// What that of 32 bits has.
+/// The same part of the format of 32 bits.
 const EXTENSION_32: [u8; 24] = [
     22, 0, 32, 0, 3, 0, 0, 0, 1, 0, 0, 0, 0, 0, 16, 0, 128, 0, 0, 170, 0, 56, 155, 113,
 ];
 
-/// The first twelve octets of a file of 32-bit lengths.
+/// The first twelve octets of a file with 32-bit lengths.
 fn riff(len: u32) -> HeaderOctets
     ensures octets { result ≡ riff len }
     ensures len { length result ≡ 12 }
@@ -178,7 +178,7 @@ fn riff(len: u32) -> HeaderOctets
     octets
 }
 
-/// Those of one of 64-bit lengths.
+/// The first twelve octets of a file with 64-bit lengths.
 fn rf64() -> HeaderOctets
     ensures octets { result ≡ rf64 }
     ensures len { length result ≡ 12 }
@@ -190,7 +190,7 @@ fn rf64() -> HeaderOctets
     octets
 }
 
-/// A chunk that is left out.
+/// A chunk that readers skip.
 fn junk() -> HeaderOctets
     ensures octets { result ≡ junk }
     ensures len { length result ≡ 36 }
@@ -228,7 +228,7 @@ fn data_head(len: u32) -> HeaderOctets
     octets
 }
 
-/// The header of samples that have so many octets.
+/// The header of samples of `len` octets.
 fn known(depth: Depth, rate: u32, len: u64) -> HeaderOctets
     requires { len < 2 ^ 63 }
     ensures { result ≡ written_known depth rate len }
@@ -250,9 +250,9 @@ fn known(depth: Depth, rate: u32, len: u64) -> HeaderOctets
     }
 }
 
-/// The header of a WAV file with samples of two channels, of so many octets where that is known. From 4
-/// GiB on it is RF64 (EBU Tech 3306). All headers of one depth have the same length, so the one that says
-/// how many octets came can be written over the first one.
+/// The header of a WAV file with samples of two channels, of `len` octets if that is known. From 4
+/// GiB on it is RF64 (EBU Tech 3306). All headers of one depth have the same length. So the header
+/// with the actual length can be written over the first one.
 pub fn header_of(depth: Depth, rate: u32, len: Option<u64>) -> HeaderOctets
     requires { ForSome len (λ n. n < 2 ^ 63) }
     ensures { result ≡ written depth rate len }

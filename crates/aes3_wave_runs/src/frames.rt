@@ -15,8 +15,8 @@ pub(crate) const PAIR_LEN: usize = 8;
 /// How many frames a block has.
 pub(crate) const BLOCK_FRAMES: usize = 192;
 
-/// The form in which the octets of frames are samples as `from_pcm_words` takes them: both channels of a
-/// frame of two are taken in their order, and all bits count.
+/// The form in which the octets of frames are already samples for `from_pcm_words`: the frame has
+/// two channels, both are taken in order, and all bits are valid.
 pub(crate) fn form_of(format: WaveFormat, channels: Channels) -> Option<SampleFormat>
     ensures { IfSome result (IsForm format channels) }
 {
@@ -31,7 +31,7 @@ pub(crate) fn form_of(format: WaveFormat, channels: Channels) -> Option<SampleFo
     }
 }
 
-/// A block that begins with these octets, and goes on with zeros.
+/// A block that begins with these octets and continues with zeros.
 pub(crate) fn block_of(octets: &[u8]) -> [u8; BLOCK_BYTES]
     requires few { length octets.now ≤ 1536 }
     ensures len { length result ≡ 1536 }
@@ -42,7 +42,7 @@ pub(crate) fn block_of(octets: &[u8]) -> [u8; BLOCK_BYTES]
     block
 }
 
-/// Puts the samples of two channels of the first frames into the front of a piece, each as one of 32
+/// Puts the samples of two channels of the first frames into the front of a piece, each with 32
 /// bits, frame by frame.
 pub(crate) fn put_each(
     format: WaveFormat,

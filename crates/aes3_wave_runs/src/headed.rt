@@ -1,4 +1,4 @@
-//! Samples behind the header of a WAV file.
+//! The header of a WAV file, and the samples after it.
 
 ghost use Rattle.std.specs.Prelude.{Bool, ◌≡◌, ◌+◌, ◌<◌, ◌^◌, None, false, true};
 ghost use Rattle.aes3_cell.specs.Writes.{Wrote};
@@ -16,10 +16,10 @@ use aes3_frame::Channel;
 use aes3_lock::{Ending, Lock};
 use aes3_wave::{Depth, header_of};
 
-/// The sampling frequency of a file whose first block names none, in hertz.
+/// The sampling frequency of a file whose first block names no frequency, in hertz.
 const USUAL_RATE: u32 = 48_000;
 
-/// The sampling frequency of the file: the one that is asked for, else the one that is named.
+/// The sampling frequency of the file: the chosen one, else the one that the status names.
 pub(crate) fn rate_for(rate: Option<u32>, named: Option<u32>) -> u32
     ensures { result ≡ rate_for rate named }
 {
@@ -32,20 +32,20 @@ pub(crate) fn rate_for(rate: Option<u32>, named: Option<u32>) -> u32
     }
 }
 
-/// The header of a WAV file, which is written before the first block that is given.
+/// The header of a WAV file, written before the first block that is given.
 #[derive(Drop)]
 pub(crate) struct Header {
     depth: Depth,
-    /// The sampling frequency that is asked for.
+    /// The chosen sampling frequency.
     rate: Option<u32>,
-    /// Whether it is written.
+    /// Whether the header is written.
     is_written: bool,
     /// The sampling frequency that the status of the first block names.
     pub(crate) named: Option<u32>,
 }
 
 impl Header {
-    /// Writes it, for a length that is not known.
+    /// Writes the header, for a length that is not known.
     ///
     /// # Errors
     /// The sink's fault; then it has taken a front of the octets.
@@ -58,7 +58,7 @@ impl Header {
         write_all(sink, header.as_slice())
     }
 
-    /// Writes it before the first block, which names this sampling frequency.
+    /// Writes the header before the first block, which names this sampling frequency.
     ///
     /// # Errors
     /// The sink's fault; then it has taken a front of the octets.
@@ -76,8 +76,8 @@ impl Header {
         self.put(sink, named)
     }
 
-    /// Writes it where an ending that a lock has just answered gives the first block; a marked one
-    /// where `marked` says that they are given too.
+    /// Writes the header if an ending that a lock has just returned gives the first block. If
+    /// marked blocks are given too, such a block counts.
     ///
     /// # Errors
     /// The sink's fault; then it has taken a front of the octets.
@@ -122,7 +122,7 @@ impl Header {
         }
     }
 
-    /// Writes it where no block came.
+    /// Writes the header if no block came.
     ///
     /// # Errors
     /// The sink's fault; then it has taken a front of the octets.
@@ -138,7 +138,7 @@ impl Header {
     }
 }
 
-/// Which blocks a listener gives the samples of.
+/// The blocks whose samples a listener gives.
 pub(crate) trait GivenBlocks {
     ghost marked: { Bool };
 
@@ -163,8 +163,8 @@ impl GivenBlocks for MendedBlocks {
     }
 }
 
-/// Hears of cells, and writes the samples that another listener makes of them behind the header of
-/// their file.
+/// Listens to cells, and writes the header of a file and after it the samples that another listener
+/// makes of the cells.
 #[derive(Drop)]
 pub(crate) struct Headed<L> {
     pub(crate) header: Header,
@@ -172,7 +172,7 @@ pub(crate) struct Headed<L> {
 }
 
 impl<L: Listener> Headed<L> {
-    /// A listener that has heard of no cell.
+    /// A listener before the first cell.
     pub(crate) fn new(depth: Depth, rate: Option<u32>, samples: L) -> Self
         ensures depth { result.header.depth ≡ depth }
         ensures rate { result.header.rate ≡ rate }

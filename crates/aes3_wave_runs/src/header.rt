@@ -1,4 +1,4 @@
-//! The header of a WAV file, read from a source.
+//! Reading the header of a WAV file from a source.
 
 ghost use Rattle.std.specs.Prelude.{◌<◌, ◌≤◌, ◌+◌, ◌^◌, IfOk};
 ghost use Rattle.aes3_input.specs.Running.{movement_of};
@@ -16,7 +16,7 @@ const PIECE_LEN: usize = 4096;
 /// Reads the header of a WAV file, and no octet after it.
 ///
 /// # Errors
-/// `Header` where it is refused, `TooLong` where it has more than `max_bytes` octets, `Read` where the
+/// `Header` if it is rejected, `TooLong` if it has more than `max_bytes` octets, `Read` if the
 /// source failed.
 pub fn read_header<S: Source>(source: &mut S, max_bytes: u64) -> Result<WaveHeader, WaveError>
     requires source_room { S.failed source.old + 1 < 2 ^ 64 }

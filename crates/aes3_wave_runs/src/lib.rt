@@ -1,21 +1,21 @@
 //! Sound files: from WAV files to block files, and from cells to WAV files.
 #![tactic(auto)]
 
-/// Why a run over a WAV file is refused.
+/// Why a run over a WAV file is rejected.
 mod error;
 /// The samples of frames.
 mod frames;
-/// The header of a WAV file that is written, and the samples behind it.
+/// The header of a WAV file, and the samples after it.
 mod headed;
-/// The header of a WAV file, read from a source.
+/// Reading the header of a WAV file from a source.
 mod header;
 /// The laws of sound files.
 pub mod laws;
-/// What the runs are asked for, and what they answer.
+/// The options of the runs, and their results.
 mod options;
 /// What an input of frames keeps.
 mod state;
-/// The channel status that the format of samples asks for.
+/// The channel status for a format of samples.
 mod status;
 /// The octets after the header as an input.
 mod wave_input;

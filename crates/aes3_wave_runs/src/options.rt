@@ -1,4 +1,4 @@
-//! What a run over a WAV file is asked for, and what it answers.
+//! The options of a run over a WAV file, and its results.
 
 use crate::status::StatusUse;
 use aes3_cell::Counts;
@@ -7,25 +7,26 @@ use aes3_forms_words::Words;
 use aes3_status::Change;
 use aes3_wave::{Channels, Mono, WaveHeader};
 
-/// What `from_wav` is asked for.
+/// The options of `from_wav`.
 #[derive(Clone, Copy)]
 pub struct WaveOptions {
-    /// The two channels that are taken; `None` takes the first two, or the only one as `mono` says.
+    /// The two channels that are taken. `None` takes the first two, or a single channel as `mono`
+    /// says.
     pub channels: Option<Channels>,
-    /// Which channels the only one of a file feeds, where none are chosen.
+    /// Which channels a single channel of a file is for, if none are chosen.
     pub mono: Mono,
-    /// Whether samples of more than 24 bits are refused.
+    /// Whether samples of more than 24 bits are errors.
     pub exact: bool,
-    /// What the channel status is for that the header asks for.
+    /// The use of the channel status that is made for the header.
     pub status_use: StatusUse,
-    /// What is changed of blocks of that status: a status that is given here is taken instead of it, and
-    /// settings are set after it.
+    /// The change of blocks with that status. A status that is given here replaces it, and settings
+    /// are set after it.
     pub change: Change,
     /// The form of the words that are written.
     pub words: Words,
 }
 
-/// What `from_wav` answers.
+/// The result of `from_wav`.
 #[derive(Clone, Copy)]
 pub struct Converted {
     /// The header of the file.
@@ -34,31 +35,31 @@ pub struct Converted {
     pub counts: Counts,
 }
 
-/// What `to_wav` answers.
+/// The result of `to_wav`.
 #[derive(Clone, Copy)]
 pub struct WaveWritten {
     /// The counts of any run over cells.
     pub counts: Counts,
-    /// The sampling frequency that the first block names, in hertz; `None` where it names none, or no
-    /// block came.
+    /// The sampling frequency that the first block names, in hertz; `None` if it names no
+    /// frequency, or there was no block.
     pub named: Option<u32>,
 }
 
-/// What `to_exact_wav` answers.
+/// The result of `to_exact_wav`.
 #[derive(Clone, Copy)]
 pub struct ExactWave {
-    /// What `to_exact_pcm` answers.
+    /// The result of `to_exact_pcm`.
     pub exact: Exact,
     /// The sampling frequency that the first block names, as in [`WaveWritten`].
     pub named: Option<u32>,
 }
 
-/// What `to_filled_wav` answers.
+/// The result of `to_filled_wav`.
 #[derive(Clone, Copy)]
 pub struct FilledWave {
-    /// What `to_filled_pcm` answers.
+    /// The result of `to_filled_pcm`.
     pub filled: Filled,
-    /// The sampling frequency that the first block names, as in [`WaveWritten`]; a marked block names
-    /// none.
+    /// The sampling frequency that the first block names, as in [`WaveWritten`]. A marked block
+    /// names no frequency.
     pub named: Option<u32>,
 }

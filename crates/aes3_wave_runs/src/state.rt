@@ -8,10 +8,11 @@ ghost use Rattle.aes3_wave_runs.specs.Wave.{frames_most};
 use aes3_engine::SampleInput;
 use aes3_wave::{Channels, WaveFormat};
 
-/// More octets than a frame has: a header says how many in 16 bits.
+/// More octets than a frame has: a header has its length in 16 bits.
 pub(crate) const FRAME_MOST: usize = 65_536;
 
-/// The octets after the header of a WAV file, as they come, and what their samples have begun.
+/// The octets after the header of a WAV file, as they come, and the block that their samples have
+/// begun.
 #[derive(Drop)]
 pub(crate) struct WaveInput {
     pub samples: SampleInput,
@@ -21,7 +22,7 @@ pub(crate) struct WaveInput {
     /// How many octets are samples at most, and how many of them are still to come.
     pub len: u64,
     pub left: u64,
-    /// The octets of the frame that is begun, and how many they are.
+    /// The octets of the current frame, and how many there are.
     pub begun: [u8; FRAME_MOST],
     pub at: usize,
     ghost first: { channels.first < format.channels },

@@ -1,4 +1,4 @@
-//! The channel status that the format of samples asks for (AES3-2, IEC 60958-3).
+//! The channel status for a format of samples (AES3-2, IEC 60958-3).
 
 ghost use Rattle.std.specs.Prelude.{◌≡◌, ◌<◌};
 ghost use Rattle.aes3_status.specs.Bits.{status_bits};
@@ -12,7 +12,7 @@ ghost use Rattle.aes3_wave_runs.specs.Status.{rate_of_professional, status_for, 
 use aes3_status::{Status, with_check};
 use aes3_wave::{WaveFormat, Width};
 
-/// What a channel status is for.
+/// The use of a channel status.
 #[derive(Clone, Copy, PartialEq, Eq)]
 pub enum StatusUse {
     /// Consumer use (IEC 60958-3).
@@ -21,12 +21,12 @@ pub enum StatusUse {
     Professional,
 }
 
-/// What of a format a channel status can't say.
+/// What a channel status can't say of a format.
 #[derive(Clone, Copy, PartialEq, Eq)]
 pub struct Unsaid {
     /// Its sampling frequency, which has no code.
     pub rate: bool,
-    /// Its width: 8 bits have no code, and of 32 bits 24 are left.
+    /// Its width: 8 bits have no code, and of 32 bits only 24 are left.
     pub width: bool,
 }
 
@@ -50,7 +50,7 @@ fn consumer_rate(rate: u32) -> u8
     }
 }
 
-/// That for professional use (AES3-2, byte 0 bits 6 and 7).
+/// The code of a sampling frequency for professional use (AES3-2, byte 0 bits 6 and 7).
 fn professional_rate(rate: u32) -> u8
     ensures code { result ≡ professional_rate rate }
     ensures few { result < 4 }
@@ -63,7 +63,7 @@ fn professional_rate(rate: u32) -> u8
     }
 }
 
-/// That of the others for professional use (AES3-2, byte 4 bits 3 to 6).
+/// The code of the other sampling frequencies for professional use (AES3-2, byte 4 bits 3 to 6).
 fn professional_frequency(rate: u32) -> u8
     ensures code { result ≡ professional_frequency rate }
     ensures few { result < 16 }
@@ -93,8 +93,8 @@ fn greatest_code(width: Width) -> u8
     }
 }
 
-/// That of the sample word length under it (IEC 60958-3, byte 4 bits 1 to 3; AES3-2, byte 2 bits 3 to
-/// 5).
+/// The code of the sample word length under that greatest length (IEC 60958-3, byte 4 bits 1 to 3;
+/// AES3-2, byte 2 bits 3 to 5).
 fn word_code(width: Width) -> u8
     ensures code { result ≡ word_code width }
     ensures few { result < 8 }
@@ -132,9 +132,9 @@ fn professional_status(format: &WaveFormat) -> [u8; 24]
     ])
 }
 
-/// The channel status that says how samples of this format are: linear PCM, their sampling frequency
-/// and their length, for consumer use that no copyright is asserted, and for professional use that
-/// there are two channels, no emphasis and a check byte.
+/// The channel status that describes samples of this format: linear PCM, their sampling frequency
+/// and their length. For consumer use it also says that no copyright is asserted. For professional
+/// use it says that there are two channels and no emphasis, and it has a check byte.
 ///
 /// What it can't say is not indicated: see [`unsaid_of`].
 pub fn status_of(format: &WaveFormat, status_use: StatusUse) -> [u8; 24]
@@ -171,7 +171,7 @@ fn lacks_width(width: Width) -> bool
     }
 }
 
-/// What of a format the status of [`status_of`] doesn't say.
+/// What the status of [`status_of`] doesn't say of a format.
 pub fn unsaid_of(format: &WaveFormat, status_use: StatusUse) -> Unsaid
     ensures rate { result.rate ≡ lacks_rate status_use format.now.rate }
     ensures width { result.width ≡ lacks_width format.now.width }
@@ -201,7 +201,7 @@ fn rate_of_consumer(code: u8) -> Option<u32>
     }
 }
 
-/// That of a code in byte 4 for professional use.
+/// The sampling frequency of a code in byte 4 for professional use, in hertz.
 fn rate_of_frequency(code: u8) -> Option<u32>
     ensures { result ≡ rate_of_frequency code }
 {
@@ -216,7 +216,8 @@ fn rate_of_frequency(code: u8) -> Option<u32>
     }
 }
 
-/// That of a code in byte 0 for professional use, or else of one in byte 4.
+/// The sampling frequency of a code in byte 0 for professional use, or else of a code in byte 4, in
+/// hertz.
 fn rate_of_professional(code: u8, frequency: u8) -> Option<u32>
     ensures { result ≡ rate_of_professional code frequency }
 {
@@ -228,7 +229,7 @@ fn rate_of_professional(code: u8, frequency: u8) -> Option<u32>
     }
 }
 
-/// The sampling frequency that a channel status names, in hertz; `None` where it names none.
+/// The sampling frequency that a channel status names, in hertz; `None` if it names no frequency.
 pub fn rate_named(status: &[u8; 24]) -> Option<u32>
     ensures { result ≡ rate_named status.now }
 {

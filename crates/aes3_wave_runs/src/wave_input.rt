@@ -1,5 +1,5 @@
 //! The octets after the header of a WAV file as an input: the samples of two channels of each frame
-//! are handed on as samples of 32 bits.
+//! are passed on as samples of 32 bits.
 
 ghost use Rattle.std.specs.Prelude.{◌≡◌, ◌<◌, ◌≤◌, ◌+◌, ◌*◌, ◌^◌, ℕ, List, [], Option, length, take};
 ghost use Rattle.std.specs.Option.{ForSome};
@@ -32,7 +32,7 @@ fn blank_frame() -> [u8; FRAME_MOST]
     [0; FRAME_MOST]
 }
 
-/// How many octets the samples of so many frames have.
+/// How many octets `FRAMES_MOST` frames have.
 pub(crate) fn frames_most(format: WaveFormat) -> u64
     ensures most { result ≡ frames_most format }
     ensures few { result < 2 ^ 55 }
@@ -40,7 +40,7 @@ pub(crate) fn frames_most(format: WaveFormat) -> u64
     FRAMES_MOST * format.frame_len() as u64
 }
 
-/// How many octets are taken for samples at most, where so many are named.
+/// How many octets are taken as samples at most, if the header gives this length.
 pub(crate) fn taken_len(format: WaveFormat, len: Option<u64>) -> u64
     ensures { result ≡ taken_len format len }
 {
@@ -51,8 +51,8 @@ pub(crate) fn taken_len(format: WaveFormat, len: Option<u64>) -> u64
 }
 
 impl WaveInput {
-    /// An input of these two channels that has taken nothing; `exact` refuses samples of more than 24
-    /// bits, and `words` is the form of the words that are written.
+    /// An input of these two channels that has taken nothing. If `exact` is true, samples of more
+    /// than 24 bits are errors. `words` is the form of the words that are written.
     pub(crate) fn new(
         format: WaveFormat,
         channels: Channels,
@@ -83,7 +83,7 @@ impl WaveInput {
         }
     }
 
-    /// How many frames are taken at once: no more than the block that is begun lacks, so that those
+    /// How many frames are taken at once: no more than the current block lacks, so that the frames
     /// after it are taken whole.
     fn frames_due(&self, octets: &[u8]) -> usize
         requires { frame_len self.now.format ≤ length octets.now }
@@ -95,8 +95,8 @@ impl WaveInput {
         (octets.len() / self.format.frame_len()).min(due)
     }
 
-    /// Takes the first frames, where none is begun, as the pairs of samples that are made of them, and
-    /// answers how many octets they are. The octets are here for the clauses alone.
+    /// Takes the first frames as the pairs of samples made of them, if no frame is begun. Returns
+    /// how many octets they have. `octets` is a parameter only for the clauses.
     fn take_pairs<T: Sink>(
         &mut self,
         change: &mut Change,
@@ -127,7 +127,7 @@ impl WaveInput {
         }
     }
 
-    /// Takes all whole frames, where none is begun, whose octets are samples of 32 bits.
+    /// Takes all whole frames if no frame is begun and their octets are samples of 32 bits.
     fn take_wide<T: Sink>(
         &mut self,
         change: &mut Change,
@@ -149,7 +149,7 @@ impl WaveInput {
         self.take_pairs(change, sink, octets, count, &octets[..count * len])
     }
 
-    /// Takes the first frames, where none is begun, of a block of samples in this form.
+    /// Takes the first frames as a block of samples in this form, if no frame is begun.
     #[inline(never)]
     fn take_widened<T: Sink>(
         &mut self,
@@ -179,7 +179,7 @@ impl WaveInput {
         self.take_pairs(change, sink, octets, count, &wide[..PAIR_LEN * count])
     }
 
-    /// Takes whole frames, where none is begun, whose octets are samples in this form. It equals
+    /// Takes whole frames if no frame is begun and their octets are samples in this form. It equals
     /// `take_each`, which takes four times as long.
     fn take_block<T: Sink>(
         &mut self,
@@ -205,7 +205,7 @@ impl WaveInput {
         }
     }
 
-    /// Takes whole frames, where none is begun, frame by frame.
+    /// Takes whole frames one by one, if no frame is begun.
     fn take_each<T: Sink>(
         &mut self,
         change: &mut Change,
@@ -227,7 +227,7 @@ impl WaveInput {
         self.take_pairs(change, sink, octets, count, &wide[..PAIR_LEN * count])
     }
 
-    /// Takes whole frames, where none is begun, and answers how many octets they are.
+    /// Takes whole frames, if no frame is begun, and returns how many octets they have.
     fn take_frames<T: Sink>(
         &mut self,
         change: &mut Change,
@@ -250,7 +250,7 @@ impl WaveInput {
         }
     }
 
-    /// Takes a part of a frame, up to its end at most, and answers how many octets it is.
+    /// Takes a part of a frame, at most up to its end, and returns how many octets it has.
     fn take_part<T: Sink>(
         &mut self,
         change: &mut Change,
@@ -289,7 +289,7 @@ impl WaveInput {
 impl Input<Change> for WaveInput {
     ghost state = { state_of };
 
-    /// Takes whole frames, or a part of one; octets after the samples are left out.
+    /// Takes whole frames, or a part of one. Octets after the samples are ignored.
     fn take_front<T: Sink>(
         &mut self,
         change: &mut Change,

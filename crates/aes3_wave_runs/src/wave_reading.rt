@@ -28,7 +28,7 @@ use aes3_input::convert;
 use aes3_status::Change;
 use aes3_wave::{Channels, WaveFormat, WaveHeader};
 
-/// How many whole frames are among so many octets after a header.
+/// How many whole frames there are in `octets` octets after a header.
 fn frames_in(header: &WaveHeader, octets: u64) -> u64
     requires { 0 < frame_len header.now.format }
     ensures frames { result ≡ frames_in header.now octets }
@@ -38,11 +38,12 @@ fn frames_in(header: &WaveHeader, octets: u64) -> u64
 }
 
 /// Converts what comes after a header that was read: writes a block file of the samples of two
-/// channels, as `from_pcm_words` writes one of samples of 32 bits.
+/// channels, as `from_pcm_words` does with samples of 32 bits.
 ///
 /// # Errors
-/// Those of `from_pcm_words`; `BadLength` where the samples end inside a frame, and `TooLong` where the
-/// file has more than `max_bytes` octets, or more of them after its header than 2^37 frames have.
+/// Those of `from_pcm_words`. `BadLength` if the samples end inside a frame. `TooLong` if the file
+/// has more than `max_bytes` octets, or if the octets after its header are more than those of 2^37
+/// frames.
 fn convert_samples<S: Source, T: Sink>(
     source: &mut S,
     sink: &mut T,
@@ -92,7 +93,7 @@ fn channels_for(options: &WaveOptions, format: WaveFormat) -> Channels
     }
 }
 
-/// Whether a frame has the second one, where there is one.
+/// Whether a frame has the second channel, if there is one.
 fn has_second(format: WaveFormat, second: Option<u16>) -> bool
     ensures { result ≡ has_second format second }
 {
@@ -102,14 +103,14 @@ fn has_second(format: WaveFormat, second: Option<u16>) -> bool
     }
 }
 
-/// Whether a frame has both.
+/// Whether a frame has both channels.
 fn has_channels(format: WaveFormat, channels: Channels) -> bool
     ensures { result ≡ has_channels format channels }
 {
     channels.first < format.channels && has_second(format, channels.second)
 }
 
-/// The change of each block: with the status that the format asks for, where none is given.
+/// The change of each block: with the status for the format, if none is given.
 fn change_for(options: &WaveOptions, format: WaveFormat) -> Change
     ensures { result ≡ change_for options.now format }
 {
@@ -128,19 +129,25 @@ fn change_for(options: &WaveOptions, format: WaveFormat) -> Change
     }
 }
 
-/// Writes a block file of the samples of a WAV file: two channels of each frame, as `from_pcm_words`
-/// writes one of samples of 32 bits whose other bits are 0. The channel status says the sampling
-/// frequency and the width, as far as [`crate::unsaid_of`] does not say otherwise. What comes after the
-/// samples is left out. Each block leaves as soon as its samples have come.
+/// Writes a block file of the samples of a WAV file: two channels of each frame, as
+/// `from_pcm_words` does with samples of 32 bits whose other bits are 0. The channel status says
+/// the sampling frequency and the width, except for what [`crate::unsaid_of`] returns. What comes
+/// after the samples is ignored. Each block is written as soon as its samples have come.
 ///
 /// # Errors
-/// `Header` where the header is refused, `NoChannel` where a channel is asked for that a frame has not.
-/// Then nothing is written. `Run` where a run over samples is refused: `BadLength` where they end inside
-/// a frame, `BadSample` where `exact` is set and one has more than 24 bits, `SoundHeader` where they
-/// begin with the head of a sound file, `TooLong` where the file has more than `max_bytes` octets, or
-/// more of them after its header than 2^37 frames have, `Read` and `Write` where an end failed. Then
-/// the blocks that were whole before are written, and after `Write` a front of the output.
-// Not inlined, so that the stack of other commands has no room for a frame, which can have 65,535
+/// `Header` if the header is rejected, `NoChannel` if a chosen channel is not in a frame. Then
+/// nothing is written.
+///
+/// `Run` for an error of a run over samples:
+/// - `BadLength` if they end inside a frame.
+/// - `BadSample` if `exact` is true and a sample has more than 24 bits.
+/// - `SoundHeader` if they begin with the header of a sound file.
+/// - `TooLong` if the file has more than `max_bytes` octets, or if the octets after its header are
+///   more than those of 2^37 frames.
+/// - `Read` and `Write` if the input or output failed.
+///
+/// Then the blocks that were whole before are written; after `Write`, a front of the output.
+// Not inlined, so that the stack of other commands has no space for a frame, which can have 65,535
 // octets.
 #[inline(never)]
 pub fn from_wav<S: Source, T: Sink>(
@@ -153,16 +160,17 @@ pub fn from_wav<S: Source, T: Sink>(
     requires sink_room { T.failed sink.old + 1 < 2 ^ 64 }
     requires limit { max_bytes ≤ 2 ^ 40 }
 
-    // Where it answers Ok, the block file of the samples is written, filled up with zero samples to whole
-    // blocks.
+    // If it returns Ok, the block file of the samples is written, filled up with zero samples to
+    // whole blocks.
     ensures file { IfOk result (λ n. (b : List ℕ) → Told (S.given source.old) (S.given source.new) b
         → Grew (T.taken sink.old) (T.taken sink.new)
         (pcm_words S32 options.now.words (change_for options.now n.header.format)
         (file_samples n.header (channels_for options.now n.header.format) b))) }
     ensures passed_on { IfOk result (λ _. T.passed sink.new ≡ T.taken sink.new) }
 
-    // It owes Ok where the file has a header with the channels that are taken, ends with a frame, has
-    // samples that `from_pcm` takes, and fits, and neither end failed.
+    // It returns Ok if neither input nor output failed and the file is right. It must have a header
+    // with the channels that are taken, end with a whole frame, have samples that `from_pcm` takes,
+    // and fit.
     ensures owed { (b : List ℕ) (header : WaveHeader) → Told (S.given source.old) (S.given source.new) b
         → judged b ≡ Ok (Some header)
         → has_channels header.format (channels_for options.now header.format) ≡ true
@@ -171,7 +179,7 @@ pub fn from_wav<S: Source, T: Sink>(
         → S.failed source.new ≡ S.failed source.old → T.failed sink.new ≡ T.failed sink.old
         → IsOk result }
 
-    // What it answers to every file, and has written then.
+    // What it returns for every file, and what it has written then.
     ensures run { WaveRun options.now max_bytes (S.has_ended source.new)
         (movement_of S.given S.failed source.old source.new)
         (movement_of T.taken T.failed sink.old sink.new) result }

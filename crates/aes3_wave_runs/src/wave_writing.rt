@@ -33,7 +33,8 @@ fn format_of(depth: Depth) -> SampleFormat
     }
 }
 
-/// Reads cells, and writes the samples that a listener makes of them behind the header of their file.
+/// Reads cells, and writes the header of a file and after it the samples that a listener makes of
+/// the cells.
 ///
 /// # Errors
 /// Those of `run_cells`.
@@ -65,14 +66,16 @@ fn run_headed<S: Source, T: Sink, L: Listener + GivenBlocks + Drop>(
     Ok((written, headed.samples))
 }
 
-/// Reads cells from any cell on, and writes a WAV file of the samples of the blocks that stand whole and
-/// closed in them: its header, whose lengths say that they are not known, and then exactly what `to_pcm`
-/// writes. The sampling frequency is `rate` in hertz, or else that which the channel status of channel 1
-/// in the first block names, or else 48,000 Hz. The header leaves with the first block.
+/// Reads cells from any cell on, and writes a WAV file of the samples of the whole, closed blocks
+/// in them. The file is a header, whose lengths say that they are not known, and then exactly what
+/// `to_pcm` writes. The header is written with the first block.
+///
+/// The sampling frequency is `rate` in hertz. If that is `None`, it is the frequency that the
+/// channel status of channel 1 in the first block names, or else 48,000 Hz.
 ///
 /// # Errors
-/// Those of `to_pcm`; then the header and the samples are written of the blocks that were decided
-/// before, and after `Write` a front of them.
+/// Those of `to_pcm`. The header and the samples of the blocks that were decided before are
+/// written; after `Write`, a front of them.
 pub fn to_wav<S: Source, T: Sink>(
     source: &mut S,
     sink: &mut T,
@@ -85,12 +88,11 @@ pub fn to_wav<S: Source, T: Sink>(
     requires sink_room { T.failed sink.old + 1 < 2 ^ 64 }
     requires limit { max_bytes ≤ 2 ^ 40 }
 
-    // Where it answers Ok, the file of exactly the blocks that stand whole and closed in the input is
-    // written.
+    // If it returns Ok, the file of exactly the whole, closed blocks in the input is written.
     ensures file { IfOk result (λ _. (b : List ℕ) → Told (S.given source.old) (S.given source.new) b
         → Grew (T.taken sink.old) (T.taken sink.new) (wave_of depth rate (blocks (cells_of input b)))) }
 
-    // What it answers to every input, and has written then.
+    // What it returns for every input, and what it has written then.
     ensures run { InputRun (wave_cells input depth rate) max_bytes (S.has_ended source.new)
         (movement_of S.given S.failed source.old source.new)
         (movement_of T.taken T.failed sink.old sink.new) result }
@@ -122,12 +124,12 @@ pub fn to_valid_wav<S: Source, T: Sink>(
     requires sink_room { T.failed sink.old + 1 < 2 ^ 64 }
     requires limit { max_bytes ≤ 2 ^ 40 }
 
-    // Where it answers Ok, the file of these samples is written.
+    // If it returns Ok, the file of these samples is written.
     ensures file { IfOk result (λ _. (b : List ℕ) → Told (S.given source.old) (S.given source.new) b
         → Grew (T.taken sink.old) (T.taken sink.new)
         (file_by depth rate false (valid_pcm depth) (cells_of input b))) }
 
-    // What it answers to every input, and has written then.
+    // What it returns for every input, and what it has written then.
     ensures run { InputRun (valid_wave_cells input depth rate) max_bytes (S.has_ended source.new)
         (movement_of S.given S.failed source.old source.new)
         (movement_of T.taken T.failed sink.old sink.new) result }
@@ -180,7 +182,7 @@ fn to_exact_16<S: Source, T: Sink>(
     })
 }
 
-/// Does what [`to_exact_wav`] does, in a width that holds 24 bits, where no sample loses any.
+/// Does what [`to_exact_wav`] does, in a width that holds 24 bits, so that no sample loses any.
 fn to_exact_24<S: Source, T: Sink>(
     source: &mut S,
     sink: &mut T,
@@ -208,8 +210,8 @@ fn to_exact_24<S: Source, T: Sink>(
     })
 }
 
-/// Does what [`to_wav`] does with the samples of `to_exact_pcm`: up to the first block whose samples
-/// would lose bits in this width, which is told at the end.
+/// Does what [`to_wav`] does with the samples of `to_exact_pcm`: up to the first block whose
+/// samples would lose bits in this width. The place of that block is returned at the end.
 ///
 /// # Errors
 /// Those of `to_wav`.
@@ -225,12 +227,12 @@ pub fn to_exact_wav<S: Source, T: Sink>(
     requires sink_room { T.failed sink.old + 1 < 2 ^ 64 }
     requires limit { max_bytes ≤ 2 ^ 40 }
 
-    // Where it answers Ok, the file of these samples is written.
+    // If it returns Ok, the file of these samples is written.
     ensures file { IfOk result (λ _. (b : List ℕ) → Told (S.given source.old) (S.given source.new) b
         → Grew (T.taken sink.old) (T.taken sink.new)
         (file_by depth rate false (exact_pcm depth) (cells_of input b))) }
 
-    // What it answers to every input, and has written then.
+    // What it returns for every input, and what it has written then.
     ensures run { InputRun (exact_wave_cells input depth rate) max_bytes (S.has_ended source.new)
         (movement_of S.given S.failed source.old source.new)
         (movement_of T.taken T.failed sink.old sink.new) result }
@@ -305,8 +307,8 @@ fn to_filled_marked<S: Source, T: Sink>(
     })
 }
 
-/// Does what [`to_wav`] does with the samples of `to_filled_pcm`: frames between them fill the time that
-/// no block gives, and where `marked` says so, marked blocks are given too. A marked block names no
+/// Does what [`to_wav`] does with the samples of `to_filled_pcm`: frames between them fill the time
+/// that no block covers. If `marked` is true, marked blocks are given too. A marked block names no
 /// sampling frequency, as its channel status may be wrong.
 ///
 /// # Errors
@@ -325,12 +327,12 @@ pub fn to_filled_wav<S: Source, T: Sink>(
     requires sink_room { T.failed sink.old + 1 < 2 ^ 64 }
     requires limit { max_bytes ≤ 2 ^ 40 }
 
-    // Where it answers Ok, the file of these samples is written.
+    // If it returns Ok, the file of these samples is written.
     ensures file { IfOk result (λ _. (b : List ℕ) → Told (S.given source.old) (S.given source.new) b
         → Grew (T.taken sink.old) (T.taken sink.new)
         (file_by depth rate marked (filled_pcm depth fill marked) (cells_of input b))) }
 
-    // What it answers to every input, and has written then.
+    // What it returns for every input, and what it has written then.
     ensures run { InputRun (filled_wave_cells input depth rate fill marked) max_bytes
         (S.has_ended source.new) (movement_of S.given S.failed source.old source.new)
         (movement_of T.taken T.failed sink.old sink.new) result }

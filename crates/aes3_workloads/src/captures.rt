@@ -10,15 +10,15 @@ use std::alloc::{AllocError, Global};
 /// How a line is sampled.
 #[derive(Clone, Copy)]
 pub struct Sampling {
-    /// Which of the bits of a sample is the line.
+    /// The bit of a sample that is the line.
     pub unit: Unit,
-    /// How long a cell is, in 65,536ths of a sample, below 2^24.
+    /// The length of a cell, in 65,536ths of a sample, below 2^24.
     pub period: u32,
-    /// How far an edge may be from its place, in 65,536ths of a sample, below 2^24.
+    /// How far an edge may be from its expected position, in 65,536ths of a sample, below 2^24.
     pub jitter: u32,
 }
 
-/// Puts a sample of this level; the other lines are as they may be.
+/// Puts a sample of this level; the bits of other lines are arbitrary.
 fn put_sample(
     samples: &mut Vec<u8>,
     unit: Unit,
@@ -39,7 +39,8 @@ fn put_sample(
     Ok(())
 }
 
-/// The samples of a line with these packed cells, each edge at its place and some jitter.
+/// The samples of a line with these packed cells, each edge at its expected position plus some
+/// jitter.
 fn capture(
     alloc: Global,
     cells: &[u8],

@@ -10,7 +10,7 @@ use aes3_cell::{Fault, Sink};
 /// How many bytes are digested at once.
 const CHUNK: usize = 64;
 
-/// Takes bytes in pieces of any size; its digest is one of their order, whatever the pieces.
+/// Takes bytes in pieces of any size; its digest depends on their order and not on the pieces.
 #[derive(Drop)]
 pub struct Digest {
     lanes: [u64; 8],
@@ -73,7 +73,7 @@ impl Digest {
         }
     }
 
-    /// Puts bytes behind those that wait, and answers how many.
+    /// Appends bytes to those that wait, and returns how many.
     fn fill(&mut self, bytes: &[u8]) -> usize
         ensures { result ≤ length bytes.now }
     {

@@ -14,20 +14,20 @@ use aes3_capture_recovery::Unit;
 use anyhow::{Result, bail};
 use std::alloc::{AllocError, Global};
 
-/// How many blocks a workload makes its input of.
+/// How many blocks the input of a workload is made of.
 const BLOCKS: u32 = 24;
 
 /// The last octet of packed cells that fill their octets.
 const NONE_UNUSED: &[u8] = &[0];
 
-/// Lines as the codec writes them.
+/// Text in the lines that the codec writes.
 const LINES: Layout = Layout {
     line: 64,
     group: 0,
     end: "\n",
 };
 
-/// What a workload is made from, and the digest of what it wrote.
+/// The source of a workload's data, and the digest of what it wrote.
 #[derive(Drop)]
 struct Workload<'a> {
     alloc: Global,
@@ -37,7 +37,7 @@ struct Workload<'a> {
 }
 
 impl<'a> Workload<'a> {
-    /// Runs a command on so many pieces a round.
+    /// Runs a command on `count` pieces in each round.
     fn run(
         &mut self,
         words: &[&str],
@@ -50,24 +50,24 @@ impl<'a> Workload<'a> {
         run_command(self.alloc, words, source, self.digest)
     }
 
-    /// Runs a command on so many pieces of text a round.
+    /// Runs a command on `count` pieces of text in each round.
     fn text(&mut self, words: &[&str], pieces: &[Vec<u8>], count: u32) -> Result<(), AllocError> {
         self.run(words, pieces, count, &[])
     }
 
-    /// Runs a command on so many packed pieces a round.
+    /// Runs a command on `count` packed pieces in each round.
     fn packed(&mut self, words: &[&str], pieces: &[Vec<u8>], count: u32) -> Result<(), AllocError> {
         self.run(words, pieces, count, NONE_UNUSED)
     }
 
-    /// Recovers the cells of so many pieces of a capture a round.
+    /// Recovers the cells of `count` pieces of a capture in each round.
     fn capture(&mut self, unit: Unit, pieces: &[Vec<u8>], count: u32) -> Result<(), AllocError> {
         let count = count.saturating_mul(self.rounds);
         let source = some_of(pieces, &mut self.numbers, count, &[]);
         run_capture(self.alloc, unit, source, self.digest)
     }
 
-    /// Packed blocks; some have a cell turned.
+    /// Packed blocks; some have an inverted cell.
     fn line(&mut self) -> Result<Vec<Vec<u8>>, AllocError> {
         let blocks = blocks(self.alloc, &mut self.numbers, BLOCKS)?;
         let mut pieces = packed_cells(self.alloc, blocks.as_slice())?;
@@ -149,7 +149,7 @@ impl<'a> Workload<'a> {
         self.text(&["normal"], hit.as_slice(), 400)
     }
 
-    /// Blocks changed, taken apart and made, as converters and gateways do.
+    /// Blocks changed, decoded and made, as converters and gateways do.
     fn changed_blocks(&mut self) -> Result<(), AllocError> {
         let alloc = self.alloc;
         let packed = self.line()?;
@@ -210,7 +210,8 @@ impl<'a> Workload<'a> {
         )
     }
 
-    /// Captures of logic analysers: of four samples a cell most, of steady lines and of one that dies, comes back and is noise.
+    /// Captures of logic analysers: most with four samples in a cell, of steady lines, and of a
+    /// line that loses its signal, regains it and is noise.
     fn captures(&mut self) -> Result<(), AllocError> {
         let alloc = self.alloc;
         let line = self.line()?;
@@ -247,7 +248,7 @@ impl<'a> Workload<'a> {
     }
 }
 
-/// Runs so many rounds of a workload from this seed, and takes what it writes into the digest.
+/// Runs this number of rounds of a workload from this seed, and adds what it writes to the digest.
 pub fn run_workload(
     alloc: Global,
     name: &str,

@@ -9,10 +9,11 @@ use std::alloc::{AllocError, Global};
 /// How many frames a block has.
 const FRAMES: u32 = 192;
 
-/// The status of 24 zero bytes, in which fields are set.
+/// A status of 24 zero bytes, in which fields are set.
 pub const NO_STATUS: &str = "000000000000000000000000000000000000000000000000";
 
-/// Samples of a block, as `from-pcm` reads them: two channels of 24 bits, of the loudness of music.
+/// Samples of a block in the form of `from-pcm`: two channels of 24 bits, with the loudness of
+/// music.
 pub fn samples_of_block(alloc: Global, numbers: &mut Numbers) -> Result<Vec<u8>, AllocError> {
     let mut samples = Vec::new(alloc);
     let mut places = [0u32, 1 << 30];
@@ -26,8 +27,9 @@ pub fn samples_of_block(alloc: Global, numbers: &mut Numbers) -> Result<Vec<u8>,
     Ok(samples)
 }
 
-/// A block as a block file has it: channel 1 professional and channel 2 consumer, as gateways between both meet them. Where its time
-/// is told, its status is another than that of the block before it.
+/// A block in the form of a block file: channel 1 professional and channel 2 consumer, as gateways
+/// between both have them. If `tells_time`, its status has the time, so it differs from that of the
+/// block before.
 fn block(alloc: Global, numbers: &mut Numbers, tells_time: bool) -> Result<Vec<u8>, AllocError> {
     let samples = samples_of_block(alloc, numbers)?;
     let time = format!(in alloc; "local={}", numbers.next() >> 40)?;
@@ -57,7 +59,7 @@ fn block(alloc: Global, numbers: &mut Numbers, tells_time: bool) -> Result<Vec<u
     output_of(alloc, &words, samples.as_slice())
 }
 
-/// Blocks of block files, of which every fourth tells its time.
+/// Blocks of block files; every fourth has the time in its status.
 pub fn blocks(
     alloc: Global,
     numbers: &mut Numbers,
@@ -70,7 +72,7 @@ pub fn blocks(
     Ok(blocks)
 }
 
-/// The packed cells of each block, without the last octet that counts.
+/// The packed cells of each block, without the last octet.
 pub fn packed_cells(alloc: Global, blocks: &[Vec<u8>]) -> Result<Vec<Vec<u8>>, AllocError> {
     let mut pieces = Vec::new(alloc);
     for block in blocks.iter() {
@@ -82,7 +84,7 @@ pub fn packed_cells(alloc: Global, blocks: &[Vec<u8>]) -> Result<Vec<Vec<u8>>, A
     Ok(pieces)
 }
 
-/// Whether a cell of an octet is high, of which the first stands in the highest bit.
+/// Whether a cell of an octet is high; the first cell is in the highest bit.
 pub fn is_high(octet: u8, place: u32) -> bool {
     octet << (place % 8) & 0x80 != 0
 }
@@ -90,11 +92,11 @@ pub fn is_high(octet: u8, place: u32) -> bool {
 /// How cells are written as text.
 #[derive(Clone, Copy)]
 pub struct Layout {
-    /// How many cells stand in a line; none where all stand in one.
+    /// How many cells are in a line; 0 if all are in one line.
     pub line: u32,
-    /// How many stand before each space; none where there are none.
+    /// How many cells come before each space; 0 if there are no spaces.
     pub group: u32,
-    /// What ends a line.
+    /// The end of a line.
     pub end: &'static str,
 }
 
@@ -134,7 +136,8 @@ pub fn text_cells(
     Ok(texts)
 }
 
-/// The same pieces, and behind them of each the same with about one octet in so many changed, so that a cell is turned.
+/// Copies of the pieces with about one octet in `every` changed, so that a cell is inverted,
+/// followed by the pieces themselves.
 pub fn with_turned_cells(
     alloc: Global,
     pieces: Vec<Vec<u8>>,
@@ -151,7 +154,7 @@ pub fn with_turned_cells(
     Ok(all)
 }
 
-/// Octets of which about one in so many has one bit turned.
+/// Octets with one bit inverted in about one octet in `every`.
 fn turned(
     alloc: Global,
     octets: &[u8],
@@ -167,7 +170,7 @@ fn turned(
     Ok(changed)
 }
 
-/// Octets from which a few are taken out, one in about so many: the line slips by eight cells or by some more.
+/// Octets without a few of them, about one in `every`: the line slips by eight cells or more.
 pub fn slipped(
     alloc: Global,
     pieces: &[Vec<u8>],
@@ -205,7 +208,8 @@ pub fn noise(
     Ok(pieces)
 }
 
-/// Cells that begin a block's preamble every so many cells, some 20,000 a piece, as packed octets.
+/// Cells that begin a block's preamble every `every` cells, some 20,000 in a piece, as packed
+/// octets.
 pub fn dense_preambles(
     alloc: Global,
     numbers: &mut Numbers,
@@ -218,7 +222,8 @@ pub fn dense_preambles(
         let mut level = 0u8;
         let mut runs = 0u32;
         for i in 0..20_480u32 {
-            // The runs of the preamble are 3, 1, 1 and 3 cells long; of five cells the second begins in the first.
+            // The runs of the preamble are 3, 1, 1 and 3 cells long. With a period of five cells,
+            // the next preamble begins within this one.
             let turns = i % every.max(1) == 0 || i % every.max(1) == 3 || i % every.max(1) == 4;
             let is_odd = numbers.below(500) == 0;
             if turns != is_odd {

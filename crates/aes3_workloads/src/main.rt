@@ -1,5 +1,5 @@
-//! Jobs that a user waits for, as workloads to be timed: each makes its own input from a number, runs the calls that the
-//! programs run, and prints a digest of all that they wrote.
+//! Jobs that a user waits for, as workloads to be timed. Each makes its own input from a number,
+//! runs the calls that the programs run, and prints a digest of all that they wrote.
 #![tactic(auto)]
 
 /// Samples of a line as a logic analyser takes them.

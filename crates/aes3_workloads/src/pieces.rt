@@ -7,23 +7,23 @@ ghost use Rattle.aes3_cell.specs.Ends.{Grew, untold};
 use crate::numbers::Numbers;
 use aes3_cell::{Fault, Source};
 
-/// How many pieces are joined to one read at most.
+/// How many pieces one read joins at most.
 const JOINED: u32 = 256;
 
-/// Gives so many pieces, each one of some, in random order, and then an ending.
+/// Gives `count` pieces, each chosen at random from a list, and then an ending.
 #[derive(Drop)]
 pub struct Pieces<'a> {
     pieces: &'a [Vec<u8>],
     numbers: Numbers,
     left: u32,
-    /// What is left of the piece in hand.
+    /// What is left of the current piece.
     rest: &'a [u8],
     ending: &'a [u8],
     ended: bool,
 }
 
 impl<'a> Pieces<'a> {
-    /// So many of these pieces, and the ending.
+    /// A source of `count` of these pieces, and the ending.
     pub fn new(pieces: &'a [Vec<u8>], numbers: Numbers, count: u32, ending: &'a [u8]) -> Self {
         Pieces {
             pieces,
@@ -35,7 +35,7 @@ impl<'a> Pieces<'a> {
         }
     }
 
-    /// Goes on to the next piece where none is in hand.
+    /// Begins the next piece if there is no current one.
     fn go_on(&mut self) {
         if !self.rest.is_empty() {
             return;
@@ -53,7 +53,7 @@ impl<'a> Pieces<'a> {
         }
     }
 
-    /// Puts bytes of the piece in hand into a buffer from a place on, and says how many.
+    /// Puts bytes of the current piece into a buffer from a place on, and returns how many.
     fn put(&mut self, buf: &mut [u8], at: usize) -> usize {
         if at >= buf.len() {
             return 0;
@@ -64,7 +64,7 @@ impl<'a> Pieces<'a> {
         count
     }
 
-    /// Puts bytes into the front of a buffer, and says how many.
+    /// Puts bytes into the front of a buffer, and returns how many.
     fn fill(&mut self, buf: &mut [u8]) -> usize
         ensures { result ≤ length buf.new }
     {

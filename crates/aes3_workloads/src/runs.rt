@@ -12,15 +12,15 @@ use aes3_cli_jobs::Nobody;
 use aes3_program::run_line;
 use std::alloc::{AllocError, Global};
 
-/// Takes the digest of a run into that of all.
+/// Adds the digest of a run to that of all runs.
 fn take_digest(digest: &mut Digest, run: &Digest, status: u64) {
     digest.note(run.sum());
     digest.note(run.count());
     digest.note(status);
 }
 
-/// Runs a command on so many of these pieces, and takes what it writes, what it tells and its exit status into the
-/// digest.
+/// Runs a command on `count` of these pieces, and adds what it writes and reports and its exit
+/// status to the digest.
 pub fn run_command(
     alloc: Global,
     words: &[&str],
@@ -36,8 +36,8 @@ pub fn run_command(
     Ok(())
 }
 
-/// Recovers the cells of a capture of so many of these pieces, and takes them and what is found of the line into the
-/// digest.
+/// Recovers the cells of a capture of `count` of these pieces, and adds them and the figures of the
+/// line to the digest.
 pub fn run_capture(
     alloc: Global,
     unit: Unit,
@@ -71,7 +71,7 @@ pub fn run_capture(
     Ok(())
 }
 
-/// What a command writes of these bytes.
+/// What a command writes for these bytes.
 pub fn output_of(alloc: Global, words: &[&str], bytes: &[u8]) -> Result<Vec<u8>, AllocError> {
     let source = MemorySource::new(bytes, 1 << 17);
     let mut errors = Digest::new();
@@ -83,7 +83,7 @@ pub fn output_of(alloc: Global, words: &[&str], bytes: &[u8]) -> Result<Vec<u8>,
     Ok(output)
 }
 
-/// So many of these pieces in the order of a stream of numbers, and an ending.
+/// `count` of these pieces in the order of a stream of numbers, and an ending.
 pub fn some_of<'a>(
     pieces: &'a [Vec<u8>],
     numbers: &mut Numbers,

@@ -1,4 +1,4 @@
-//! Any cells, and fronts of words of them, up to the first that decides a report.
+//! Any cells, and fronts of words, up to the first cell that decides a report.
 ghost use Rattle.std.specs.Prelude.{◌≡◌, ◌≢◌, ◌<◌, ◌≤◌, ◌+◌, ◌-◌, ◌^◌, None, Some};
 ghost use Rattle.std.specs.Prelude.{List, [], ◌∷◌, ◌++◌, drop, option_map, option_to_list, false};
 ghost use Rattle.std.specs.Prelude.{length, true};
@@ -24,7 +24,7 @@ use aes3_level::{Cells, Level};
 use aes3_slot::{SUBFRAME_CELLS, block_preambles, mark_of, wrong_cells};
 
 impl Lock {
-    /// Takes the first `len` cells of a word into the last eight.
+    /// Shifts the first `len` cells of a word into the last eight.
     fn count(&mut self, word: u64, len: u32)
         requires room { self.old.seen + len ≤ 2 ^ 43 }
         requires len { len ≤ 64 }
@@ -38,8 +38,8 @@ impl Lock {
         self.recent = last_behind(self.recent, word, len);
     }
 
-    /// Takes the first cells of a word, at most `len`, up to the first with which the preamble of a
-    /// block ends, where no candidate is in hand. Answers how many.
+    /// Takes at most `len` cells from the front of a word, if there is no current candidate. It
+    /// stops after the first cell that ends the preamble of a block. Returns how many it took.
     #[inline(always)]
     fn search(&mut self, word: u64, len: u32) -> u32
         requires room { self.old.seen + len ≤ 2 ^ 43 }
@@ -88,8 +88,8 @@ impl Lock {
         ending
     }
 
-    /// Takes the first `right` cells of a word, which go on with the candidate in hand, and the one
-    /// behind them, which can't stand where it is.
+    /// Takes the first `right` cells of a word, which continue the current candidate, and the next
+    /// cell, which can't be right at its place.
     #[inline(always)]
     fn refute(&mut self, candidate: Candidate, word: u64, right: u32) -> Pushed
         requires room { self.old.seen + right + 1 ≤ 2 ^ 43 }
@@ -116,8 +116,8 @@ impl Lock {
         }
     }
 
-    /// Takes the first cells of a word, at most `len`, up to the end of the subframe in hand, or up
-    /// to the first that ends the candidate in hand and with it.
+    /// Takes at most `len` cells from the front of a word. It stops at the end of the current
+    /// subframe, or after the first cell that ends the current candidate.
     #[inline(always)]
     fn go_on(&mut self, candidate: Candidate, word: u64, len: u32) -> Pushed
         requires room { self.old.seen + len ≤ 2 ^ 43 }
@@ -204,7 +204,7 @@ impl Lock {
         }
     }
 
-    /// Takes cells of the word that was begun, as far as `step` does.
+    /// Takes cells of the current word, as far as `step` does.
     #[inline(always)]
     fn take_some(&mut self, cells: &mut Cells<'_>) -> Option<Ending>
         requires some { 0 < length cells.old.here }
@@ -217,11 +217,11 @@ impl Lock {
         pushed.ending
     }
 
-    /// Takes cells up to the first that decides a report and with it, or all.
+    /// Takes cells up to and including the first that decides a report, or all.
     ///
-    /// It is `push` for each of these cells, but makes no report: `report` does, until more cells
-    /// are taken.
-    // Inlined, and so is what it stands on, as it answers every few cells where many candidates begin.
+    /// It is `push` for each of these cells, but makes no report. Until more cells are taken,
+    /// `report` makes it.
+    // Inlined, with all that it calls: if many candidates begin, it returns every few cells.
     #[inline(always)]
     pub fn take(&mut self, cells: &mut Cells<'_>) -> Option<Ending>
         requires room { self.old.seen + length (all_of cells.old) ≤ 2 ^ 43 }

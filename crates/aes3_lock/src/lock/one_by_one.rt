@@ -13,13 +13,12 @@ use aes3_level::Level;
 use arrayvec::ArrayVec;
 
 impl Lock {
-    /// Takes the first cells of a word, the first of all in the lowest bit, up to the first that
-    /// decides a report and with it, and at most `len`.
+    /// Takes at most `len` cells from the front of a word, the first of all in the lowest bit. It
+    /// stops after the first cell that decides a report.
     ///
-    /// It is `push` for each of these cells, but makes no report: `report` does, until more cells
-    /// are taken.
-    // Inlined, and so is what it stands on, as it answers every few cells where many candidates
-    // begin.
+    /// It is `push` for each of these cells, but makes no report. Until more cells are taken,
+    /// `report` makes it.
+    // Inlined, with all that it calls: if many candidates begin, it returns every few cells.
     #[inline(always)]
     fn push_front(&mut self, word: u64, len: u32) -> Pushed
         requires room { self.old.seen + len ≤ 2 ^ 43 }
@@ -52,7 +51,7 @@ impl Lock {
         Pushed::quiet(taken)
     }
 
-    /// Adds the report of an ending, if there is one, where there is room.
+    /// Adds the report of an ending, if there is one, as long as there is room.
     fn tell(&self, ending: Option<Ending>, out: &mut ArrayVec<Report, 16>)
         ensures { length out.old.items < 16
             → out.new.items ≡ out.old.items ++ option_to_list
@@ -66,10 +65,10 @@ impl Lock {
     }
 
     /// Takes the 64 cells of a word, the first in the lowest bit, and puts the reports that they
-    /// decide.
+    /// decide into `out`.
     ///
-    /// It is `push` for each of these cells. There are fourteen at most, since candidates are at
-    /// least five cells apart.
+    /// It is `push` for each of these cells. There are at most fourteen reports, since candidates
+    /// are at least five cells apart.
     pub fn push_word(&mut self, word: u64, out: &mut ArrayVec<Report, 16>)
         requires room { self.old.seen + 64 ≤ 2 ^ 43 }
         requires empty { out.old.items ≡ [] }
@@ -88,7 +87,7 @@ impl Lock {
         }
     }
 
-    /// Takes the next cell, and answers the report that it decides.
+    /// Takes the next cell, and returns the report that it decides.
     pub fn push(&mut self, cell: Level) -> Option<Report>
         requires { self.old.seen < 2 ^ 43 }
         ensures seen { self.new.seen ≡ self.old.seen + 1 }

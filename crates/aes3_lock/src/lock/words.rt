@@ -17,8 +17,8 @@ use aes3_frame::BLOCK_CELLS;
 use aes3_slot::{SUBFRAME_CELLS, begins_subframe, block_preambles, mark_of};
 
 impl Lock {
-    /// Takes the 64 cells of a word where no candidate is in hand and no preamble of a block ends
-    /// in them, and says whether it did; else it changes nothing.
+    /// Takes the 64 cells of a word if there is no current candidate and no preamble of a block
+    /// ends in them. Returns whether it took them; if not, nothing changes.
     fn pass_word(&mut self, word: u64) -> bool
         requires room { self.old.seen + 64 ≤ 2 ^ 43 }
         requires searching { self.old.candidate ≡ None }
@@ -39,12 +39,12 @@ impl Lock {
         true
     }
 
-    /// Takes the 64 cells of a word, the first in the lowest bit, and says whether it did; else it
-    /// changes nothing.
+    /// Takes the 64 cells of a word, the first in the lowest bit, in two cases. Returns whether it
+    /// took them; if not, nothing changes.
     ///
-    /// It takes them where the candidate in hand goes on with all of them, and where none is in
-    /// hand and no preamble of a block ends in them. It is `push` for 64 cells at once, which decide no
-    /// report.
+    /// It takes them if they all continue the current candidate. It also takes them if there is no
+    /// current candidate and no preamble of a block ends in them. It is `push` for 64 cells at
+    /// once, which decide no report.
     pub fn take_word(&mut self, word: u64) -> bool
         requires { self.old.seen + 64 ≤ 2 ^ 43 }
         ensures seen { result ≡ true → self.new.seen ≡ self.old.seen + 64 }
@@ -88,9 +88,9 @@ impl Lock {
         true
     }
 
-    /// Takes words from the front, eight at a time, as long as all that eight make whole are
-    /// subframes behind the first of the candidate in hand, with right parity. Answers how many. It
-    /// is `take_word` for almost all words of a line.
+    /// Takes words from the front, eight at a time, as long as the subframes that they complete
+    /// belong to the current candidate, after its first one, with right parity. Returns how many.
+    /// It is `take_word` for almost all words of a line.
     fn take_eights(&mut self, words: &[u64]) -> usize
         requires { self.old.seen + 64 * length words.now ≤ 2 ^ 43 }
         ensures within { result ≤ length words.now }
@@ -117,7 +117,7 @@ impl Lock {
         {
             let subframes = eight_completed(behind, len, eight);
             let rest = rest_of(eight[7], len);
-            // Eight subframes on the marks are the same, so they are found once for all.
+            // After each eight subframes the preambles are the same, so they are found once.
             if !are_subframes(candidate.level, slot, &subframes)
                 || !begins_subframe(candidate.level, mark_of(slot + 8), rest, len as u32)
             {
@@ -134,11 +134,11 @@ impl Lock {
         taken
     }
 
-    /// Takes the words from the front, the first cell of each in its lowest bit, that decide no
-    /// report, and answers how many.
+    /// Takes words from the front, the first cell of each in its lowest bit, as long as they decide
+    /// no report. Returns how many.
     ///
-    /// It is `take_word` for each of them: the next, if there is one, decides a report or begins a
-    /// block.
+    /// It is `take_word` for each of them: the next word, if there is one, decides a report or
+    /// begins a block.
     pub fn take_words(&mut self, words: &[u64]) -> usize
         requires { self.old.seen + 64 * length words.now ≤ 2 ^ 43 }
         ensures within { result ≤ length words.now }
