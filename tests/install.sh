@@ -2,7 +2,7 @@
 # tests/install.sh: installs what is built in a scratch folder (bin/install --as-built), and there: the program and the header
 # tell one version; the shared library has its soname and shows the calls of the header and no other name; a program in C
 # is built over it by pkg-config and by CMake, and tells of a damaged line what the installed program tells; the first program of
-# docs/C.md tells its whole blocks; a struct of another size than the library's is refused by C11 and C++11; a prefix below DESTDIR
+# docs/C.md prints its whole blocks, also built by the commands there; a struct of another size than the library's is refused by C11 and C++11; a prefix below DESTDIR
 # is told without it, and libraries in another folder are found; the loader takes the library for x86-64-v3 on such a processor.
 #
 # The last line is `N passed, M failed`, and the status 0 where none failed.
@@ -131,6 +131,32 @@ if [ -e "$to/lib/libaes3.so.1" ]; then
     judge "the whole blocks of a damaged line" test "$(wc -l <"$work/whole")" = 248
     cc -I"$to/include" -o "$work/first" "$work/example1.c" "$to/lib/libaes3.a"
     judge "the program of docs/C.md prints them" sh -c '"$1/first" <"$1/line.raw" | cmp - "$1/whole"' - "$work"
+    # The commands of that page, in a folder like a clone in which the library is built.
+    mkdir -p "$work/clone/bin" "$work/clone/out" "$work/clone/crates/aes3_c/out"
+    ln -s "$root/include" "$root/examples" "$work/clone"
+    ln -s "$to/lib/libaes3.a" "$work/clone/crates/aes3_c/out/libaes3_c.a"
+    ln -s "$to/bin/aes3" "$work/clone/bin/aes3"
+    printf '#!/bin/sh\n' >"$work/clone/bin/build"
+    printf '#!/bin/sh\nexec "%s" --as-built --cpu %s "$@"\n' "$root/bin/install" "$cpu" >"$work/clone/bin/install"
+    chmod +x "$work/clone/bin/build" "$work/clone/bin/install"
+    cp "$work/example1.c" "$work/clone/out/whole.c"
+    commands() { # KIND NUMBER: of the page's blocks of this kind
+        awk -v kind="$1" -v number="$2" '/^```/ { inside = $0 == "```" kind && ++count == number; next } inside' "$root/docs/C.md"
+    }
+    "$to/bin/aes3" encode "-i$root/examples/speech.block" | "$to/bin/aes3" check >"$work/all"
+    commands sh 1 >"$work/clone/first"
+    judge "the commands of docs/C.md that build the program" sh -c 'cd "$1" && sh -e ./first | cmp - "$2"' - "$work/clone" "$work/all"
+    if ! lacks pkg-config; then
+        commands sh 2 >"$work/clone/second"
+        echo 'out/whole <"$1"' >>"$work/clone/second"
+        judge "the commands of docs/C.md that install the library" \
+            sh -c 'cd "$1" && HOME=$1/home sh -e ./second "$2" | grep "^whole" | cmp - "$3"' - "$work/clone" "$work/line.raw" "$work/whole"
+    fi
+    if ! lacks cmake; then
+        { printf 'cmake_minimum_required(VERSION 3.13)\nproject(own C)\n' && commands cmake 1; } >"$work/clone/CMakeLists.txt"
+        judge "CMake takes the lines of docs/C.md" cmake -S "$work/clone" -B "$work/clone/made" -DCMAKE_PREFIX_PATH="$to"
+        judge "CMake builds by the lines of docs/C.md" cmake --build "$work/clone/made"
+    fi
     judge "the version of the header" test "$("$work/version")" = "$version $version"
     sed 's/state\[388\]/state[389]/' "$to/include/aes3.h" >"$work/aes3.h"
     echo '#include "aes3.h"' >"$work/size.c"

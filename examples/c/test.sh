@@ -183,36 +183,36 @@ build g++ -x c++ -std=c++11
 build clang++ -x c++ -std=c++11
 
 judge "the Makefile" make -s -C "$here" OUT="$folder" LIB="$library"
-# What docs/C.md tells of the stack of each call, to 64 octets, as the C library's own calls may take some.
+# What aes3.h says of the stack of each call, to 64 octets, as the C library's own calls may take some.
 told_stack() {
     awk '
         FNR == 1 { file++ }
         file == 1 { if ($NF > used[$1]) used[$1] = $NF; next }
-        /^\| call \| stack \|$/ { inside = 1; next }
-        !/^\|/ { inside = 0 }
-        !inside || /^\|-/ { next }
+        / \* Stack in bytes/ { inside = 1; next }
+        / \*\// { inside = 0 }
+        !inside || !/ \* - / { next }
         {
             bytes = $0
-            gsub(/^.*\| |,| at most| \|$/, "", bytes)
+            gsub(/^.*: |,| at most$/, "", bytes)
             bytes += 0
             if (/each other/) other = bytes
-            while (match($0, /`aes3_[a-z_]+`/)) {
-                name = substr($0, RSTART + 1, RLENGTH - 2)
+            while (match($0, /aes3_[a-z_]+\(\)/)) {
+                name = substr($0, RSTART, RLENGTH - 2)
                 $0 = substr($0, RSTART + RLENGTH)
                 if (used[name] > bytes + 64 || used[name] < bytes - 64) { print name, used[name], "not", bytes; wrong = 1 }
                 delete used[name]
             }
         }
         END {
-            for (name in used) if (used[name] > other) { print name, used[name], "more than", other; wrong = 1 }
+            for (name in used) if (used[name] > other + 64) { print name, used[name], "more than", other; wrong = 1 }
             exit wrong || other == ""
         }
-    ' used "$here/../../docs/C.md"
+    ' used "$here/../../include/aes3.h"
 }
 judge "the stack of a call" eval './stack >stacks'
 cat stacks
 sed 's/,.* / /' stacks >used
-judge "the stack that docs/C.md tells" told_stack
+judge "the stack that aes3.h says" told_stack
 
 # What the library wants of others.
 nm -u "$library" | sed -n 's/^ *U //p' | sort -u | tr '\n' ' ' >wants

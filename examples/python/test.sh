@@ -96,6 +96,15 @@ shown() { # PYTHON
     "$1" shown.py >got && "$program" check <line.txt | cmp - got
 }
 
+# The examples of python/README.md, one after the other, with a block of samples.
+{
+    printf 'import numpy\nsamples = numpy.zeros((192, 2), numpy.int32)\n'
+    sed -n '/^```python$/,/^```$/p' "$root/python/README.md" | sed '/^```/d'
+} >readme.py
+readme() { # PYTHON
+    "$1" readme.py >got && [ "$(sed -n '1p;2s/ .*//p;3p' got | tr '\n' ,)" = "whole at 0 before 0,48000,a block at cell 0," ]
+}
+
 # What each says of itself, and of a word that it does not know.
 rejects() { "$1" "$2" --no-such-word 2>said_why; [ $? = 2 ] && grep -q '^usage: ' said_why; }
 
@@ -125,6 +134,7 @@ for python in python3 /usr/bin/python3; do
 done
 if [ -n "$with" ]; then
     examples "$with"
+    judge "the examples of python/README.md by $with" readme "$with"
 else
     echo "left out: the examples with arrays of numpy (it is not installed)"
 fi
