@@ -143,10 +143,10 @@ def compare_rates(compare, browser, program, folder):
     with open(f"{ROOT}/examples/speech.block", "rb") as file:
         line = program("encode", file.read(1536 * 10))
     cases = [("consumer, 96000", ["--set1", "rate=96000"], 96000, "by its channel status"),
-             ("consumer, none", ["--set1", "rate=not-indicated"], 48000, "taken, since its channel status says none"),
+             ("consumer, none", ["--set1", "rate=not-indicated"], 48000, "because its channel status names none"),
              ("professional, 44100", ["--status1", "41" + "00" * 23], 44100, "by its channel status"),
              ("consumer, payload", ["--set1", "payload=other"], 48000, "by its channel status"),
-             ("professional, none", ["--status1", "01" + "00" * 23], 48000, "taken, since its channel status says none")]
+             ("professional, none", ["--status1", "01" + "00" * 23], 48000, "because its channel status names none")]
     for name, options, hertz, by in cases:
         with open(f"{folder}/{name}", "wb") as file:
             file.write(program("rewrite", line, *options))

@@ -44,18 +44,18 @@ async function turnedAdvice(codec, { form, file }) {
     if (whole === 0) {
         return null;
     }
-    const stand = counted(whole, "whole block stands", "whole blocks stand");
+    const blocks = counted(whole, "whole block", "whole blocks");
     const says = `These are packed cells with the first of eight in the ${isHigh ? "lowest" : "highest"} bit: `
-        + `read so, ${stand} in the first ${counted(octets.length, "byte", "bytes")}.`;
+        + `read so, the first ${counted(octets.length, "byte", "bytes")} have ${blocks}.`;
     return isHigh ? {
-        says: `${says} aes3 wants it in the highest: turn the bits of each byte where the file is made, or by`,
-        commands: [`perl -0777 -pe '$_ = pack "B*", unpack "b*", $_' FILE > TURNED; printf '\\0' >> TURNED`],
+        says: `${says} aes3 reads such a file with --lsb-first beside --raw-in or --packed-in. This reverses the bits of each byte instead:`,
+        commands: [`perl -0777 -pe '$_ = pack "B*", unpack "b*", $_' FILE > REVERSED; printf '\\0' >> REVERSED`],
         form: "packed-low",
     } : { says, commands: [], form: "packed" };
 }
 
-/* What to say of a file in which no whole block stands; the commands that mend it; whether it is none of cells (`isOther`), or in
-   which form it is to be read, or in which of its channels a line may be. */
+/* What to say of a file without a whole block; the commands that mend it; whether it holds no cells (`isOther`), or in which form it
+   is to be read, or in which of its channels a line may be. */
 export async function adviceOf(codec, cells) {
     const { head, form, file } = cells;
     const known = form === "text" ? undefined : BEGINNINGS.find(([beginning]) => beginning.test(latin(head)));
@@ -75,7 +75,7 @@ export async function adviceOf(codec, cells) {
         return { says: "This looks like a block file. To make a line of it:", commands: ["aes3 encode < FILE > LINE"], isOther: true };
     }
     return form !== "text" && await turnedAdvice(codec, cells) || {
-        says: "No block stands in these cells. Packed cells have the first of eight in the highest bit. Samples of a logic analyser "
+        says: "There is no whole block in these cells. Packed cells have the first of eight in the highest bit. Samples of a logic analyser "
             + "are no cells yet, but this makes cells of them:",
         commands: [CHANNEL],
     };

@@ -88,7 +88,7 @@ export class CellFile {
                 }
             } else if (!isSeparator(byte)) {
                 this.fault = `Byte ${plain(from + i)} (counted from 0) is neither 0, 1 nor a separator. `
-                    + "What stands before it is shown.";
+                    + "The page shows the cells before it.";
                 break;
             }
         }

@@ -208,7 +208,7 @@ class Page {
         const { found } = this;
         const { tally, reports, cells } = found;
         const last = tally.blocks - 1;
-        at("of-blocks").textContent = last < 0 ? "there is none" : `of 0 to ${plain(last)}`;
+        at("of-blocks").textContent = last < 0 ? "(there is no whole block)" : `of 0 to ${plain(last)}`;
         at("show-block").disabled = at("block").disabled = last < 0;
         number = Math.max(0, Math.min(Math.round(number), last));
         const words = last < 0 ? null : await wordsAt(this.codec, cells, reports.wholePlace(number));

@@ -12,7 +12,7 @@ export function rateOf(codec, tally, chosen) {
     }
     const told = tally.first ? Number(valueOf(statusOf(codec, tally.first), "rate")) : NaN;
     return told > 0 ? { hertz: told, by: "by its channel status" }
-        : { hertz: USUAL, by: tally.first ? "taken, since its channel status says none" : "taken, since no channel status is there" };
+        : { hertz: USUAL, by: tally.first ? "because its channel status names none" : "because there is no channel status" };
 }
 
 /* How long some cells last, 128 a frame, in seconds. */

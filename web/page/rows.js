@@ -7,31 +7,30 @@ import { lineOf } from "./reports.js";
 import { cellCount, counted, plain } from "./words.js";
 
 const FAULTS = {
-    preamble: " is not that of the preamble that is due there",
-    biphase: " does not begin its time slot with a change of level",
-    unclosed: ", behind the block, does not end its last run",
+    preamble: " does not match the expected preamble",
+    biphase: " begins a time slot, and the level does not change there",
+    unclosed: " is right after the block, and the level does not change there",
 };
 
 /* What a row of the table says: a report but that of a whole block, a stretch of whole blocks, or cells in none. */
 function wordsOf({ report, blocks, gap }) {
     switch (report?.kind) {
         case "marked": {
-            const wrong = counted(report.wrong, "subframe has", "subframes have");
-            return `marked: the cells of the block stand, but ${wrong} the wrong parity`;
+            return `marked: parity is wrong in ${counted(report.wrong, "subframe", "subframes")} of the block, and nothing else`;
         }
         case "fault":
             return `fault, ${report.why}: cell ${plain(report.cell)}${FAULTS[report.why]}`;
         case "unfinished":
             return `unfinished: the input ends after ${cellCount(report.cell)} of a block, without fault`;
         default:
-            return blocks ? `whole: ${counted(blocks, "block", "blocks one behind the other")}`
+            return blocks ? `whole: ${counted(blocks, "block", "blocks one after the other")}`
                 : `in no whole block: ${cellCount(gap)}`;
     }
 }
 
 /* The rows of the table in order of place; `to` is the cell that a row's button shows. */
 function* rowsOf({ reports, cells }) {
-    let stretch = null, behind = 0, held = []; // what is told of places behind the last whole block
+    let stretch = null, behind = 0, held = []; // the rows of places after the last whole block
     for (let i = 0; i <= reports.count; i++) {
         const isEnd = i === reports.count;
         if (!isEnd && reports.kind(i) !== 1) {

@@ -39,7 +39,7 @@ export function drawStrip(canvas, { cells, reports }) {
     }
 }
 
-/* What stands at a cell, in words: the last report that speaks of it. */
+/* What is at a cell, in words: the last report of it. */
 function standing({ reports }, cell) {
     let says = "in no block";
     for (let i = 0; i < reports.count && reports.places[i] <= cell; i++) {
