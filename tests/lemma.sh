@@ -1,6 +1,6 @@
 #!/bin/sh
-# tests/lemma.sh: the steps of CONTRIBUTING.md, "The first lemma", in a copy: each file as it stands there, each command, and what it is said
-# to print, up to the proof. It takes a minute where nothing runs beside it, and needs rt and python3.
+# tests/lemma.sh: the steps of CONTRIBUTING.md, "The first lemma", in a copy: each file as it is there, each command, and what it is said
+# to print, up to the proof. Then the commands of "A day's work". It takes a minute or two if nothing runs beside it, and needs rt and python3.
 #
 # The last line is `N passed, M failed`, and the status 0 where none failed.
 
@@ -85,4 +85,10 @@ judge "step 5" cp "$work/parts/Answers" "$wires/proofs/wires_exchange/Answers.an
 judge "step 6" step 6 0
 judge "step 6 prints what it says" grep -qx 'fn wires::wires_exchange: proved' "$work/step"
 judge "its last line" sh -c 'grep . "$0" | tail -n 1 | grep -q "^logic=proved "' "$work/step"
+
+# The commands of "A day's work", which begin with that crate's folder. They leave its sources as they are.
+sed -n '/^## A day/,/^## The first lemma$/s/^    //p' "$root/CONTRIBUTING.md" >"$work/day"
+judge "a day's work has commands" test -s "$work/day"
+judge "a day's work" sh -e "$work/day"
+judge "rt fmt changes nothing" diff -r "$root/crates/aes3_level/src" crates/aes3_level/src
 tell
