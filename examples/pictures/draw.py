@@ -1,11 +1,11 @@
 #!/usr/bin/env python3
-"""Draws a stretch of a line as SVG, from its cells and from what aes3 tells of them.
+"""Draws a stretch of a line as SVG, from its cells and from what aes3 prints for them.
 
     draw.py PROGRAM FROM COUNT < LINE.txt > PICTURE.svg
 
 LINE.txt is cell text. The picture has the blocks of the whole input as a strip (`check`), and below it the levels of
 COUNT cells from cell FROM on, with preambles (`scan`), time slots, their bits, and the cell of each fault in red. The
-first words of the channel status of the block there (`show`) stand above.
+first words of the channel status of the block there (`show`) are above.
 """
 
 import argparse
