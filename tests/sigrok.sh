@@ -2,7 +2,7 @@
 # tests/sigrok.sh [PROGRAM [CELLS]]: the decoder of sigrok/aes3 in sigrok-cli, on captures made by an encoder of another hand (captures/sigrok.py):
 # clean, with jitter, in another bit of sixteen, of a line that stops and comes back, with noise, damaged, without a line, and empty. What it
 # shows is what PROGRAM, aes3, prints of the cells that CELLS, aes3-cells, writes, and each annotation is at the sample at which the encoder
-# made that part of the line begin. Both ways to read samples are tried. PulseView shows the capture of sigrok/picture. PROGRAM and CELLS are those of bin/build where none are given.
+# made that part of the line begin. Both ways to read samples are tried. The commands of sigrok/README.md run. PulseView shows the capture of sigrok/picture. PROGRAM and CELLS are those of bin/build where none are given.
 #
 # The last line is `N passed, M failed`, and the status 0 where none failed.
 
@@ -44,6 +44,18 @@ done
 judge "sixteen channels" case_of jitter unit=2 bit=12
 judge "another bit" case_of clean bit=5
 judge "a rate that is given" case_of clean rate=48000
+
+# The commands of sigrok/README.md but the last, which opens a window, in a folder like a clone in which the library is built. The channels
+# of a capture that is made of octets have numbers as their names.
+mkdir -p clone/bin
+cp -R "$root/sigrok" "$root/python" clone
+ln -s "$root/bin/link-shared" clone/bin
+printf '#!/bin/sh\n' >clone/bin/build
+chmod +x clone/bin/build
+"$program" encode "-i$root/examples/speech.block" | "$program" cut 0 5 | "$root/examples/neighbours/samples.py" 3.90625 0.2 >capture.bin
+sigrok-cli -I binary:numchannels=8:samplerate=24000000 -i capture.bin -o clone/capture.sr
+sed -n '/^```sh$/,/^```$/p' "$root/sigrok/README.md" | grep -v '^```\|^pulseview' | sed 's/data=D0/data=0/' >clone/commands
+judge "the commands of sigrok/README.md" sh -c 'cd clone && sh -e ./commands >shown && grep -q "whole at 0 " shown && [ -s audio.wav ]'
 
 # An empty capture, and no library.
 shown() { sigrok-cli -I binary:numchannels=8:samplerate=24000000 -i "$1" -P aes3:data=0 -A aes3 2>said_why; }
