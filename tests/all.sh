@@ -1,13 +1,12 @@
 #!/bin/sh
-# tests/all.sh [PROGRAM]: all that is run with a built program, with bin/aes3's where none is given: how bin/aes3 and bin/build have it built, the worked rows, the machine's own
+# tests/all.sh [PROGRAM]: all that is run with a built program, that of bin/aes3 if none is given: how bin/aes3 and bin/build have it built, the worked rows, the machine's own
 # streams, refused memory, the examples of help, README, tutorial and docs/COMMANDS.md, the manual page, the shells' completions, the pictures,
 # the figures and the links of the books, captures with jitter and in the files of other programs, errors put in on purpose, round trips with other programs, the examples from C (also
 # for 64-bit ARM), C++, Python and Rust, the reference of the C calls, and of the page in a browser, and the Debian packages in a root of their own.
 #
-# The C library is built first, where that is still to be done. Each part has folders of its own, and as many run side by side as there
-# are processors. Each prints what fails, `left out: WHAT (WHY)` where something it needs is not installed, and `N passed, M failed`;
-# behind it stand its seconds. At the end all that was left out is told once more; the last line is the sum, and the status 1 where
-# something failed.
+# The C library is built first, if it is not there. Each part has folders of its own, and each processor runs one part at a time. A part
+# prints what fails, `left out: WHAT (WHY)` if something it needs is not installed, `N passed, M failed`, and its seconds. At the end
+# all that was left out is printed once more. The last line is the sum; the status is 1 if something failed.
 
 root=$(dirname "$(dirname "$(realpath "$0")")")
 # shellcheck source=examples/words.sh

@@ -1,6 +1,6 @@
 #!/bin/sh
 # tests/readme.sh PROGRAM [FILE..]: runs the examples of README.md, docs/TUTORIAL.md and docs/COMMANDS.md, or of the FILEs, and compares
-# what they print with what stands there.
+# what they print with what is there.
 #
 # An example is a line that begins with '$ ' in a block that begins with ```sh; what is expected, standard error with
 # it, are the lines below it up to the next. A command may go on in lines that end in a backslash. Each FILE's examples
