@@ -1,6 +1,6 @@
 #!/bin/sh
 # tests/lemma.sh: the steps of CONTRIBUTING.md, "The first lemma", in a copy: each file as it is there, each command, and what it is said
-# to print, up to the proof. Then the commands of "A day's work". It takes a minute or two if nothing runs beside it, and needs rt and python3.
+# to print, up to the proof. Then the commands of "A day's work" and "What a proof costs". It takes some minutes, and needs rt and python3.
 #
 # The last line is `N passed, M failed`, and the status 0 where none failed.
 
@@ -91,4 +91,11 @@ sed -n '/^## A day/,/^## The first lemma$/s/^    //p' "$root/CONTRIBUTING.md" >"
 judge "a day's work has commands" test -s "$work/day"
 judge "a day's work" sh -e "$work/day"
 judge "rt fmt changes nothing" diff -r "$root/crates/aes3_level/src" crates/aes3_level/src
+
+# Those of "What a proof costs", with that crate built anew.
+rm -rf crates/aes3_level/out crates/aes3/out
+cp "$root/bin/proof-cost" bin
+sed -n '/^## What a proof costs$/,/^## Wrong bodies$/s/^    //p' "$root/CONTRIBUTING.md" >"$work/costs"
+judge "what a proof costs has commands" test -s "$work/costs"
+judge "what a proof costs" sh -e "$work/costs"
 tell
