@@ -151,6 +151,40 @@ typedef struct aes3_report {
 AES3_SIZE(aes3_report, 1560);
 
 /**
+ * The word of a kind of report. The line that `aes3 check` prints of a report begins with it.
+ *
+ * @param kind  an #aes3_kind
+ * @return a constant text: `none`, `whole`, `marked`, `fault` or `unfinished`; of any other number `unknown kind`
+ *
+ * @code
+ * assert(strcmp(aes3_kind_text(AES3_WHOLE), "whole") == 0);
+ * assert(strcmp(aes3_kind_text(9), "unknown kind") == 0);
+ * @endcode
+ */
+static inline const char *aes3_kind_text(uint8_t kind) {
+    static const char *const texts[] = {"none", "whole", "marked", "fault", "unfinished"};
+    return kind <= AES3_UNFINISHED ? texts[kind] : "unknown kind";
+}
+
+/**
+ * The word of a cause. The line that `aes3 check` prints of a fault ends with it.
+ *
+ * @param why  an #aes3_why
+ * @return a constant text: `preamble`, `biphase` or `unclosed`; of any other number `unknown cause`
+ *
+ * @code
+ * aes3_report report = {0};
+ * report.kind = AES3_FAULT;
+ * report.why = AES3_BIPHASE;
+ * assert(strcmp(aes3_why_text(report.why), "biphase") == 0);
+ * @endcode
+ */
+static inline const char *aes3_why_text(uint8_t why) {
+    static const char *const texts[] = {"preamble", "biphase", "unclosed"};
+    return why <= AES3_UNCLOSED ? texts[why] : "unknown cause";
+}
+
+/**
  * Makes a lock that has seen no cell.
  *
  * @param[out] lock  the lock
@@ -884,6 +918,22 @@ enum aes3_check {
 uint8_t aes3_status_check_state(const uint8_t status[24]);
 
 /**
+ * The word of the state of a check byte, as `aes3 show` prints it after `check=`.
+ *
+ * @param check  an #aes3_check
+ * @return a constant text: `good`, `absent` or `bad`; of any other number `unknown state`
+ *
+ * @code
+ * static const uint8_t status[24] = {0x85, 0x02, 0x2C};
+ * assert(strcmp(aes3_check_text(aes3_status_check_state(status)), "absent") == 0);
+ * @endcode
+ */
+static inline const char *aes3_check_text(uint8_t check) {
+    static const char *const texts[] = {"good", "absent", "bad"};
+    return check <= AES3_BAD ? texts[check] : "unknown state";
+}
+
+/**
  * Puts the use and the fields of a status as `aes3 show` prints them: ` professional payload=pcm emphasis=none ..`.
  *
  * @param status  the bytes of the status
@@ -1018,6 +1068,38 @@ AES3_SIZE(aes3_wav, 24);
  * @endcode
  */
 uint8_t aes3_wav_read(const uint8_t *octets, size_t count, aes3_wav *wav, uint64_t *at);
+
+/**
+ * What an answer of aes3_wav_read() says. Of a rejected header it is what `aes3 from-wav` prints, without the numbers in it.
+ *
+ * @param answer  an #aes3_wav_answer
+ * @return a constant text without a full stop; of any other number `unknown answer`
+ *
+ * @code
+ * static const uint8_t octets[12] = {'O', 'g', 'g', 'S'};
+ * aes3_wav wav;
+ * uint64_t at;
+ * const uint8_t answer = aes3_wav_read(octets, 12, &wav, &at);
+ * assert(strcmp(aes3_wav_answer_text(answer), "this does not begin as a WAV file") == 0);
+ * @endcode
+ */
+static inline const char *aes3_wav_answer_text(uint8_t answer) {
+    static const char *const texts[] = {
+        "more octets are needed",
+        "the header is whole",
+        "this does not begin as a WAV file",
+        "this RIFF file is no WAV file",
+        "its chunk `ds64` is too short",
+        "its chunk `fmt ` is too short",
+        "its samples are not PCM",
+        "its samples have no channels",
+        "samples of that many bits are not read",
+        "its frames do not fit its channels",
+        "its samples come before their format",
+        "the file ends before its samples",
+    };
+    return answer <= AES3_WAV_ENDED ? texts[answer] : "unknown answer";
+}
 
 /**
  * Puts the samples of two channels of a WAV file, as aes3_block_of_samples() takes them.

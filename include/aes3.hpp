@@ -259,6 +259,12 @@ inline uint32_t write_wav(uint8_t bits, uint32_t rate, uint64_t frames, std::spa
 #endif
 inline uint32_t version() { return aes3_version(); }
 
+// Constant texts: the words of a report in its line of `aes3 check`, of a check byte in that of `aes3 show`, and what an answer of read_wav says.
+inline const char *kind_text(const report &of) { return aes3_kind_text(of.kind); }
+inline const char *why_text(const report &of) { return aes3_why_text(of.why); }
+inline const char *text_of(aes3_check of) { return aes3_check_text(static_cast<uint8_t>(of)); }
+inline const char *text_of(aes3_wav_answer of) { return aes3_wav_answer_text(static_cast<uint8_t>(of)); }
+
 // ---- How the lock does it.
 
 template <class Tell> bool hand(const report &told, Tell &tell) { return told.kind != AES3_NONE && (tell(told), true); }

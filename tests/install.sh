@@ -102,7 +102,7 @@ tells() {
 }
 
 # The functions that the header declares, and those that the library shows.
-sed -n 's/^[a-z][a-z0-9_ ]*[ *]\(aes3_[a-z_]*\)(.*/\1/p' "$to/include/aes3.h" | sort >"$work/declared"
+sed -n '/^static/d; s/^[a-z][a-z0-9_ ]*[ *]\(aes3_[a-z_]*\)(.*/\1/p' "$to/include/aes3.h" | sort >"$work/declared"
 if [ -e "$to/lib/libaes3.so.1" ]; then
     if lacks nm || lacks readelf; then
         echo "left out: the names of libaes3.so.1 (nm and readelf are not installed)"

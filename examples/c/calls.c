@@ -474,8 +474,25 @@ static void wav_samples(void) {
     WANT(aes3_wav_samples(&wav, 1, 1, octets, 4, got, 6) == 1 && got[0] == 0x04030201 && got[1] == 0x04030201);
 }
 
+/* The text of each number, and of each that has no meaning. */
+static void texts(void) {
+    static const char *const kinds[] = {"none", "whole", "marked", "fault", "unfinished"};
+    static const char *const whys[] = {"preamble", "biphase", "unclosed"};
+    static const char *const checks[] = {"good", "absent", "bad"};
+    for (int i = 0; i < 256; i++) {
+        const uint8_t number = (uint8_t)i;
+        WANT(strcmp(aes3_kind_text(number), i <= AES3_UNFINISHED ? kinds[i] : "unknown kind") == 0);
+        WANT(strcmp(aes3_why_text(number), i <= AES3_UNCLOSED ? whys[i] : "unknown cause") == 0);
+        WANT(strcmp(aes3_check_text(number), i <= AES3_BAD ? checks[i] : "unknown state") == 0);
+        WANT((strcmp(aes3_wav_answer_text(number), "unknown answer") == 0) == (i > AES3_WAV_ENDED));
+    }
+    WANT(strcmp(aes3_wav_answer_text(AES3_WAV_MORE), "more octets are needed") == 0);
+    WANT(strcmp(aes3_wav_answer_text(AES3_WAV_ENDED), "the file ends before its samples") == 0);
+}
+
 int main(void) {
     WANT(aes3_version() == AES3_VERSION_NUMBER);
+    texts();
     statuses();
     carried();
     channels();

@@ -2,8 +2,6 @@
 #include "aes3.h"
 #include <stdio.h>
 
-static const char *const why[] = {"preamble", "biphase", "unclosed"};
-
 static aes3_lock lock;
 static aes3_report report;
 static int faults;
@@ -19,7 +17,7 @@ static void tell(void) {
         faults = 1;
         break;
     case AES3_FAULT:
-        printf("fault at %llu cell %llu %s\n", at, cell, why[report.why]);
+        printf("fault at %llu cell %llu %s\n", at, cell, aes3_why_text(report.why));
         faults = 1;
         break;
     case AES3_UNFINISHED:

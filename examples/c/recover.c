@@ -75,7 +75,6 @@ static void print_passed(void) {
 
 /* Prints the report, if there is one, after the gaps before it; writes a whole block. */
 static void take_report(void) {
-    static const char *const why[] = {"preamble", "biphase", "unclosed"};
     unsigned long long at = report.at, cell = report.cell;
     while (aes3_account_before(&account, &report, &gap))
         print_gap();
@@ -88,7 +87,7 @@ static void take_report(void) {
         faults = 1;
         break;
     case AES3_FAULT:
-        printf("fault at %llu cell %llu %s\n", at, cell, why[report.why]);
+        printf("fault at %llu cell %llu %s\n", at, cell, aes3_why_text(report.why));
         faults = 1;
         break;
     case AES3_UNFINISHED:

@@ -15,12 +15,6 @@ static int32_t samples[AES3_BLOCK_WORDS];
 
 /* ---- A WAV file to a line ---- */
 
-static const char *const why[] = {
-    "the file ends inside its header", "", "this is no RIFF, RF64 or BW64 file", "this is no file of sound", "the chunk ds64 is too short",
-    "the chunk fmt is too short", "the samples are not PCM", "the samples have no channels", "samples of so many bits are not read",
-    "a frame has another number of octets than its samples", "the samples come before their format",
-};
-
 /* Reads the header, and no octet behind it. */
 static int read_header(aes3_wav *wav) {
     static uint8_t octets[65536];
@@ -28,18 +22,21 @@ static int read_header(aes3_wav *wav) {
     size_t count = 0;
     uint8_t answer;
     while ((answer = aes3_wav_read(octets, count, wav, &at)) == AES3_WAV_MORE) {
-        size_t more = (size_t)at - count;
+        const size_t wanted = (size_t)at;
         if (at > sizeof octets) {
             fputs("wav: the header has more than 65,536 octets\n", stderr);
             return 3;
         }
-        if (fread(octets + count, 1, more, stdin) < more)
+        count += fread(octets + count, 1, wanted - count, stdin);
+        if (count < wanted) {
+            answer = AES3_WAV_ENDED;
+            at = count;
             break;
-        count = (size_t)at;
+        }
     }
     if (answer == AES3_WAV_HEADER)
         return 0;
-    fprintf(stderr, "wav: octet %llu: %s\n", (unsigned long long)at, why[answer]);
+    fprintf(stderr, "wav: octet %llu: %s\n", (unsigned long long)at, aes3_wav_answer_text(answer));
     return 3;
 }
 

@@ -181,6 +181,11 @@ int main() {
     judge("professional", aes3::fields(found, professional) && professional.rate == 2);
     judge("no consumer", !aes3::fields(found, consumer));
     judge("check", aes3::check(found) == AES3_GOOD);
+    judge("text_of a check", std::string(aes3::text_of(aes3::check(found))) == "good");
+    judge("text_of an answer", std::string(aes3::text_of(AES3_WAV_NOT_WAVE)) == "this RIFF file is no WAV file");
+    aes3::report fault = {};
+    fault.kind = AES3_FAULT, fault.why = AES3_UNCLOSED;
+    judge("texts of a report", std::string(aes3::kind_text(fault)) + " " + aes3::why_text(fault) == "fault unclosed");
 
     // The block comes back from its cells, given as an array, as a pointer and a length, and as what has both.
     int count = 0;

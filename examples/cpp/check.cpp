@@ -23,7 +23,6 @@ int main() {
 
     bool is_whole = true;
     const auto tell = [&](const aes3::report &it) {
-        static const char *const why[] = {"preamble", "biphase", "unclosed"};
         const unsigned long long at = it.at, cell = it.cell;
         is_whole &= it.kind != AES3_MARKED && it.kind != AES3_FAULT;
         if (it.kind == AES3_WHOLE)
@@ -31,7 +30,7 @@ int main() {
         else if (it.kind == AES3_MARKED)
             std::printf("marked at %llu before %u wrong %u\n", at, it.before, it.wrong);
         else if (it.kind == AES3_FAULT)
-            std::printf("fault at %llu cell %llu %s\n", at, cell, why[it.why]);
+            std::printf("fault at %llu cell %llu %s\n", at, cell, aes3::why_text(it));
         else
             std::printf("unfinished at %llu cells %llu\n", at, cell);
     };

@@ -80,12 +80,11 @@ class wav_file {
 
 // Prints a report that is not of a whole block; answers whether it is a fault.
 static bool print(const aes3::report &it) {
-    static const char *const why[] = {"preamble", "biphase", "unclosed"};
     const unsigned long long at = it.at, cell = it.cell;
     if (it.kind == AES3_MARKED)
         std::printf("marked at %llu before %u wrong %u\n", at, it.before, it.wrong);
     else if (it.kind == AES3_FAULT)
-        std::printf("fault at %llu cell %llu %s\n", at, cell, why[it.why]);
+        std::printf("fault at %llu cell %llu %s\n", at, cell, aes3::why_text(it));
     else
         std::printf("unfinished at %llu cells %llu\n", at, cell);
     return it.kind != AES3_UNFINISHED;

@@ -90,6 +90,10 @@ carries() { # PYTHON
         "$program" to-pcm --packed-in <carried.packed | cmp - sound.s32
 }
 
+# The words of causes are those of the header.
+words=$(sed -n '/ aes3_why_text\|[*]aes3_why_text/,/^}/s/.*{\("[a-z", ]*\)};/\1/p' "$root/include/aes3.h" | tr -d '",')
+judge "the words of causes" [ "$words" = "$(python3 -c 'import aes3; print(*aes3.WHYS)')" ]
+
 sed -n '/^```python$/,/^```$/p' "$root/docs/C.md" | sed '/^```/d' >shown.py
 ln -s speech.packed line.packed
 shown() { # PYTHON

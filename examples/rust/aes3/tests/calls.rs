@@ -327,6 +327,9 @@ fn texts() {
         assert!(Status { bytes: [byte; 24] }.to_string().is_ascii());
     }
     assert_eq!(format!("{} {} {}", Channel::One, Channel::Two, Check::Absent), "1 2 absent");
+    // The words that aes3.h has.
+    assert_eq!(format!("{} {} {}", Why::Preamble, Why::Biphase, Why::Unclosed), "preamble biphase unclosed");
+    assert_eq!(format!("{} {} {}", Check::Good, Check::Absent, Check::Bad), "good absent bad");
     assert_eq!(aes3::library_version(), (0, 1, 0));
     let report = Report::Unfinished { at: 5, cells: 7 };
     assert_eq!((report.at(), report.is_fault(), report.to_string()), (5, false, "unfinished at 5 cells 7".into()));
