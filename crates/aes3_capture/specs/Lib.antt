@@ -2,3 +2,4 @@ pub mod Captures
 pub mod Following
 pub mod Leaps
 pub mod Directions
+pub mod Parts

@@ -1,10 +1,14 @@
 //! A follower of edges, one by one or many at once.
 
+/// The numbers of a follower.
+mod parts;
+
 ghost use Rattle.std.specs.Prelude.{◌≡◌, ◌+◌, ◌-◌, ◌*◌, ◌/◌, ◌%◌, ◌^◌, ◌<◌, ◌≤◌, ◌⊎◌, min, max, take, length};
 ghost use Rattle.std.specs.Prelude.{ℕ, ◌↔◌, IsTrue, IfSome, drop, get_or};
 ghost use Rattle.aes3_capture.specs.Leaps.{IsBounded, IsStep};
 
 use crate::bounds::{Bounds, PARTS};
+pub use parts::FollowerParts;
 use std::simd::prelude::*;
 
 /// Follows the edges of a line: the length of a cell, and the position of its grid. Rising and

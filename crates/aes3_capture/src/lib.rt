@@ -11,4 +11,4 @@ mod follower;
 
 pub use bounds::{Bounds, PARTS};
 pub use count::{count_cells, count_cells_behind};
-pub use follower::{Follower, TRACKED};
+pub use follower::{Follower, FollowerParts, TRACKED};

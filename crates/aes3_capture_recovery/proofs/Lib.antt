@@ -1,5 +1,6 @@
 mod Words
 mod StillWords
+mod SameParts
 pub mod SampleLevels
 pub mod Taking
 mod Reading

@@ -13,3 +13,5 @@ pub mod Turns
 pub mod Taking
 pub mod Reading
 pub mod Finding
+pub mod Flags
+pub mod Parts

@@ -23,8 +23,8 @@ mod run;
 
 pub use edges::{Edges, Piece};
 pub use levels::{Unit, levels_of};
-pub use line_follower::LineFollower;
+pub use line_follower::{LineFollower, LineParts};
 pub use measure::{LONGEST_PERIOD, SHORTEST_PERIOD, follower_of_runs};
-pub use queue::{CellQueue, bits_of_cells, put_last};
-pub use recovery::{Figures, Recovery};
+pub use queue::{CellQueue, QueueParts, bits_of_cells, put_last};
+pub use recovery::{Figures, Recovery, RecoveryParts};
 pub use run::{Progress, Refusal, feed, recover};

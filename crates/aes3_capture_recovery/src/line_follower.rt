@@ -1,5 +1,8 @@
 //! A line followed from an edge on, from the levels of its samples to its cells.
 
+/// The numbers of a line that is followed.
+mod parts;
+
 ghost use Rattle.std.specs.Prelude.{ℕ, ◌≡◌, ◌<◌, ◌≤◌, ◌+◌, ◌-◌, ◌/◌, ◌^◌, ◌++◌, [], List, Some, get_or, length, replicate};
 ghost use Rattle.std.specs.Prelude.{IfOk, OnErr, IfSome, IfNone};
 ghost use Rattle.aes3_level.specs.declared.level.Level.{Level};
@@ -15,6 +18,8 @@ use crate::edges::{Edges, Piece};
 use crate::queue::{CellQueue, bits_of_runs};
 use aes3_capture::{Follower, PARTS};
 use aes3_cell::{Fault, Form, Sink};
+pub use parts::LineParts;
+pub(crate) use parts::{flag, is_set};
 
 /// After so many cells without an edge, those that are certain are told.
 const LONG: u64 = 64;

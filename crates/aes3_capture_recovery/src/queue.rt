@@ -1,5 +1,8 @@
 //! A queue of cells for a sink.
 
+/// The numbers of a queue.
+mod parts;
+
 ghost use Rattle.std.specs.Prelude.{ℕ, ◌+◌, ◌<◌, ◌≤◌, ◌^◌, ◌≡◌, ◌++◌, [], List, get_or, length, take, replicate};
 ghost use Rattle.std.specs.Prelude.{IfOk, OnErr};
 ghost use Rattle.aes3_level.specs.declared.level.Level.{Level};
@@ -11,6 +14,7 @@ ghost use Rattle.aes3_cell.specs.Writes.{Wrote};
 ghost use Rattle.aes3_capture_recovery.specs.Endings.{ending_of, level_if};
 
 use aes3_cell::{Fault, Form, Sink, line_of_word, octets_of_word, put_words, write_all};
+pub use parts::QueueParts;
 
 /// How many words of cells are written at once.
 const WORDS: usize = 16;

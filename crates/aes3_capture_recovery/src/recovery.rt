@@ -1,5 +1,8 @@
 //! Cells recovered from the levels of samples.
 
+/// The numbers of a recovery.
+mod parts;
+
 ghost use Rattle.std.specs.Prelude.{ℕ, List, [], ◌∷◌, ◌++◌, ◌+◌, ◌*◌, ◌/◌, ◌-◌, ◌%◌, ◌<◌, ◌≤◌, ◌^◌, ◌≡◌, ◌≢◌, Bool};
 ghost use Rattle.std.specs.Prelude.{Option, IfOk, OnErr, IfSome, None, Some, min, max, take, drop, length, replicate, true, false, if◌then◌else◌};
 ghost use Rattle.aes3_level.specs.declared.level.Level.{Level};
@@ -14,6 +17,7 @@ use crate::measure::{RUNS, bounds_around, follower_of_runs};
 use crate::places::{BEGIN, Places, WORDS};
 use aes3_capture::{Bounds, Follower, PARTS, TRACKED};
 use aes3_cell::{Fault, Form, Sink};
+pub use parts::RecoveryParts;
 
 /// How many cells without an edge are a dead stretch.
 const DEAD: u64 = 64;
@@ -34,6 +38,7 @@ const SPARSE: u64 = 32 * PARTS;
 const ALONE: u32 = 8;
 
 /// What was found of a line.
+#[repr(C)]
 #[derive(Clone, Copy, Default)]
 pub struct Figures {
     /// How many samples there are, and how many cells were recovered.
