@@ -9,3 +9,5 @@ pub mod Putting
 pub mod Capturing
 pub mod Accounts
 pub mod Wav
+pub mod Owed
+pub mod Streaming

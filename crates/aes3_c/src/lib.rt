@@ -27,6 +27,10 @@ mod octets;
 mod professional;
 /// From samples to cells.
 mod recovering;
+/// Octets that found no room yet.
+mod owed;
+/// A sink over memory that is lent, which keeps what finds no room there.
+mod owing;
 /// Reports as plain numbers.
 mod report;
 /// A sink over memory that is lent.
@@ -35,6 +39,8 @@ mod room;
 mod samples;
 /// Channel status: its use and its check byte.
 mod status;
+/// The cells of captures that come in pieces.
+mod streaming;
 /// Cells of words as a lock takes them, with their number.
 mod taking;
 /// Channel status as text.

@@ -10,7 +10,7 @@ use aes3_capture_recovery::{Recovery, Unit, feed};
 use aes3_cell::{Fault, Form, Sink};
 
 /// How the samples lie, of so many octets each, and which bit of them the line is.
-fn unit_of(octets: u8, bit: u8) -> Unit
+pub(crate) fn unit_of(octets: u8, bit: u8) -> Unit
     ensures { result ≡ unit_of octets bit }
 {
     match octets {
@@ -20,7 +20,7 @@ fn unit_of(octets: u8, bit: u8) -> Unit
 }
 
 /// How long a cell is, where that is given.
-fn known_of(period: u64) -> Option<u64>
+pub(crate) fn known_of(period: u64) -> Option<u64>
     ensures { result ≡ period_of period }
 {
     match period {
@@ -30,7 +30,7 @@ fn known_of(period: u64) -> Option<u64>
 }
 
 /// Puts what was found, as plain numbers.
-fn put_found(recovery: &Recovery, octets: usize, found: &mut Aes3Capture)
+pub(crate) fn put_found(recovery: &Recovery, octets: usize, found: &mut Aes3Capture)
     ensures octets { found.new.octets ≡ octets }
     ensures figures { AreFigures found.new recovery.now }
 {
