@@ -1,4 +1,4 @@
-//! Octets that found no room yet.
+//! Octets for which there was no room yet.
 
 ghost use Rattle.std.specs.Prelude.{◌≡◌, ◌≤◌, ◌<◌, ◌++◌, ◌∷◌, [], IfSome, IfNone, IsTrue, drop, false, length, take};
 ghost use Rattle.aes3_c.specs.Owed.{owed_in};
@@ -6,19 +6,19 @@ ghost use Rattle.aes3_c.specs.Owed.{owed_in};
 /// How many stretches of equal octets are kept.
 pub(crate) const STRETCHES: usize = 1024;
 
-/// Octets that are still to be put, as stretches of equal ones. Whatever the numbers are, they are some octets.
+/// Octets that are still to be written, as stretches of equal ones. Any numbers stand for some octets.
 #[repr(C)]
 #[derive(Clone, Copy)]
 pub struct Aes3Owed {
-    /// How many stretches there are, and how many of them were put.
+    /// How many stretches there are, and how many of them were written.
     pub len: u32,
     pub first: u32,
-    /// The octet of each, and how often it is still to be put.
+    /// The octet of each, and how often it is still to be written.
     pub counts: [u32; STRETCHES],
     pub octets: [u8; STRETCHES],
 }
 
-/// Takes the first of the octets that are still to be put.
+/// Takes the first of the octets that are still to be written.
 fn next_owed(owed: &mut Aes3Owed) -> Option<u8>
     ensures some { IfSome result (λ octet. owed_in owed.old ≡ octet ∷ owed_in owed.new) }
     ensures none { IfNone result ((owed_in owed.old ≡ []) × (owed_in owed.new ≡ [])) }
@@ -36,7 +36,7 @@ fn next_owed(owed: &mut Aes3Owed) -> Option<u8>
     None
 }
 
-/// Puts octets that are still to be put, from octet `at` of memory on, as many as there is room for. Answers where it ended.
+/// Writes octets from octet `at` of memory on, as many as there is room for. Returns where it ended.
 pub(crate) fn put_owed(owed: &mut Aes3Owed, cells: &mut [u8], at: usize) -> usize
     requires within { at ≤ length cells.old }
     ensures least { at ≤ result }
@@ -65,7 +65,7 @@ fn no_octets() -> [u8; STRETCHES] {
     [0; STRETCHES]
 }
 
-/// What owes nothing.
+/// No octets.
 pub(crate) fn no_owed() -> Aes3Owed
     ensures first { result.first ≡ 0 }
     ensures none { owed_in result ≡ [] }
@@ -88,7 +88,7 @@ pub(crate) fn owe_nothing(owed: &mut Aes3Owed)
     owed.len = 0;
 }
 
-/// Owes one octet more behind all others. Answers whether it does: it has no more than 1,024 stretches.
+/// Owes one octet more, after all others. Returns false if that needs more than 1,024 stretches.
 pub(crate) fn owe(owed: &mut Aes3Owed, octet: u8) -> bool
     requires first { owed.old.first ≡ 0 }
     ensures first { owed.new.first ≡ 0 }
@@ -112,7 +112,7 @@ pub(crate) fn owe(owed: &mut Aes3Owed, octet: u8) -> bool
     true
 }
 
-/// Owes these octets behind all others. Answers whether it owes all of them.
+/// Owes these octets too, after all others. Returns whether it owes all of them.
 pub(crate) fn owe_all(owed: &mut Aes3Owed, octets: &[u8]) -> bool
     requires first { owed.old.first ≡ 0 }
     ensures first { owed.new.first ≡ 0 }
@@ -126,7 +126,7 @@ pub(crate) fn owe_all(owed: &mut Aes3Owed, octets: &[u8]) -> bool
     true
 }
 
-/// Owes these octets too, if all before them are owed. Answers whether it owes all.
+/// Owes these octets too, if all before them are owed. Returns whether it owes all.
 pub(crate) fn owe_rest(owed: &mut Aes3Owed, fits: bool, octets: &[u8]) -> bool
     requires first { owed.old.first ≡ 0 }
     ensures first { owed.new.first ≡ 0 }

@@ -50,7 +50,7 @@ impl<K: Before> Sink for OwingSink<K> {
 
     ghost taken = { λ s. Some (K.told ++ s.given.octets) };
 
-    // it holds nothing back
+    // It holds nothing back.
     ghost passed = { λ s. Some (K.told ++ s.given.octets) };
 
     ghost failed = { λ _. 0 };

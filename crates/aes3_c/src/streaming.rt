@@ -1,4 +1,4 @@
-//! The cells of captures that come in pieces, recovered by what their caller keeps.
+//! The cells of a capture that comes in pieces. The caller keeps the recovery between calls.
 
 ghost use Rattle.std.specs.Prelude.{◌≡◌, ◌≢◌, ◌+◌, ◌<◌, ◌≤◌, ◌*◌, ◌++◌, ◌⊎◌, ℕ, List, [], IsTrue, drop, false, length, take};
 ghost use Rattle.aes3_level.specs.declared.level.Level.{Level};
@@ -17,20 +17,20 @@ use aes3_capture_recovery::{Recovery, RecoveryParts, Unit, feed};
 use aes3_cell::Form;
 use std::marker::Brand;
 
-/// A recovery as plain numbers. Its fields are nobody's but the functions' here.
+/// A recovery as plain numbers. Only the functions here use its fields.
 #[repr(C)]
 #[derive(Drop)]
 pub struct Aes3Recovery {
     pub recovery: RecoveryParts,
-    /// The octets that were written, and found no room yet.
+    /// The octets of cells for which there was no room yet.
     pub owed: Aes3Owed,
     /// How many octets were put.
     pub put: u64,
-    /// Not 0 behind the end of the samples.
+    /// Not 0 after the end of the samples.
     pub ended: u8,
 }
 
-/// Takes samples, and owes the octets that their cells are. Answers whether it did: else nothing was done.
+/// Takes samples, and owes the octets of their cells. Returns false if it did nothing.
 fn take_samples<K: Before>(
     parts: &mut RecoveryParts,
     owed: &mut Aes3Owed,
@@ -54,7 +54,8 @@ fn take_samples<K: Before>(
     true
 }
 
-/// Takes the end of the samples, and owes the octets that the last cells are. Answers whether it did: else nothing was done.
+/// Takes the end of the samples, and owes the octets of the last cells. Returns false if it did
+/// nothing.
 fn finish_samples<K: Before>(parts: &mut RecoveryParts, owed: &mut Aes3Owed) -> bool
     ensures ended { IsTrue result → EndedSome K.told parts.old parts.new owed.new }
     ensures none { result ≡ false → (parts.new ≡ parts.old) × (owed.new ≡ owed.old) }
@@ -72,10 +73,12 @@ fn finish_samples<K: Before>(parts: &mut RecoveryParts, owed: &mut Aes3Owed) -> 
     true
 }
 
-/// How many octets of samples are taken at once: fewer than a block whose edges are found first, which takes 33 KB of stack.
+/// How many octets of samples are taken at once. It is less than a block whose edges are found
+/// first, which needs 33 KB of stack.
 const PIECE: usize = 4032;
 
-/// Puts what is owed, takes samples once that is done, and puts their cells. Answers how many octets of samples it took.
+/// Writes what is owed. Then takes samples, and writes their cells. Returns how many octets of
+/// samples it took.
 fn take_in(
     recovery: &mut Aes3Recovery,
     unit: Unit,
@@ -111,7 +114,8 @@ fn take_in(
     len
 }
 
-/// Puts what is owed, takes the end of the samples once that is done, and puts the last cells. Answers whether all was put.
+/// Writes what is owed. Then takes the end of the samples, and writes the last cells. Returns
+/// whether all was written.
 fn finish_in(recovery: &mut Aes3Recovery, cells: &mut [u8], put: &mut usize) -> bool
     ghost told: { List ℕ }
     ensures within { put.new ≤ length cells.new }
@@ -138,7 +142,7 @@ fn finish_in(recovery: &mut Aes3Recovery, cells: &mut [u8], put: &mut usize) -> 
     end < cells.len()
 }
 
-/// How many of so many octets are whole samples.
+/// How many of these octets are whole samples.
 fn whole_len(unit: Unit, len: usize) -> usize
     ensures within { result ≤ len }
     ensures whole { 8 * len < 8 * result + bits_of_sample unit }
@@ -149,8 +153,8 @@ fn whole_len(unit: Unit, len: usize) -> usize
     }
 }
 
-/// Makes a recovery of which no sample came. A cell is `period` 65,536ths of a sample, or is measured
-/// if that is 0.
+/// Makes a recovery that has taken no sample. A cell is `period` 65,536ths of a sample; it is measured
+/// if `period` is 0.
 #[unsafe(no_mangle)]
 pub extern "C" fn aes3_recovery_init(recovery: &mut Aes3Recovery, period: u64)
     ensures { IsTaking period [] [] recovery.new }
@@ -161,9 +165,10 @@ pub extern "C" fn aes3_recovery_init(recovery: &mut Aes3Recovery, period: u64)
     recovery.ended = 0;
 }
 
-/// Takes samples of `unit` octets each, as `aes3_capture_cells` does, and puts packed cells as long as there is room. Puts how
-/// many octets of samples it took and how many of cells it put. Answers whether it took all whole samples; else those that it left are to be
-/// given again, with room for more cells. Behind the end it takes none.
+/// Takes samples of `unit` octets each, as `aes3_capture_cells` does, and writes packed cells as long
+/// as there is room. `taken` and `put` are how many octets of samples it took and of cells it wrote.
+/// Returns whether it took all whole samples. If not, give those that it left again, with room for
+/// more cells. After the end it takes none.
 #[unsafe(no_mangle)]
 pub extern "C" fn aes3_recovery_take(
     recovery: &mut Aes3Recovery,
@@ -193,8 +198,8 @@ pub extern "C" fn aes3_recovery_take(
     len == whole
 }
 
-/// Takes the end of the samples, and puts the last packed cells. Puts how many octets these are. Answers whether all cells were
-/// put by then; else it is to be called again, with room for more.
+/// Takes the end of the samples, and writes the last packed cells. `put` is how many octets it wrote.
+/// Returns whether all cells are written. If not, call it again, with room for more.
 #[unsafe(no_mangle)]
 pub extern "C" fn aes3_recovery_finish(
     recovery: &mut Aes3Recovery,
@@ -217,7 +222,7 @@ pub extern "C" fn aes3_recovery_finish(
     ended
 }
 
-/// Puts what was found of the line so far, with how many octets of cells were put.
+/// Writes what was found of the line so far, and how many octets of cells were written.
 #[unsafe(no_mangle)]
 pub extern "C" fn aes3_recovery_figures(recovery: &Aes3Recovery, found: &mut Aes3Capture)
     ensures octets { found.new.octets ≡ recovery.now.put }
