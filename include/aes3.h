@@ -27,9 +27,11 @@
  *
  * Stack in bytes that a call used (examples/c/stack.c, x86-64):
  *
+ * - aes3_blocks_of_samples(): 6,248
  * - aes3_capture_cells(): 5,408
  * - aes3_lock_push(): 5,064
- * - aes3_lock_finish(): 4,792
+ * - aes3_lock_finish(), aes3_encode_blocks(), aes3_subframes_of_blocks(), aes3_samples_of_blocks(): 4,792
+ * - aes3_blocks_of_subframes(): 4,680
  * - aes3_lock_take_octets(): 3,976
  * - aes3_lock_take_cells(): 3,432
  * - aes3_lock_take_words(): 3,304
@@ -98,6 +100,7 @@ uint32_t aes3_version(void);
 enum {
     AES3_BLOCK_WORDS = 384,   /**< words of a block, and words of its cells */
     AES3_BLOCK_CELLS = 24576, /**< cells of a block */
+    AES3_BLOCK_OCTETS = 3072, /**< octets of the cells of a block */
     AES3_NO_CHANNEL = 385,    /**< what a call returns if the channel is neither 1 nor 2 */
     AES3_STATUS_BYTES = 24,   /**< bytes of a channel status */
     AES3_STATUS_TEXT = 800,   /**< characters of the text of a channel status, at most */
@@ -537,6 +540,32 @@ bool aes3_account_end(aes3_account *account, uint64_t seen, aes3_gap *gap);
 uint32_t aes3_encode_block(const uint32_t words[384], uint8_t before, uint64_t cells[384]);
 
 /**
+ * Puts the cells of many blocks as octets, one block after the other.
+ *
+ * They are the octets that `aes3 encode --packed-out` writes, without its last one, which is 0. For each block they are those of
+ * aes3_encode_block() and aes3_octets_of_word(). A block ends at the level before it, so the next call takes the same `before`.
+ *
+ * It takes whole blocks, as long as there is room for 3,072 octets. If a word is not valid, it puts the blocks before that word's.
+ *
+ * @param words  the words of the blocks, 384 for each
+ * @param count  how many words; those after the last whole block make no difference
+ * @param before  the level of the cell before the first block
+ * @param[out] octets  3,072 octets for each block, the first cell in the highest bit of the first; unchanged after those put
+ * @param room  how many octets there is room for
+ * @return 384 for each block that is there and has room; or, if one of their words is not valid, the number of the first such
+ *     word, counted from 0 in `words`. Divided by 384 and rounded down, it is how many blocks were put.
+ *
+ * @code
+ * static uint32_t words[2 * 384]; // two blocks of zeros
+ * static uint8_t octets[2 * 3072];
+ * assert(aes3_encode_blocks(words, 768, 0, octets, sizeof octets) == 768);
+ * words[390] = 1; // bit 0 has to be zero
+ * assert(aes3_encode_blocks(words, 768, 0, octets, sizeof octets) == 390); // block 0 is put
+ * @endcode
+ */
+size_t aes3_encode_blocks(const uint32_t *words, size_t count, uint8_t before, uint8_t *octets, size_t room);
+
+/**
  * Puts the channel status of a channel.
  *
  * @param words  the words of the block
@@ -675,6 +704,116 @@ uint32_t aes3_block_samples(const uint32_t words[384], int32_t samples[384]);
  * @endcode
  */
 void aes3_block_of_samples(const int32_t samples[384], uint32_t words[384]);
+
+/** How the words of subframes are in octets, four for each. */
+enum aes3_subframe_form {
+    AES3_SUBFRAMES_OWN = 0,  /**< as in a block file: the lowest octet first, and 0 in bits 0 to 3 */
+    AES3_SUBFRAMES_ALSA = 1, /**< ALSA's `IEC958_SUBFRAME_LE`: the same with a code in bits 0 to 3, of preamble Z 8, of X 2, of Y 4 */
+    AES3_SUBFRAMES_AM824 = 2 /**< AM824 (IEC 61883-6, ST 2110-31): an octet with the bits 0, 0, B, F, P, C, U and V, then 24 bits of
+                                  audio, the highest octet first */
+};
+
+/**
+ * Puts the words of many blocks in a form, as `aes3 decode --words` writes them.
+ *
+ * It takes whole blocks, as long as there is room for 1,536 octets. If a word is not valid, it puts the blocks before that word's.
+ *
+ * @param words  the words of the blocks, 384 for each
+ * @param count  how many words; those after the last whole block make no difference
+ * @param form  an #aes3_subframe_form; any other number counts as #AES3_SUBFRAMES_OWN
+ * @param[out] octets  1,536 octets for each block, four for each word; unchanged after those put
+ * @param room  how many octets there is room for
+ * @return 384 for each block that is there and has room; or, if one of their words is not valid, the number of the first such
+ *     word, counted from 0 in `words`. Divided by 384 and rounded down, it is how many blocks were put.
+ *
+ * @code
+ * static const uint32_t words[384] = {0};
+ * static uint8_t octets[1536];
+ * assert(aes3_subframes_of_blocks(words, 384, AES3_SUBFRAMES_ALSA, octets, sizeof octets) == 384);
+ * assert(octets[0] == 8 && octets[4] == 4 && octets[8] == 2); // preambles Z, Y and X
+ * @endcode
+ */
+size_t aes3_subframes_of_blocks(const uint32_t *words, size_t count, uint8_t form, uint8_t *octets, size_t room);
+
+/**
+ * Puts the words of the blocks that octets in a form have, as `aes3 encode --words` reads them.
+ *
+ * The first octets are those of the first word of a block: its code is that of preamble Z. In ALSA's form, words may also have the
+ * code 0. A word with the code of another preamble is not valid. It takes whole blocks, as long as there is room for 384 words. If
+ * a word is not valid, it puts the blocks before that word's.
+ *
+ * @param octets  1,536 octets for each block
+ * @param count  how many octets; those after the last whole block make no difference
+ * @param form  an #aes3_subframe_form; any other number counts as #AES3_SUBFRAMES_OWN
+ * @param[out] words  the words of the blocks, 384 for each; unchanged after those put
+ * @param room  how many words there is room for
+ * @return 384 for each block that is there and has room; or, if one of their words is not valid, the number of the first such
+ *     word, counted from 0. Divided by 384 and rounded down, it is how many blocks were put.
+ *
+ * @code
+ * static const uint32_t zeros[384] = {0};
+ * static uint8_t octets[1536];
+ * static uint32_t words[384];
+ * aes3_subframes_of_blocks(zeros, 384, AES3_SUBFRAMES_AM824, octets, sizeof octets);
+ * assert(aes3_blocks_of_subframes(octets, sizeof octets, AES3_SUBFRAMES_AM824, words, 384) == 384);
+ * octets[0] = 0x10; // the first word has the code of preamble X
+ * assert(aes3_blocks_of_subframes(octets, sizeof octets, AES3_SUBFRAMES_AM824, words, 384) == 0);
+ * @endcode
+ */
+size_t aes3_blocks_of_subframes(const uint8_t *octets, size_t count, uint8_t form, uint32_t *words, size_t room);
+
+/** How the 24 bits of a sample are in octets, the lowest octet first. */
+enum aes3_sample_form {
+    AES3_SAMPLES_S32 = 0,       /**< the highest 24 of 32 bits; the lowest 8 are 0, and read they make no difference (ALSA's S32_LE) */
+    AES3_SAMPLES_S24 = 1,       /**< three octets (S24_3LE) */
+    AES3_SAMPLES_S24_IN_32 = 2, /**< the lowest 24 of 32 bits; the highest octet is the sign, and read it makes no difference (S24_LE) */
+    AES3_SAMPLES_S16 = 3        /**< the highest 16 bits in two octets; the lowest 8 are dropped, and read they are 0 (S16_LE) */
+};
+
+/**
+ * Puts the samples of many blocks in a form, as `aes3 to-pcm --pcm` writes them.
+ *
+ * It takes whole blocks, as long as there is room for their samples: 384 of 2, 3 or 4 octets. If a word is not valid, it puts the
+ * samples of the blocks before that word's.
+ *
+ * @param words  the words of the blocks, 384 for each
+ * @param count  how many words; those after the last whole block make no difference
+ * @param form  an #aes3_sample_form; any other number counts as #AES3_SAMPLES_S32
+ * @param[out] octets  384 samples for each block, channel 1 and then channel 2 of each frame; unchanged after those put
+ * @param room  how many octets there is room for
+ * @return 384 for each block that is there and has room; or, if one of their words is not valid, the number of the first such
+ *     word, counted from 0 in `words`. Divided by 384 and rounded down, it is how many blocks were put.
+ *
+ * @code
+ * static uint32_t words[384];
+ * static uint8_t octets[384 * 2];
+ * words[0] = 0x123456u << 4 | 1u << 31;
+ * assert(aes3_samples_of_blocks(words, 384, AES3_SAMPLES_S16, octets, sizeof octets) == 384);
+ * assert(octets[0] == 0x34 && octets[1] == 0x12);
+ * @endcode
+ */
+size_t aes3_samples_of_blocks(const uint32_t *words, size_t count, uint8_t form, uint8_t *octets, size_t room);
+
+/**
+ * Puts the words of the blocks that samples in a form make, as `aes3 from-pcm --pcm` does. V, U and C are 0.
+ *
+ * It takes whole blocks, as long as there is room for 384 words.
+ *
+ * @param octets  384 samples for each block, channel 1 and then channel 2 of each frame
+ * @param count  how many octets; those after the last whole block make no difference
+ * @param form  an #aes3_sample_form; any other number counts as #AES3_SAMPLES_S32
+ * @param[out] words  the words of the blocks, 384 for each; unchanged after those put
+ * @param room  how many words there is room for
+ * @return how many words it put: 384 for each block that is there and has room
+ *
+ * @code
+ * static uint8_t octets[384 * 3] = {0x56, 0x34, 0x12};
+ * static uint32_t words[384];
+ * assert(aes3_blocks_of_samples(octets, sizeof octets, AES3_SAMPLES_S24, words, 384) == 384);
+ * assert(words[0] == (0x123456u << 4 | 1u << 31));
+ * @endcode
+ */
+size_t aes3_blocks_of_samples(const uint8_t *octets, size_t count, uint8_t form, uint32_t *words, size_t room);
 
 /** @} */
 

@@ -168,6 +168,25 @@ report_range<Read> reports(Read reader, form of = form::raw) {
     return report_range<Read>(reader, of);
 }
 
+// Many blocks at once, from words to octets and back. Each answers 384 for each block that is there and has room, or the number
+// of the first word that is not valid; divided by 384 that is how many blocks were put. Cells come as octets; `form` is an
+// aes3_subframe_form or an aes3_sample_form.
+inline std::size_t encode_blocks(span<const uint32_t> from, bool before, span<uint8_t> to) {
+    return aes3_encode_blocks(from.data, from.size, before, to.data, to.size);
+}
+inline std::size_t subframes_of_blocks(span<const uint32_t> from, uint8_t form, span<uint8_t> to) {
+    return aes3_subframes_of_blocks(from.data, from.size, form, to.data, to.size);
+}
+inline std::size_t blocks_of_subframes(span<const uint8_t> from, uint8_t form, span<uint32_t> to) {
+    return aes3_blocks_of_subframes(from.data, from.size, form, to.data, to.size);
+}
+inline std::size_t samples_of_blocks(span<const uint32_t> from, uint8_t form, span<uint8_t> to) {
+    return aes3_samples_of_blocks(from.data, from.size, form, to.data, to.size);
+}
+inline std::size_t blocks_of_samples(span<const uint8_t> from, uint8_t form, span<uint32_t> to) {
+    return aes3_blocks_of_samples(from.data, from.size, form, to.data, to.size);
+}
+
 // Of a block, and of its channel 1 or 2. Each answers 384, the number of the first word that is not valid, or
 // AES3_NO_CHANNEL where the channel is another number.
 inline uint32_t encode(const words &block, bool before, cells &to) { return aes3_encode_block(block, before, to); }

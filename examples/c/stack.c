@@ -42,6 +42,11 @@ static void account_before(void) { aes3_account_before(&account, &report, &gap);
 static void account_passed(void) { aes3_account_passed(&account, 100000, &gap); }
 static void account_end(void) { aes3_account_end(&account, 100000, &gap); }
 static void encode_block(void) { aes3_encode_block(words, 0, cells); }
+static void encode_blocks(void) { aes3_encode_blocks(words, AES3_BLOCK_WORDS, 0, packed, sizeof packed); }
+static void subframes_of_blocks(void) { aes3_subframes_of_blocks(words, AES3_BLOCK_WORDS, AES3_SUBFRAMES_AM824, packed, sizeof packed); }
+static void blocks_of_subframes(void) { aes3_blocks_of_subframes(packed, sizeof packed, AES3_SUBFRAMES_AM824, words, AES3_BLOCK_WORDS); }
+static void samples_of_blocks(void) { aes3_samples_of_blocks(words, AES3_BLOCK_WORDS, AES3_SAMPLES_S24, packed, sizeof packed); }
+static void blocks_of_samples(void) { aes3_blocks_of_samples(packed, sizeof packed, AES3_SAMPLES_S24, words, AES3_BLOCK_WORDS); }
 static void block_status(void) { aes3_block_status(words, 1, status); }
 static void block_validity(void) { aes3_block_validity(words, 1, status); }
 static void block_user(void) { aes3_block_user(words, 1, status); }
@@ -94,6 +99,12 @@ static int tell(const char *name, void (*call)(void), size_t most) {
 int main(void) {
     int failed = 0;
     failed |= tell("aes3_encode_block", encode_block, 2048);
+    failed |= tell("aes3_encode_blocks", encode_blocks, 8192);
+    failed |= packed[0] != 0xE8;
+    failed |= tell("aes3_subframes_of_blocks", subframes_of_blocks, 8192);
+    failed |= tell("aes3_blocks_of_subframes", blocks_of_subframes, 8192);
+    failed |= tell("aes3_samples_of_blocks", samples_of_blocks, 8192);
+    failed |= tell("aes3_blocks_of_samples", blocks_of_samples, 8192);
     failed |= tell("aes3_lock_init", init, 256);
     failed |= tell("aes3_lock_push, none", begin_block, 8192);
     failed |= tell("aes3_lock_take_words", take_words, 4096);

@@ -82,6 +82,17 @@ printf 'RIFF\0\0\0\0WAVEfmt \016\0\0\0\01\0\02\0\0\0\0\0\0\0\0\0\04\0' >format.w
 printf 'RIFF\0\0\0\0WAVEfmt \020\0\0\0\01\0\0\0\200\273\0\0\0\356\02\0\04\0\020\0' >channels.wav
 printf 'RIFF\0\0\0\0WAVEdata\0\0\0\0' >data.wav
 rejected="form avi sizes format channels data header"
+# The words and the samples of the block file in each form, and the block files of these.
+forms="own alsa am824 s32 s24 s24in32 s16"
+for form in own alsa am824; do
+    "$program" decode --words $form <line.txt >speech.$form
+    "$program" encode --words $form <speech.$form | "$program" decode >back.$form
+done
+for form in s32 s24 s24in32 s16; do
+    "$program" to-pcm --pcm $form <line.txt >speech.$form
+    zeros=000000000000000000000000000000000000000000000000
+    "$program" from-pcm --pcm $form --status1 $zeros --status2 $zeros <speech.$form >back.$form
+done
 wavs="known16 known24 known32 unknown16 unknown24 unknown32 mono three"
 for name in $wavs; do "$program" from-wav <$name.wav 2>/dev/null | "$program" encode >$name.line; done
 
@@ -133,7 +144,7 @@ build() { # COMPILER FLAGS..
         echo "left out: the checks of addresses and undefined behaviour by $compiler (they do not work here)"
         checks=
     }
-    for example in check gaps encode calls layout user samples capture wav recover; do
+    for example in check gaps encode calls layout user samples capture wav recover blocks; do
         "$compiler" "$@" -O2 -Wall -Wextra -pedantic -Werror $checks -I"$here/../../include" \
             -o $example "$here/$example.c" -x none "$library" || {
             differs "$example.c, which $compiler does not compile,"
@@ -169,6 +180,15 @@ build() { # COMPILER FLAGS..
     for name in header frame; do
         ./wav <$name.wav >got 2>/dev/null
         judge "wav by $compiler on a file that is cut in its $name" [ $? = 3 ]
+    done
+    ./blocks <"$speech" >got
+    judge "blocks by $compiler" sh -c '"$0" encode --packed-out <"$1" | head -c -1 | cmp -s - got' "$program" "$speech"
+    judge "many blocks by $compiler" ./blocks test
+    for form in $forms; do
+        ./blocks "$form" <"$speech" >got
+        judge "blocks as $form by $compiler" cmp -s got "speech.$form"
+        ./blocks from "$form" <got >back
+        judge "blocks from $form by $compiler" cmp -s back "back.$form"
     done
     for name in $rejected; do judge "the cause of $name.wav by $compiler" says_why $name.wav; done
     compare ./check

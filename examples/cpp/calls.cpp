@@ -144,6 +144,22 @@ static void judge_spans(const aes3::words &block, const aes3::status &status) {
 }
 #endif
 
+// The calls for many blocks, with one.
+static void judge_many(const aes3::words &block) {
+    std::uint8_t made[AES3_BLOCK_OCTETS + 1] = {}, eight[8];
+    judge("encode_blocks", aes3::encode_blocks(block, false, made) == AES3_BLOCK_WORDS && made[AES3_BLOCK_OCTETS] == 0);
+    aes3::cells cells;
+    aes3::encode(block, false, cells);
+    aes3_octets_of_word(cells[383], eight);
+    judge("its octets", std::memcmp(made + 8 * 383, eight, 8) == 0);
+    aes3::words back;
+    judge("subframes_of_blocks", aes3::subframes_of_blocks(block, AES3_SUBFRAMES_ALSA, made) == AES3_BLOCK_WORDS && made[0] == 8);
+    judge("blocks_of_subframes", aes3::blocks_of_subframes({made, 1536}, AES3_SUBFRAMES_ALSA, back) == AES3_BLOCK_WORDS);
+    judge("the same block", std::memcmp(back, block, sizeof back) == 0);
+    judge("samples_of_blocks", aes3::samples_of_blocks(block, AES3_SAMPLES_S16, made) == AES3_BLOCK_WORDS);
+    judge("blocks_of_samples", aes3::blocks_of_samples({made, 768}, AES3_SAMPLES_S16, back) == AES3_BLOCK_WORDS && back[0] == 0);
+}
+
 int main() {
     // The C bits of a professional status in a block of zeros: each word gets its parity bit.
     aes3::words block = {};
@@ -155,6 +171,7 @@ int main() {
 
     aes3::cells cells;
     judge("encode", aes3::encode(block, false, cells) == AES3_BLOCK_WORDS);
+    judge_many(block);
     aes3::status found;
     judge("status_of", aes3::status_of(block, 1, found) == AES3_BLOCK_WORDS);
     bool is_same = true;

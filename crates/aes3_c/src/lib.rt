@@ -9,6 +9,10 @@ mod account;
 mod bits;
 /// Blocks: their words, bytes and cells.
 mod block;
+/// What is put of a block: its cells, its words or its samples.
+mod block_form;
+/// Many blocks in a call.
+mod blocks;
 /// The cells of captures.
 mod capture;
 /// Words of 64 cells, and their written forms.
@@ -37,10 +41,14 @@ mod report;
 mod room;
 /// The samples of blocks.
 mod samples;
+/// The samples of many blocks as sound programs have them.
+mod sample_forms;
 /// Channel status: its use and its check byte.
 mod status;
 /// The cells of captures that come in pieces.
 mod streaming;
+/// The words of many blocks as other programs have them.
+mod subframes;
 /// Cells of words as a lock takes them, with their number.
 mod taking;
 /// Channel status as text.

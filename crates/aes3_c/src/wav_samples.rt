@@ -65,7 +65,7 @@ fn has_channels(wav: &Aes3Wav, first: u16, second: u16) -> bool
 }
 
 /// The word of a sample.
-fn word_of_sample(sample: &[u8; 4]) -> u32
+pub(crate) fn word_of_sample(sample: &[u8; 4]) -> u32
     ensures { word_bytes result ≡ sample.now }
 {
     u32::from_le_bytes(*sample)

@@ -8,12 +8,30 @@
 pub const AES3_BLOCK_WORDS: usize = 384;
 /// Cells of a block.
 pub const AES3_BLOCK_CELLS: usize = 24576;
+/// Octets of the cells of a block.
+pub const AES3_BLOCK_OCTETS: usize = 3072;
 /// Bytes of a channel status.
 pub const AES3_STATUS_BYTES: usize = 24;
 /// Characters of the text of a channel status, at most.
 pub const AES3_STATUS_TEXT: usize = 800;
 /// What a call returns if the channel is neither 1 nor 2.
 pub const AES3_NO_CHANNEL: u32 = 385;
+
+/// Words as in a block file.
+pub const AES3_SUBFRAMES_OWN: u8 = 0;
+/// Words as ALSA's `IEC958_SUBFRAME_LE`.
+pub const AES3_SUBFRAMES_ALSA: u8 = 1;
+/// Words as AM824.
+pub const AES3_SUBFRAMES_AM824: u8 = 2;
+
+/// Samples in the highest 24 of 32 bits.
+pub const AES3_SAMPLES_S32: u8 = 0;
+/// Samples in three octets.
+pub const AES3_SAMPLES_S24: u8 = 1;
+/// Samples in the lowest 24 of 32 bits.
+pub const AES3_SAMPLES_S24_IN_32: u8 = 2;
+/// Samples of 16 bits.
+pub const AES3_SAMPLES_S16: u8 = 3;
 
 /// A lock, in memory of its caller.
 #[repr(C)]
@@ -294,6 +312,8 @@ extern "C" {
     pub fn aes3_account_end(account: *mut aes3_account, seen: u64, gap: *mut aes3_gap) -> bool;
     /// Puts the cells of a block after the level `before`; returns 384, or the number of the first word that is not valid.
     pub fn aes3_encode_block(words: *const u32, before: u8, cells: *mut u64) -> u32;
+    /// Puts the cells of blocks as octets; returns how many words it took, or the number of the first that is not valid.
+    pub fn aes3_encode_blocks(words: *const u32, count: usize, before: u8, octets: *mut u8, room: usize) -> usize;
     /// Puts the channel status of channel 1 or 2.
     pub fn aes3_block_status(words: *const u32, channel: u8, status: *mut u8) -> u32;
     /// Puts the V bits of channel 1 or 2.
@@ -310,6 +330,14 @@ extern "C" {
     pub fn aes3_block_samples(words: *const u32, samples: *mut i32) -> u32;
     /// Puts the words of a block with these samples; V, U and C are 0.
     pub fn aes3_block_of_samples(samples: *const i32, words: *mut u32);
+    /// Puts the words of blocks as octets in a form; returns how many words it took, or the number of the first that is not valid.
+    pub fn aes3_subframes_of_blocks(words: *const u32, count: usize, form: u8, octets: *mut u8, room: usize) -> usize;
+    /// Puts the words of the blocks that octets in a form have; returns how many, or the number of the first that is not valid.
+    pub fn aes3_blocks_of_subframes(octets: *const u8, count: usize, form: u8, words: *mut u32, room: usize) -> usize;
+    /// Puts the samples of blocks as octets in a form; returns how many words it took, or the number of the first that is not valid.
+    pub fn aes3_samples_of_blocks(words: *const u32, count: usize, form: u8, octets: *mut u8, room: usize) -> usize;
+    /// Puts the words of the blocks of samples in a form; returns how many.
+    pub fn aes3_blocks_of_samples(octets: *const u8, count: usize, form: u8, words: *mut u32, room: usize) -> usize;
     /// Puts the word of 64 characters, if each is `0` or `1`.
     pub fn aes3_word_of_text(text: *const u8, word: *mut u64) -> bool;
     /// The word of eight octets.
