@@ -1144,6 +1144,119 @@ AES3_SIZE(aes3_capture, 80);
 bool aes3_capture_cells(const uint8_t *samples, size_t count, uint8_t unit, uint8_t bit, uint64_t period,
                         uint8_t *cells, size_t room, aes3_capture *found);
 
+/**
+ * What is kept of a capture that comes in pieces. One recovery takes one line; several lines of a capture take one each.
+ */
+typedef struct aes3_recovery {
+    uint64_t state[813]; /**< opaque */
+} aes3_recovery;
+AES3_SIZE(aes3_recovery, 6504);
+
+/**
+ * Makes a recovery of which no sample came.
+ *
+ * @param[out] recovery  the recovery
+ * @param period  how long a cell is, as aes3_capture_cells() takes it; if it is 0, it is measured
+ *
+ * @code
+ * static aes3_recovery recovery;
+ * aes3_capture found;
+ * aes3_recovery_init(&recovery, 0);
+ * aes3_recovery_figures(&recovery, &found);
+ * assert(found.samples == 0 && found.cells == 0 && found.measured == 0);
+ * @endcode
+ */
+void aes3_recovery_init(aes3_recovery *recovery, uint64_t period);
+
+/**
+ * Takes samples, 4,032 octets at most, and puts packed cells. The cells of all calls, with those of aes3_recovery_finish(), are those
+ * that aes3_capture_cells() puts of all samples at once.
+ *
+ * A full `cells` is no error: cells that find no room are kept, and come first in the next call. While some are kept, no samples are
+ * taken. Give the samples again that were not taken. When a line is found, the cells of all samples before it come at once.
+ *
+ * Each call copies 13 KB, so give 4,032 octets at once if you can.
+ *
+ * @param recovery  the recovery
+ * @param samples  octets of samples, of two the lower first
+ * @param count  how many octets
+ * @param unit  octets a sample, as in aes3_capture_cells(), and the same in each call
+ * @param bit  the bit of a sample that is the line, likewise
+ * @param[out] taken  how many octets of samples were taken: whole samples, and none after aes3_recovery_finish()
+ * @param[out] cells  packed cells; unchanged after `*put` octets
+ * @param room  how many octets there is room for, at least 1
+ * @param[out] put  how many octets of cells were put
+ * @return true if all whole samples were taken, else false. If it took none though `*put` is less than `room` and there were some, then
+ *     the cells of the next 4,032 octets are more than 1,024 stretches of equal octets. No capture was seen to have so many: then give
+ *     fewer samples.
+ *
+ * @code
+ * static uint8_t samples[4 * 24576], packed[24576];
+ * static const uint32_t zeros[384] = {0};
+ * static aes3_recovery recovery;
+ * uint64_t cells[384];
+ * aes3_capture found;
+ * size_t at = 0, taken, all = 0, put;
+ * aes3_encode_block(zeros, 0, cells);
+ * for (size_t i = 0; i < sizeof samples; i++) // four samples a cell, in bit 3
+ *     samples[i] = (uint8_t)((cells[i / 256] >> i / 4 % 64 & 1) << 3);
+ * aes3_recovery_init(&recovery, 0);
+ * for (; at < sizeof samples; at += taken, all += put) {
+ *     const size_t left = sizeof samples - at;
+ *     aes3_recovery_take(&recovery, samples + at, left < 1000 ? left : 1000, 1, 3, &taken, packed + all, 64, &put);
+ * }
+ * while (!aes3_recovery_finish(&recovery, packed + all, 64, &put))
+ *     all += put;
+ * all += put;
+ * aes3_recovery_figures(&recovery, &found);
+ * assert(found.measured > 0 && found.cells == 24576 && found.octets == all && all == 3073);
+ * @endcode
+ */
+bool aes3_recovery_take(aes3_recovery *recovery, const uint8_t *samples, size_t count, uint8_t unit, uint8_t bit, size_t *taken,
+                        uint8_t *cells, size_t room, size_t *put);
+
+/**
+ * Takes the end of the samples, and puts the last packed cells. Call it again, with more room, until it returns true.
+ *
+ * @param recovery  the recovery
+ * @param[out] cells  packed cells; unchanged after `*put` octets
+ * @param room  how many octets there is room for, at least 1
+ * @param[out] put  how many octets of cells were put, fewer than `room` if the call returns true
+ * @return true if all cells were put; else false
+ *
+ * @code
+ * static aes3_recovery recovery;
+ * static const uint8_t samples[3] = {0, 1, 0};
+ * uint8_t packed[8];
+ * size_t taken, put;
+ * aes3_recovery_init(&recovery, 131072 + 1024); // samples a cell: a little more than two
+ * assert(aes3_recovery_take(&recovery, samples, 3, 1, 0, &taken, packed, sizeof packed, &put) && taken == 3 && put == 0);
+ * assert(aes3_recovery_finish(&recovery, packed, sizeof packed, &put) && put > 0);
+ * assert(aes3_recovery_finish(&recovery, packed, sizeof packed, &put) && put == 0);
+ * @endcode
+ */
+bool aes3_recovery_finish(aes3_recovery *recovery, uint8_t *cells, size_t room, size_t *put);
+
+/**
+ * What was found of the line so far.
+ *
+ * @param recovery  the recovery
+ * @param[out] found  what aes3_capture_cells() would have found in these samples; found->octets says how many octets were put
+ *
+ * @code
+ * static aes3_recovery recovery;
+ * static const uint8_t samples[100] = {0};
+ * uint8_t packed[8];
+ * size_t taken, put;
+ * aes3_capture found;
+ * aes3_recovery_init(&recovery, 0);
+ * aes3_recovery_take(&recovery, samples, 100, 2, 15, &taken, packed, sizeof packed, &put);
+ * aes3_recovery_figures(&recovery, &found);
+ * assert(found.samples == 50 && found.octets == 0 && found.measured == 0);
+ * @endcode
+ */
+void aes3_recovery_figures(const aes3_recovery *recovery, aes3_capture *found);
+
 /** @} */
 
 /**

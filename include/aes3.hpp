@@ -260,6 +260,26 @@ inline bool recover(span<const uint8_t> samples, uint8_t unit, uint8_t bit, span
     return aes3_capture_cells(samples.data, samples.size, unit, bit, 0, to.data, to.size, &found);
 }
 
+// Recovers the cells of a line from a capture that comes in pieces. A copy goes on from there by itself.
+class recovery {
+    aes3_recovery state;
+
+  public:
+    // A cell is `period` 65,536ths of a sample, or is measured if that is 0.
+    explicit recovery(uint64_t period = 0) { aes3_recovery_init(&state, period); }
+    // Takes samples, 4,032 octets at most, and puts packed cells: false if samples are left, which are to be given again.
+    bool take(span<const uint8_t> samples, uint8_t unit, uint8_t bit, std::size_t &taken, span<uint8_t> to, std::size_t &put) {
+        return aes3_recovery_take(&state, samples.data, samples.size, unit, bit, &taken, to.data, to.size, &put);
+    }
+    // Takes the end, and puts the last cells: false if more are to come, with another call.
+    bool finish(span<uint8_t> to, std::size_t &put) { return aes3_recovery_finish(&state, to.data, to.size, &put); }
+    aes3_capture figures() const {
+        aes3_capture found;
+        aes3_recovery_figures(&state, &found);
+        return found;
+    }
+};
+
 // The header of a WAV file, read of the file's first octets, and the samples of two channels in octets behind it: answers how many frames.
 // And one that is written: answers how many octets.
 inline aes3_wav_answer read_wav(span<const uint8_t> octets, aes3_wav &to, uint64_t &at) {

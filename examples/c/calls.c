@@ -356,6 +356,49 @@ static void captures(void) {
     WANT(aes3_capture_cells(octets, 0, 1, 0, 0, packed, 1, &found) && found.samples == 0 && found.cells == 0);
 }
 
+/* The same in pieces of samples and of memory: nothing is lost where the memory is full, and behind the end nothing is taken. */
+static void pieces(void) {
+    enum { CELLS = 2 * AES3_BLOCK_CELLS, PACKED = CELLS / 8 + 1, SAMPLES = 4 * CELLS, STILL = 8000 };
+    static const size_t sizes[] = {7, 64, 65536}, rooms[] = {1, 7, 65536};
+    static uint8_t octets[STILL + SAMPLES], wanted[SAMPLES], packed[SAMPLES + 65536];
+    static aes3_recovery recovery;
+    aes3_capture due, found;
+    size_t taken, put;
+    for (int i = 0; i < SAMPLES; i++) /* behind a still line, whose cells come at once when the line is found */
+        octets[STILL + i] = (uint8_t)(cells[i / 256 % AES3_BLOCK_WORDS] >> (i / 4 % 64) & 1);
+    WANT(aes3_capture_cells(octets, sizeof octets, 1, 0, 0, wanted, sizeof wanted, &due) && due.octets > PACKED && due.measured == 1);
+    for (int i = 0; i < 9; i++) {
+        const size_t size = sizes[i / 3], room = rooms[i % 3];
+        size_t at = 0, all = 0;
+        int full = 0;
+        memset(packed, 0x5A, sizeof packed);
+        aes3_recovery_init(&recovery, 0);
+        while (at < sizeof octets) {
+            const size_t left = sizeof octets - at < size ? sizeof octets - at : size;
+            const bool took = aes3_recovery_take(&recovery, octets + at, left, 1, 0, &taken, packed + all, room, &put);
+            WANT(put <= room && taken <= left && took == (taken == left) && (took || put == room || taken == 4032));
+            full += put == room;
+            at += taken, all += put;
+        }
+        while (!aes3_recovery_finish(&recovery, packed + all, room, &put)) {
+            WANT(put == room);
+            all += put;
+        }
+        WANT(put < room);
+        all += put;
+        WANT(full > 0 || room > 1000);
+        WANT(all == due.octets && memcmp(packed, wanted, all) == 0 && packed[all] == 0x5A);
+        aes3_recovery_figures(&recovery, &found);
+        WANT(memcmp(&found, &due, sizeof due) == 0);
+        WANT(!aes3_recovery_take(&recovery, octets, 64, 1, 0, &taken, packed, room, &put) && taken == 0 && put == 0);
+        WANT(aes3_recovery_finish(&recovery, packed, room, &put) && put == 0);
+    }
+    /* Half of a sample waits for its other half. */
+    aes3_recovery_init(&recovery, 0);
+    WANT(aes3_recovery_take(&recovery, octets, 5, 2, 0, &taken, packed, 64, &put) && taken == 4 && put == 0);
+    WANT(aes3_recovery_take(&recovery, octets, 1, 2, 0, &taken, packed, 64, &put) && taken == 0 && put == 0);
+}
+
 /* The gap that was put. */
 static int is_gap(const aes3_gap *gap, uint64_t at, uint64_t cells, uint8_t counts) {
     return gap->at == at && gap->cells == cells && gap->counts == counts;
@@ -509,6 +552,7 @@ int main(void) {
     many_words();
     accounts();
     captures();
+    pieces();
     wav_headers();
     wav_samples();
     if (!failed)

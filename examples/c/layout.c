@@ -214,7 +214,7 @@ int main(void) {
     WANT(sizeof(aes3_lock) == 3104 && sizeof(aes3_report) == 1560);
     WANT(sizeof(aes3_account) == 16 && sizeof(aes3_gap) == 24);
     WANT(sizeof(aes3_professional) == 32 && sizeof(aes3_consumer) == 33 && sizeof(aes3_capture) == 80);
-    WANT(sizeof(aes3_wav) == 24);
+    WANT(sizeof(aes3_wav) == 24 && sizeof(aes3_recovery) == 6504);
     statuses();
     reports();
     gaps();

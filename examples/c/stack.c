@@ -22,6 +22,8 @@ static int32_t samples[AES3_BLOCK_WORDS];
 static char text[AES3_STATUS_TEXT];
 static uint64_t cells[AES3_BLOCK_WORDS], line_cells[AES3_BLOCK_WORDS + 1], word;
 static aes3_capture found;
+static aes3_recovery recovery;
+static size_t taken, put;
 static aes3_wav wav;
 static uint8_t header[AES3_WAV_OCTETS];
 static uint8_t status[AES3_STATUS_BYTES], line[65], line_octets[8 * AES3_BLOCK_WORDS + 1], packed[8 * AES3_BLOCK_WORDS];
@@ -66,6 +68,10 @@ static void of_consumer(void) { aes3_status_of_consumer(&consumer, status); }
 static void status_text(void) { aes3_status_text(status, text); }
 static void check_byte(void) { status[23] = aes3_status_check_byte(status); }
 static void recover(void) { aes3_capture_cells(line_octets, sizeof line_octets, 1, 0, 0, packed, sizeof packed, &found); }
+static void recovery_init(void) { aes3_recovery_init(&recovery, 0); }
+static void recovery_take(void) { aes3_recovery_take(&recovery, line_octets, sizeof line_octets, 1, 0, &taken, packed, sizeof packed, &put); }
+static void recovery_finish(void) { aes3_recovery_finish(&recovery, packed, sizeof packed, &put); }
+static void recovery_figures(void) { aes3_recovery_figures(&recovery, &found); }
 static void version(void) { status[22] = (uint8_t)aes3_version(); }
 static void write_wav(void) { aes3_wav_write(24, 48000, (uint64_t)1 << 32, header); }
 static void read_wav(void) { aes3_wav_read(header, sizeof header, &wav, &word); }
@@ -157,5 +163,10 @@ int main(void) {
         line_octets[i] = cells[i / 256] >> (i / 4 % 64) & 1;
     failed |= tell("aes3_capture_cells", recover, 8192);
     failed |= found.edges == 0;
+    failed |= tell("aes3_recovery_init", recovery_init, 8192);
+    failed |= tell("aes3_recovery_take", recovery_take, 16384);
+    failed |= tell("aes3_recovery_finish", recovery_finish, 16384);
+    failed |= tell("aes3_recovery_figures", recovery_figures, 8192);
+    failed |= found.edges == 0 || taken != sizeof line_octets;
     return failed;
 }

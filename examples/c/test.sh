@@ -144,13 +144,17 @@ build() { # COMPILER FLAGS..
         echo "left out: the checks of addresses and undefined behaviour by $compiler (they do not work here)"
         checks=
     }
-    for example in check gaps encode calls layout user samples capture wav recover blocks; do
+    for example in check gaps encode calls layout user samples capture stream wav recover blocks; do
         "$compiler" "$@" -O2 -Wall -Wextra -pedantic -Werror $checks -I"$here/../../include" \
             -o $example "$here/$example.c" -x none "$library" || {
             differs "$example.c, which $compiler does not compile,"
             return
         }
     done
+    rm -f pieces
+    # Its guard pages are Linux's.
+    [ "$(uname)" != Linux ] || "$compiler" "$@" -O2 -Wall -Wextra -Werror -I"$here/../../include" -o pieces "$here/pieces.c" -x none \
+        "$library" || differs "pieces.c, which $compiler does not compile,"
     judge "calls by $compiler" ./calls
     if [ -s examples.c ]; then
         # shellcheck disable=SC2086
@@ -200,6 +204,11 @@ WORDS
         [ ! -e $name.want ] || {
             ./capture "$bit" "$unit" <$name.samples >got 2>/dev/null
             judge "capture by $compiler on $name" cmp -s $name.want got
+            for piece in 3 1000 65536; do
+                ./stream "$bit" "$unit" $piece $piece <$name.samples >got 2>/dev/null
+                judge "stream by $compiler on $name, $piece octets at once" cmp -s $name.want got
+            done
+            [ ! -e pieces ] || judge "pieces by $compiler on $name" eval 'head -c 60000 $name.samples | ./pieces $bit $unit'
         }
     done
     echo "built and run: $compiler $*${checks:+ $checks}"

@@ -210,6 +210,14 @@ pub struct aes3_capture {
     pub measured: u64,
 }
 
+/// What is kept of a capture that comes in pieces, in memory of its caller.
+#[repr(C)]
+#[derive(Clone, Copy)]
+pub struct aes3_recovery {
+    /// Opaque: only the calls write it.
+    pub state: [u64; 813],
+}
+
 /// The header is not whole: more octets are needed.
 pub const AES3_WAV_MORE: u8 = 0;
 /// The header is whole.
@@ -268,6 +276,7 @@ const _: () = {
     assert!(core::mem::size_of::<aes3_professional>() == 32);
     assert!(core::mem::size_of::<aes3_consumer>() == 33);
     assert!(core::mem::size_of::<aes3_capture>() == 80);
+    assert!(core::mem::size_of::<aes3_recovery>() == 6504);
     assert!(core::mem::size_of::<aes3_wav>() == 24);
 };
 
@@ -373,6 +382,29 @@ extern "C" {
         room: usize,
         found: *mut aes3_capture,
     ) -> bool;
+    /// Makes a recovery of which no sample came.
+    pub fn aes3_recovery_init(recovery: *mut aes3_recovery, period: u64);
+    /// Takes samples, and puts packed cells as long as there is room; returns whether it took all whole samples.
+    pub fn aes3_recovery_take(
+        recovery: *mut aes3_recovery,
+        samples: *const u8,
+        count: usize,
+        unit: u8,
+        bit: u8,
+        taken: *mut usize,
+        cells: *mut u8,
+        room: usize,
+        put: *mut usize,
+    ) -> bool;
+    /// Takes the end of the samples, and puts the last packed cells; returns whether all were put.
+    pub fn aes3_recovery_finish(
+        recovery: *mut aes3_recovery,
+        cells: *mut u8,
+        room: usize,
+        put: *mut usize,
+    ) -> bool;
+    /// Puts what was found of the line so far.
+    pub fn aes3_recovery_figures(recovery: *const aes3_recovery, found: *mut aes3_capture);
     /// Reads the header of a WAV file; returns `AES3_WAV_MORE`, `AES3_WAV_HEADER`, or why it is rejected.
     pub fn aes3_wav_read(octets: *const u8, count: usize, wav: *mut aes3_wav, at: *mut u64) -> u8;
     /// Puts the samples of two channels; returns how many frames.
