@@ -27,8 +27,10 @@
  *
  * Stack in bytes that a call used (examples/c/stack.c, x86-64):
  *
+ * - aes3_recovery_take(): 9,472
+ * - aes3_recovery_finish(): 7,056
  * - aes3_blocks_of_samples(): 6,248
- * - aes3_capture_cells(): 5,408
+ * - aes3_capture_cells(): 5,552
  * - aes3_lock_push(): 5,064
  * - aes3_lock_finish(), aes3_encode_blocks(), aes3_subframes_of_blocks(), aes3_samples_of_blocks(): 4,792
  * - aes3_blocks_of_subframes(): 4,680
@@ -40,6 +42,7 @@
  * - aes3_block_status(), aes3_block_validity(), aes3_block_user(): 1,592
  * - aes3_encode_block(), aes3_block_set_status(), aes3_block_set_validity(), aes3_block_set_user(): 1,576
  * - aes3_lock_block(), aes3_block_samples(): 1,560
+ * - aes3_recovery_init(): 1,320
  * - aes3_status_text(): 1,304
  * - aes3_wav_read(): 272
  * - aes3_wav_samples(): 136
