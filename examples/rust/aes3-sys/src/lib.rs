@@ -397,12 +397,7 @@ extern "C" {
         put: *mut usize,
     ) -> bool;
     /// Takes the end of the samples, and puts the last packed cells; returns whether all were put.
-    pub fn aes3_recovery_finish(
-        recovery: *mut aes3_recovery,
-        cells: *mut u8,
-        room: usize,
-        put: *mut usize,
-    ) -> bool;
+    pub fn aes3_recovery_finish(recovery: *mut aes3_recovery, cells: *mut u8, room: usize, put: *mut usize) -> bool;
     /// Puts what was found of the line so far.
     pub fn aes3_recovery_figures(recovery: *const aes3_recovery, found: *mut aes3_capture);
     /// Reads the header of a WAV file; returns `AES3_WAV_MORE`, `AES3_WAV_HEADER`, or why it is rejected.
