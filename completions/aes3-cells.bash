@@ -9,7 +9,7 @@ _aes3_cells() {
         --bit) words="0 1 2 3 4 5 6 7 8 9 10 11 12 13 14 15" ;;
         *)
             [[ ${COMP_WORDS[COMP_CWORD]} == -* ]] || { compopt -o default; return; }
-            words="--rate --at --unit --bit --packed-out --tell --help --version" ;;
+            words="--rate --at --unit --bit --packed-out --tell --places --help --version" ;;
     esac
     mapfile -t COMPREPLY < <(compgen -W "$words" -- "${COMP_WORDS[COMP_CWORD]}")
 }

@@ -93,6 +93,7 @@ part_with python3 tests/random.py "$program"
 part_with python3 tests/info.py "$program"
 part_with python3 tests/wave.py "$program"
 part_with python3 tests/thresholds.py "$program" "$root/crates/aes3_cells_program/out/aes3_cells_program"
+part_with python3 tests/places.py "$program" "$root/crates/aes3_cells_program/out/aes3_cells_program"
 part_with python3 bin/make-manual --check "$program"
 part_with python3 bin/make-reference --check
 part tests/manual.sh

@@ -23,8 +23,6 @@ mod consumer;
 mod level;
 /// The lock, kept by its caller.
 mod lock;
-/// Octets that only proofs read.
-mod log;
 /// Cells in octets, many at once.
 mod octets;
 /// The fields of professional channel status.

@@ -3,9 +3,9 @@
 ghost use Rattle.std.specs.Prelude.{List, ℕ, IsTrue, ◌≡◌, []};
 ghost use Rattle.aes3_c.specs.Owed.{owed_in};
 
-use crate::log::{Given, Log};
 use crate::owed::{Aes3Owed, no_owed, owe_rest};
 use aes3_cell::{Fault, Sink};
+use aes3_octet_log::{Given, Log};
 use std::marker::{Brand, PhantomData};
 
 /// What was before a sink was made.

@@ -3,8 +3,8 @@
 ghost use Rattle.std.specs.Prelude.{◌≡◌, []};
 ghost use Rattle.aes3_c.specs.Putting.{IsPut};
 
-use crate::log::{Given, Log};
 use aes3_cell::{Fault, Sink};
+use aes3_octet_log::{Given, Log};
 
 /// Puts octets into memory as long as there is room, and drops the others. It never fails.
 #[derive(Drop)]

@@ -175,6 +175,13 @@ impl LineFollower {
         self.cells
     }
 
+    /// How many of the cells that were given wait to be written.
+    pub(crate) fn cells_waiting(&self) -> u32
+        ensures { result ≡ length (waiting self.now.queue) }
+    {
+        self.queue.cells_waiting()
+    }
+
     /// Continues with another follower.
     pub(crate) fn follow(&mut self, follower: Follower)
         ensures follower { self.new.follower ≡ follower }

@@ -52,6 +52,13 @@ impl CellQueue {
         }
     }
 
+    /// How many cells wait to be written.
+    pub(crate) fn cells_waiting(&self) -> u32
+        ensures { result ≡ length (waiting self.now) }
+    {
+        self.count as u32 * 64 + self.len
+    }
+
     /// Takes some cells of one level, and writes the whole words once there are many.
     ///
     /// # Errors

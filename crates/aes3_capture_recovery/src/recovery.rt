@@ -149,7 +149,7 @@ impl Recovery {
     ghost use Rattle.aes3_capture_recovery.specs.Recovering.{AreEnded, AreRecovered, AreTold, Holds, Recovered, Setting};
     ghost use Rattle.aes3_capture_recovery.specs.Distances.{total};
     ghost use Rattle.aes3_capture_recovery.specs.Queues.{Queued, Writes, waiting};
-    ghost use Rattle.aes3_capture_recovery.specs.Recovering.{StandsBehind, StandsOn, runs_waiting};
+    ghost use Rattle.aes3_capture_recovery.specs.Recovering.{StandsBehind, StandsOn, runs_waiting, samples_of};
     ghost use Rattle.aes3_capture_recovery.specs.RecoverySteps.{Gave, KeepsRuns, KeepsTold, Noted, NotedAll, RunsCounted, RunsTold};
     ghost use Rattle.aes3_capture_recovery.specs.declared.recovery.State.TheVariants.{Following, Measuring, Still};
 
@@ -208,6 +208,31 @@ impl Recovery {
             figures.period = self.line.follower().period();
         }
         figures
+    }
+
+    /// Whether a line was found.
+    pub fn is_found(&self) -> bool
+        ensures { result ≡ self.now.found }
+    {
+        self.found
+    }
+
+    /// How many of the samples that were taken still wait: their cells were not given.
+    pub fn samples_waiting(&self) -> u64
+        ensures { result ≡ samples_of (runs_waiting self.now) + self.now.line.edges.run }
+    {
+        let mut samples = 0;
+        for i in 0..self.count {
+            samples += u64::from(self.runs[i]);
+        }
+        samples + u64::from(self.line.waiting())
+    }
+
+    /// How many of the cells that were given wait to be written.
+    pub fn cells_waiting(&self) -> u32
+        ensures { result ≡ length (waiting self.now.line.queue) }
+    {
+        self.line.cells_waiting()
     }
 
     /// Takes the levels of at most 64 samples, the first in the lowest bit.

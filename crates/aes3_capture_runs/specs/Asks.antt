@@ -1,5 +1,5 @@
 -- What a command line asks for, by what `clap` makes of its words.
-use Rattle.std.specs.Prelude.{ℕ, List, [], ◌≡◌, Option, Some, None, IfSome, codes, is_some, option_and_then, true}
+use Rattle.std.specs.Prelude.{ℕ, List, [], ◌≡◌, Option, Some, None, IfSome, codes, is_some, option_and_then, true, false}
 use Rattle.std.specs.Option.{option_map, option_map_or}
 use Rattle.clap.specs.Faults.{fault_of}
 use Rattle.clap.specs.Kinds.{Kinds}
@@ -42,7 +42,7 @@ period_of rate at = option_and_then (λ r. option_and_then (period_in r) at) rat
 abbrev pub FitTogether : Option ℕ → Option ℕ → Type 0
 FitTogether rate at = IfSome rate (λ r. IfSome at (λ a. is_some (period_in r a) ≡ true))
 
--- the options ask for the job, and each of their values is one; those that want `--rate` have it
+-- the options ask for the job, and each of their values is one; those that want `--rate` or a file have it
 pub record AsksFor (options : Options) (job : Job) : Type 0 where
   pub output : IsChosen options (codes "packed-out") form.Packed form.Text job.form
   pub unit : IsValueBy octets_in (codes "unit") options
@@ -57,6 +57,8 @@ pub record AsksFor (options : Options) (job : Job) : Type 0 where
   pub period : job.period ≡ period_of (rate_by options) (at_by options)
   pub tell_wants_rate : first_of (codes "rate") options ≡ None → one_of (codes "tell") options ≡ Some (codes "true") → ⊥
   pub tell : IsChosen options (codes "tell") (rate_by options) None job.tell_each
+  pub places : IsChosen options (codes "places") true false job.places
+  pub places_want_file : file_by options ≡ None → one_of (codes "places") options ≡ Some (codes "true") → ⊥
   pub file : option_map (λ name. name.now) job.file ≡ file_by options
 
 -- why the definitions do not take the words: `--help` or `--version` is among them, or a fault; empty where they

@@ -3,7 +3,7 @@ use Rattle.std.specs.Prelude.{List, ◌++◌, ◌≡◌, ◌≢◌, Option, ℕ,
 use Rattle.clap.specs.Simple.{matches_of}
 use Rattle.clap.specs.Walk.{Text, first_of, one_of}
 use Rattle.aes3_cli.specs.LineFaults.{IsFaultIn, IsValueFault}
-use Rattle.aes3_cli.specs.Options.{Options}
+use Rattle.aes3_cli.specs.Options.{Options, file_by}
 use Rattle.aes3_cli.specs.Wording.{usage_end}
 use Rattle.aes3_cli.specs.declared.fault.LineFault.{LineFault}
 use Rattle.aes3_capture_runs.specs.Asks.{at_by, faults_in, octets_by, period_of, rate_by}
@@ -24,6 +24,7 @@ reason wrong.Unit = codes "--unit is 1 or 2 octets a sample"
 reason wrong.Bit = codes "--bit is 0 to 7, or with --unit 2 to 15"
 reason wrong.AtAlone = codes "--at wants --rate"
 reason wrong.TellAlone = codes "--tell wants --rate"
+reason wrong.PlacesAlone = codes "--places wants FILE: it reads the report from standard input"
 reason wrong.Period = codes "a cell has 2.015625 to 8000 samples: --rate over 128 times --at"
 
 -- the whole text
@@ -49,6 +50,8 @@ IsWrongWith options wrong.AtAlone =
     (first_of (codes "rate") options ≡ None) × (is_some (first_of (codes "at") options) ≡ true)
 IsWrongWith options wrong.TellAlone =
     (first_of (codes "rate") options ≡ None) × (one_of (codes "tell") options ≢ Some (codes "false"))
+IsWrongWith options wrong.PlacesAlone =
+    (file_by options ≡ None) × (one_of (codes "places") options ≢ Some (codes "false"))
 IsWrongWith options wrong.Period = AreApart (rate_by options) (at_by options) wrong.Period
 
 -- the text says what is wrong with the options

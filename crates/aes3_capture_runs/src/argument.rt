@@ -22,18 +22,21 @@ pub(crate) enum Argument {
     PackedOut,
     /// `--tell`: what was found is reported during the run.
     Tell,
+    /// `--places`: a report is copied, with the samples of the cells that it names.
+    Places,
     /// The name of the file that is read instead of standard input.
     File,
 }
 
 /// All arguments, in the order in which help lists them.
-pub(crate) const ARGUMENTS: [Argument; 7] = [
+pub(crate) const ARGUMENTS: [Argument; 8] = [
     Argument::Rate,
     Argument::At,
     Argument::Unit,
     Argument::Bit,
     Argument::PackedOut,
     Argument::Tell,
+    Argument::Places,
     Argument::File,
 ];
 
@@ -67,6 +70,13 @@ impl Argument {
                     alloc,
                     "tell",
                     "Print once a second what was found; needs --rate",
+                )
+            }
+            Argument::Places => {
+                flag(
+                    alloc,
+                    "places",
+                    "Copy a report of aes3, and add the sample of each cell that it names",
                 )
             }
             Argument::File => Arg::new(alloc, "FILE").help(

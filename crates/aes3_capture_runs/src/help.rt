@@ -23,6 +23,11 @@ At the end, one line on standard error says what was found:
 With --tell the line also comes every --rate samples, and when the signal stops. A
 further line warns if cells are likely to be wrong.
 
+With --places it writes no cells. It copies a report of `aes3` from standard input to
+standard output, and adds to each line that names a cell the sample of FILE that the
+cell begins at, ` sample N`, and with --rate its time, ` seconds S`. Example:
+  aes3 check --gaps line.txt | aes3-cells --rate 24M --places capture.bin
+
 A file of another kind is rejected by its first bytes: a sound file, VCD, CSV, a session
 of sigrok, a compressed file, a program, or cells. `man aes3-cells` has a command for
 each kind of capture file.
@@ -30,7 +35,7 @@ each kind of capture file.
 Exit status:
   0  done
   1  no line was found, or the input is not a capture. With --rate and --at the cells
-     are written even if no line was found
+     are written even if no line was found. With --places: a cell was not found
   2  usage error; standard error says why
   3  the input or the output failed
 ",

@@ -14,6 +14,8 @@ mod line;
 mod look;
 /// What to do with a file that is no capture.
 mod other_file;
+/// A report that is copied, with the places of its cells in the capture.
+mod report;
 /// A job on a file, standard input or any source and sink, and what is reported of it.
 mod run;
 /// The bit with the line, if no option names it.
@@ -25,4 +27,5 @@ mod wrong;
 
 pub use line::{Job, job_of_words};
 pub use look::Look;
+pub use report::run_places;
 pub use run::{report_fault, report_unread, run_capture, run_job};

@@ -1,8 +1,9 @@
 //! What the words of a command line ask for, and the layout of the samples of such a job.
 
-ghost use Rattle.std.specs.Prelude.{◌≡◌, ◌<◌, [], IfErr, IfOk, None, Some, codes, map};
+ghost use Rattle.std.specs.Prelude.{◌≡◌, ◌<◌, [], IfErr, IfOk, None, Some, codes, false, map, true};
+ghost use Rattle.std.specs.Option.{option_map};
 ghost use Rattle.aes3_cli.specs.CommandLine.{IsDefinedAs};
-ghost use Rattle.aes3_cli.specs.Options.{options_of};
+ghost use Rattle.aes3_cli.specs.Options.{file_by, options_of};
 ghost use Rattle.clap.specs.Walk.{first_of, one_of};
 ghost use Rattle.aes3_cell.specs.declared.form.Form.TheVariants as form;
 ghost use Rattle.aes3_capture_recovery.specs.Levels.{bit_of_line, bits_of_sample};
@@ -38,6 +39,8 @@ pub struct Job<'a> {
     pub period: Option<u64>,
     /// How many samples come between two lines of what was found, if it is reported during the run.
     pub tell_each: Option<u64>,
+    /// Whether a report is copied from standard input, with the samples of the cells that it names.
+    pub places: bool,
     /// The name of the file that is read instead of standard input.
     pub file: Option<&'a str>,
 }
@@ -98,6 +101,8 @@ fn job_by<'a>(options: &ArgMatches<'a>) -> Result<Job<'a>, Wrong>
     let bit = bit(options, octets)?;
     want_rate(options)?;
     let period = period(rate, at)?;
+    let file = file_of_options(options);
+    let places = places(options, file)?;
     Ok(Job {
         form: form(options),
         octets,
@@ -105,7 +110,8 @@ fn job_by<'a>(options: &ArgMatches<'a>) -> Result<Job<'a>, Wrong>
         rate,
         period,
         tell_each: tell_each(options, rate),
-        file: file_of_options(options),
+        places,
+        file,
     })
 }
 
@@ -125,6 +131,26 @@ fn tell_each(options: &ArgMatches<'_>, rate: Option<u64>) -> Option<u64>
     ensures { IsChosen (options_of options.now) (codes "tell") rate None result }
 {
     if options.get_flag("tell") { rate } else { None }
+}
+
+/// Whether a report is copied: then the capture is in a file.
+///
+/// # Errors
+/// `PlacesAlone` if there is no file.
+fn places(options: &ArgMatches<'_>, file: Option<&str>) -> Result<bool, Wrong>
+    requires { option_map (λ name. name.now) file ≡ file_by (options_of options.now) }
+    ensures chosen { IfOk result (IsChosen (options_of options.now) (codes "places") true false) }
+    ensures file { IfOk result (λ _. file_by (options_of options.now) ≡ None
+        → one_of (codes "places") (options_of options.now) ≡ Some (codes "true") → ⊥) }
+    ensures wrong { IfErr result (IsWrongWith (options_of options.now)) }
+{
+    if !options.get_flag("places") {
+        return Ok(false);
+    }
+    if file.is_none() {
+        return Err(Wrong::PlacesAlone);
+    }
+    Ok(true)
 }
 
 /// The frequency that the option of this name gives, if it is given.

@@ -23,12 +23,12 @@ use denote.Triple.Entry.{alive}
 use denote.Triple.Spec.{Meets, triple_of}
 use denote.Triple.Table.{entered}
 use denote.Triple.Walked.{says, Stays, walk_of, ends_at, walk_Meets}
-use Rattle.aes3_c.proofs.Walks.{none, none_made}
-use Rattle.aes3_c.specs.contracts.log.Log as Log
-use Rattle.aes3_c.specs.contracts.log.Log.new as F
-use Rattle.aes3_c.specs.contracts.log.Log.new.Key.{name as #self}
-use Rattle.aes3_c.proofs.log.Log.new.Statement as stated
-use Rattle.aes3_c.proofs.log.Log.new.Code as code
+use Rattle.aes3_octet_log.proofs.Walks.{none, none_made}
+use Rattle.aes3_octet_log.specs.contracts.log.Log as Log
+use Rattle.aes3_octet_log.specs.contracts.log.Log.new as F
+use Rattle.aes3_octet_log.specs.contracts.log.Log.new.Key.{name as #self}
+use Rattle.aes3_octet_log.proofs.log.Log.new.Statement as stated
+use Rattle.aes3_octet_log.proofs.log.Log.new.Code as code
 
 abbrev function : Fn
 function = code.function

@@ -25,13 +25,13 @@ use denote.Triple.Entry.{alive}
 use denote.Triple.Spec.{Meets, triple_of}
 use denote.Triple.Table.{entered}
 use denote.Triple.Walked.{says, Stays, stay_dropped, walk_of, ends_at, walk_Meets, Goes-dropped}
-use Rattle.aes3_c.proofs.Walks.{none, none_made}
-use Rattle.aes3_c.specs.contracts.log.Log as Log
-use Rattle.aes3_c.specs.contracts.log.Given as Given
-use Rattle.aes3_c.specs.contracts.log.Log.and as F
-use Rattle.aes3_c.specs.contracts.log.Log.and.Key.{name as #self}
-use Rattle.aes3_c.proofs.log.Log.and.Statement as stated
-use Rattle.aes3_c.proofs.log.Log.and.Code as code
+use Rattle.aes3_octet_log.proofs.Walks.{none, none_made}
+use Rattle.aes3_octet_log.specs.contracts.log.Log as Log
+use Rattle.aes3_octet_log.specs.contracts.log.Given as Given
+use Rattle.aes3_octet_log.specs.contracts.log.Log.and as F
+use Rattle.aes3_octet_log.specs.contracts.log.Log.and.Key.{name as #self}
+use Rattle.aes3_octet_log.proofs.log.Log.and.Statement as stated
+use Rattle.aes3_octet_log.proofs.log.Log.and.Code as code
 
 abbrev function : Fn
 function = code.function

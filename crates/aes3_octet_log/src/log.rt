@@ -7,13 +7,13 @@ use std::marker::Model;
 
 /// Octets that a log is given.
 #[derive(Drop)]
-pub(crate) struct Given<'a> {
+pub struct Given<'a> {
     pub octets: &'a [u8],
 }
 
 /// All octets that the log was given. A clause reads them as `octets`.
 #[derive(Drop)]
-pub(crate) struct Log {
+pub struct Log {
     pub ghost octets: { List ℕ },
 }
 
@@ -23,7 +23,7 @@ impl Model for Log {
 
 impl Log {
     /// A log that was given no octets.
-    pub(crate) fn new() -> Log
+    pub fn new() -> Log
         ensures { result.octets ≡ [] }
     {
         Log {}
@@ -31,7 +31,7 @@ impl Log {
 
     /// A log that was given these octets too.
     #[inline(always)]
-    pub(crate) fn and(&self, _more: &Given<'_>) -> Log
+    pub fn and(&self, _more: &Given<'_>) -> Log
         ensures { result.octets ≡ self.now.octets ++ _more.now.octets.now }
     {
         Log {}

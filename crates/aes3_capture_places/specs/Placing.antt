@@ -1,0 +1,63 @@
+-- Where the cells of a line are in its capture.
+use Rattle.std.specs.Prelude.{ℕ, List, [], ◌++◌, ◌≡◌, ◌<◌, ◌≤◌, ◌+◌, ◌⊎◌, Option, Some, get_or, length, replicate}
+use Rattle.aes3_level.specs.declared.level.Level.{Level}
+use Rattle.aes3_level.specs.Cells.{after, line, other}
+use Rattle.aes3_cell.specs.declared.form.Form.TheVariants.{Packed}
+use Rattle.aes3_capture.specs.declared.follower.Follower.{Follower}
+use Rattle.aes3_capture.specs.Following.{Passed}
+use Rattle.aes3_capture_recovery.specs.Recovering.{Recounted, Recovered, Setting, Starts, first_cells, first_level, sample_runs, samples_of}
+use Rattle.aes3_capture_places.specs.Marks.{IsAfter, IsBefore, between, no_mark}
+use Rattle.aes3_capture_places.specs.declared.marks.Mark.{Mark}
+use Rattle.aes3_capture_places.specs.declared.places.Places.{Places}
+
+-- The cells that a recovery gives of the runs `done`, behind a sample of this level, and then those that are certain of
+-- `past` samples of the run behind them.
+pub record AreGiven (known : Option ℕ) (level : Level) (done : List ℕ) (past : ℕ) (cells : List Level) : Type 0 where
+  pub before : List ℕ
+  pub behind : List ℕ
+  pub runs_are : before ++ behind ≡ done
+  pub start : Follower
+  pub at : Follower
+  pub last : Follower
+  pub starts : Starts known before behind start
+  pub counts : List ℕ
+  pub counted : Recounted known start behind counts at
+  pub given : ℕ
+  pub passed : Passed at past given last
+  pub cells_are : cells ≡ first_cells level before start
+      ++ (line (after level before) counts ++ replicate given (other (after level done)))
+
+-- The first `cells` cells that are recovered of samples with these levels, whatever samples come behind them, are those
+-- of the first `samples` samples: of whole runs, and of the samples that the run behind them begins with.
+pub record IsMarked (known : Option ℕ) (levels : List Level) (cells samples : ℕ) : Type 0 where
+  pub some : 1 ≤ length levels
+  pub done : List ℕ
+  pub past : ℕ
+  pub next : List Level → List ℕ
+  pub split : (more : List Level) → sample_runs (levels ++ more) ≡ done ++ next more
+  pub begun : (more : List Level) → past ≤ get_or (next more) 0 0
+  pub samples_are : samples_of done + past ≡ samples
+  pub given : List Level
+  pub given_are : AreGiven known (other (first_level levels)) done past given
+  pub cells_are : length given ≡ cells
+
+-- before the first cell, or as above
+abbrev pub IsMark : Option ℕ → List Level → Mark → Type 0
+IsMark known levels mark = (mark ≡ no_mark) ⊎ IsMarked known levels mark.cells mark.samples
+
+-- The sample of a cell: it lies between two marks, the one up to the cell and the other after it, and the samples
+-- between them are shared out evenly to their cells.
+pub record IsPlace (known : Option ℕ) (levels : List Level) (cell sample : ℕ) : Type 0 where
+  pub before : Mark
+  pub after : Mark
+  pub is_before : IsMark known levels before
+  pub is_after : IsMark known levels after
+  pub from : before.cells ≤ cell
+  pub to : cell < after.cells
+  pub sample_is : sample ≡ between before after cell
+
+-- samples with these levels were taken, from the first of a capture on, and each mark that is kept is one
+pub record ArePlaced (known : Option ℕ) (levels : List Level) (now : Places) : Type 0 where
+  pub recovered : Recovered (Some now.count.given.octets) (record { begun = []; form = Packed; known = known }) levels []
+      now.recovery
+  pub marks : (i : ℕ) → i < 4096 → IsMark known levels (get_or now.marks.kept i no_mark)
