@@ -67,8 +67,7 @@ fn text_of_missing(
         let why = look.why(alloc)?;
         return no_line_text(alloc, &figures, job.period, &why);
     }
-    format!(
-        in alloc;
+    format!(in alloc;
         "aes3-cells: {} lines name a cell that is not in the capture: is it the one that the report is of, with the same options?\n",
         outcome.missing
     )
