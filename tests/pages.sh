@@ -1,0 +1,61 @@
+#!/bin/sh
+# tests/pages.sh [PROGRAM [CELLS]]: examples of pages that no other test runs, as they are there. How the block files of examples/README.md were
+# made gives these files. Each command that docs/PERFORMANCE.md measures by runs, on inputs of some blocks: nothing is measured. PROGRAM and CELLS
+# are those of bin/build if none are given.
+#
+# The last line is `N passed, M failed`, and the status 0 if none failed.
+
+root=$(dirname "$(dirname "$(realpath "$0")")")
+# shellcheck source=examples/words.sh
+. "$root/examples/words.sh"
+take_words 0 2 "$@"
+program=$(realpath -m "${1:-$root/crates/aes3/out/aes3}")
+cells=$(realpath -m "${2:-$root/crates/aes3_cells_program/out/aes3_cells_program}")
+library=$root/crates/aes3_c/out/libaes3_c.a
+# shellcheck source=tests/judging.sh
+. "$root/tests/judging.sh"
+leave_out() { echo "left out: $1 ($2)"; }
+cd "$work" || exit 2
+
+# The block files.
+book=$root/examples/README.md
+sed -n 's/.*made by `\(head [^`]*\)`.*/\1/p' "$book" >zero.sh
+judge "examples/README.md makes zero.block" sh -c 'sh -e ./zero.sh && cmp zero.block "$1"' - "$root/examples/zero.block"
+sed -n '/^## How speech.block was made$/,/^## What was checked$/p' "$book" | sed -n '/^```sh$/,/^```$/p' | grep -v '^```' >speech.sh
+judge "examples/README.md has commands that make speech.block" test -s speech.sh
+lacks=
+for tool in espeak-ng sox aplay python3; do command -v $tool >/dev/null || lacks="$tool is not installed"; done
+# Another version speaks in another way.
+[ -n "$lacks" ] || espeak-ng --version | grep -q ' 1\.51 ' || lacks="espeak-ng is not 1.51"
+if [ -n "$lacks" ]; then
+    leave_out "how examples/speech.block was made" "$lacks"
+else
+    mkdir speech
+    judge "examples/README.md makes speech.block" sh -c 'cd speech && sh -e ../speech.sh && cmp speech.block "$1"' - "$root/examples/speech.block"
+fi
+
+# The commands that measure: each row of their table, with the paths of a clone and an input that takes a second or two.
+book=$root/docs/PERFORMANCE.md
+sed -n '/^## How to measure$/,/^## Each command$/s/^| \(`bench.*\) |.*/\1/p' "$book" | grep -o '`[^`]*`' | tr -d '`' >measures
+judge "$book has commands" test "$(wc -l <measures)" -ge 7
+has_numpy() { "$1" -c 'import numpy' 2>/dev/null; }
+while IFS= read -r command; do
+    why=
+    case $command in
+        "bench/forms "*--library*) small="--mb 1 --reps 1" && [ -e "$library" ] || why="there is no C library: bin/build aes3_c" ;;
+        "bench/forms "*--instructions*) small="--mb 1 --reps 1" && command -v valgrind >/dev/null || why="valgrind is not installed" ;;
+        "bench/shapes "*) small="--cells 1 --reps 1 --floor 1 --only lines" ;;
+        "bench/captures "*) small="--blocks 2" && has_numpy python3 || why="numpy is not installed" ;;
+        "bench/python"*) small="--blocks 20 --runs 1" && [ -e "$library" ] || why="there is no C library: bin/build aes3_c" ;;
+        "bench/sigrok"*) small="--blocks 4 --runs 1" && [ -e "$library" ] && has_numpy /usr/bin/python3 && command -v sigrok-cli >/dev/null || why="it needs the C library, sigrok-cli and numpy" ;;
+        "bench/run "*) small="--turns 1 --only changed-blocks" && [ -x "$root/crates/aes3_workloads/out/aes3_workloads" ] || why="there is no aes3_workloads: bin/build aes3_workloads" ;;
+        *) small='' ;;
+    esac
+    if [ -n "$why" ]; then
+        leave_out "$command" "$why"
+        continue
+    fi
+    typed=$(echo "$command" | sed "s|crates/aes3/out/aes3|$program|; s|libaes3_c.a|$library|; s| PROGRAM AES3| $cells $program|; s| PROGRAM| $program|; s| OLD NEW \[SEED\]| $root $root 1|")
+    judge "$command, with $small" sh -c "cd '$root' && $typed $small"
+done <measures
+tell
