@@ -39,6 +39,15 @@ book=$root/docs/PERFORMANCE.md
 sed -n '/^## How to measure$/,/^## Each command$/s/^| \(`bench.*\) |.*/\1/p' "$book" | grep -o '`[^`]*`' | tr -d '`' >measures
 judge "$book has commands" test "$(wc -l <measures)" -ge 7
 has_numpy() { "$1" -c 'import numpy' 2>/dev/null; }
+# The system's Python may have numpy where another one comes first.
+has_numpy python3 || ! has_numpy /usr/bin/python3 || PATH=/usr/bin:$PATH
+# runs COMMAND: it writes a table. A program that is slow on so small an input, beside other work, is no failure; another output is one.
+runs() {
+    (cd "$root" && sh -c "$1") >table 2>told
+    status=$?
+    cat told
+    grep -q '^|' table && { [ $status = 0 ] || { [ $status = 1 ] && ! grep -q -v ' is below ' told; }; }
+}
 while IFS= read -r command; do
     why=
     case $command in
@@ -56,6 +65,6 @@ while IFS= read -r command; do
         continue
     fi
     typed=$(echo "$command" | sed "s|crates/aes3/out/aes3|$program|; s|libaes3_c.a|$library|; s| PROGRAM AES3| $cells $program|; s| PROGRAM| $program|; s| OLD NEW \[SEED\]| $root $root 1|")
-    judge "$command, with $small" sh -c "cd '$root' && $typed $small"
+    judge "$command, with $small" runs "$typed $small"
 done <measures
 tell
