@@ -116,7 +116,7 @@ part_with python3 examples/own/run
 # Behind the C library those over it; for 64-bit ARM it is proved anew, and the packages wait for a mirror.
 [ -z "$library" ] || wait "$library"
 part_with python3 web/test "$program" # it compares the page with the library, if that is there
-part tests/pages.sh "$program" "$root/crates/aes3_cells_program/out/aes3_cells_program"
+part tests/pages.sh "$program"
 if [ -e crates/aes3_c/out/libaes3_c.a ]; then
     part tests/packages.sh
     part examples/c/arm.sh "$program"

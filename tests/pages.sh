@@ -1,16 +1,15 @@
 #!/bin/sh
-# tests/pages.sh [PROGRAM [CELLS]]: examples of pages that no other test runs, as they are there. How the block files of examples/README.md were
-# made gives these files. Each command that docs/PERFORMANCE.md measures by runs, on inputs of some blocks: nothing is measured. PROGRAM and CELLS
-# are those of bin/build if none are given.
+# tests/pages.sh [PROGRAM]: examples of pages that no other test runs, as they are there. How the block files of examples/README.md were
+# made gives these files. The commands that docs/PERFORMANCE.md measures by run on inputs of some blocks, so nothing is measured. PROGRAM is that of
+# bin/build if none is given.
 #
 # The last line is `N passed, M failed`, and the status 0 if none failed.
 
 root=$(dirname "$(dirname "$(realpath "$0")")")
 # shellcheck source=examples/words.sh
 . "$root/examples/words.sh"
-take_words 0 2 "$@"
+take_words 0 1 "$@"
 program=$(realpath -m "${1:-$root/crates/aes3/out/aes3}")
-cells=$(realpath -m "${2:-$root/crates/aes3_cells_program/out/aes3_cells_program}")
 library=$root/crates/aes3_c/out/libaes3_c.a
 # shellcheck source=tests/judging.sh
 . "$root/tests/judging.sh"
@@ -36,11 +35,8 @@ fi
 
 # The commands that measure: each row of their table, with the paths of a clone and an input that takes a second or two.
 book=$root/docs/PERFORMANCE.md
-sed -n '/^## How to measure$/,/^## Each command$/s/^| \(`bench.*\) |.*/\1/p' "$book" | grep -o '`[^`]*`' | tr -d '`' >measures
+sed -n '/^## How to measure$/,/^## Each command$/s/^| \(`bench[^|]*\) |.*/\1/p' "$book" | grep -o '`[^`]*`' | tr -d '`' >measures
 judge "$book has commands" test "$(wc -l <measures)" -ge 7
-has_numpy() { "$1" -c 'import numpy' 2>/dev/null; }
-# The system's Python may have numpy where another one comes first.
-has_numpy python3 || ! has_numpy /usr/bin/python3 || PATH=/usr/bin:$PATH
 # runs COMMAND: it writes a table. A program that is slow on so small an input, beside other work, is no failure; another output is one.
 runs() {
     (cd "$root" && sh -c "$1") >table 2>told
@@ -52,11 +48,10 @@ while IFS= read -r command; do
     why=
     case $command in
         "bench/forms "*--library*) small="--mb 1 --reps 1" && [ -e "$library" ] || why="there is no C library: bin/build aes3_c" ;;
-        "bench/forms "*--instructions*) small="--mb 1 --reps 1" && command -v valgrind >/dev/null || why="valgrind is not installed" ;;
-        "bench/shapes "*) small="--cells 1 --reps 1 --floor 1 --only lines" ;;
-        "bench/captures "*) small="--blocks 2" && has_numpy python3 || why="numpy is not installed" ;;
+        "bench/forms "*--instructions* | "bench/captures "*) why="it takes a quarter of a minute or more, also on a small input" ;;
+        "bench/shapes "*) small="--cells 0.1 --reps 1 --floor 0 --only 63" ;;
         "bench/python"*) small="--blocks 20 --runs 1" && [ -e "$library" ] || why="there is no C library: bin/build aes3_c" ;;
-        "bench/sigrok"*) small="--blocks 4 --runs 1" && [ -e "$library" ] && has_numpy /usr/bin/python3 && command -v sigrok-cli >/dev/null || why="it needs the C library, sigrok-cli and numpy" ;;
+        "bench/sigrok"*) small="--blocks 4 --runs 1" && [ -e "$library" ] && /usr/bin/python3 -c 'import numpy' 2>/dev/null && command -v sigrok-cli >/dev/null || why="it needs the C library, sigrok-cli and numpy" ;;
         "bench/run "*) small="--turns 1 --only changed-blocks" && [ -x "$root/crates/aes3_workloads/out/aes3_workloads" ] || why="there is no aes3_workloads: bin/build aes3_workloads" ;;
         *) small='' ;;
     esac
@@ -64,7 +59,7 @@ while IFS= read -r command; do
         leave_out "$command" "$why"
         continue
     fi
-    typed=$(echo "$command" | sed "s|crates/aes3/out/aes3|$program|; s|libaes3_c.a|$library|; s| PROGRAM AES3| $cells $program|; s| PROGRAM| $program|; s| OLD NEW \[SEED\]| $root $root 1|")
+    typed=$(echo "$command" | sed "s|crates/aes3/out/aes3|$program|; s|libaes3_c.a|$library|; s| PROGRAM| $program|; s| OLD NEW \[SEED\]| $root $root 1|")
     judge "$command, with $small" runs "$typed $small"
 done <measures
 tell
