@@ -1,6 +1,6 @@
 #!/bin/sh
 # tests/all.sh [PROGRAM]: all that is run with a built program, that of bin/aes3 if none is given: how bin/aes3 and bin/build have it built, the worked rows, the machine's own
-# streams, refused memory, the examples of help, README, tutorial and docs/COMMANDS.md, the manual page, the shells' completions, the pictures,
+# streams, refused memory, the examples of help, README, tutorial and docs/COMMANDS.md and of other pages, the manual page, the shells' completions, the pictures,
 # the figures and the links of the books, captures with jitter and in the files of other programs, errors put in on purpose, round trips with other programs, the examples from C (also
 # for 64-bit ARM), C++, Python and Rust, the reference of the C calls, and of the page in a browser, and the Debian packages in a root of their own.
 #
@@ -117,6 +117,7 @@ part_with python3 examples/own/run
 # Behind the C library those over it; for 64-bit ARM it is proved anew, and the packages wait for a mirror.
 [ -z "$library" ] || wait "$library"
 part_with python3 web/test "$program" # it compares the page with the library, if that is there
+part tests/pages.sh "$program"
 if [ -e crates/aes3_c/out/libaes3_c.a ]; then
     part tests/packages.sh
     part examples/c/arm.sh "$program"
