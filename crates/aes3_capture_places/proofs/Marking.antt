@@ -1,5 +1,5 @@
 -- Marks of a recovery: they are made, and they stay.
-use Rattle.std.proofs.Common.{ℕ, List, [], ◌∷◌, ◌++◌, ◌≡◌, ◌≤◌, ◌<◌, ◌+◌, ◌-◌, ◌*◌, ◌^◌, Option, Some, inl, inr, refl, sym, ap, ◌∙◌}
+use Rattle.std.proofs.Common.{ℕ, List, [], ◌++◌, ◌≡◌, ◌≤◌, ◌<◌, ◌+◌, ◌*◌, Option, Some, inl, inr, refl, sym, ap, ◌∙◌}
 use Rattle.std.proofs.Common.{◌≢◌, IfOk, OnErr, Result, Ok, Err, append-nil, append_assoc, arith, get_or, length, length-append, replicate, set, subst}
 use Rattle.std.proofs.Common.{true, true≢false}
 use Rattle.std.proofs.lemmas.Bool.{cases_lt}
@@ -19,7 +19,7 @@ use Rattle.aes3_capture_recovery.specs.Recovering.{IsFound, Recovered, Setting, 
 use Rattle.aes3_capture_recovery.specs.declared.recovery.Recovery.{Recovery}
 use Rattle.aes3_capture_recovery.proofs.Telling.{samples-append}
 use Rattle.aes3_capture_places.specs.Marks.{IsPlaced, no_mark}
-use Rattle.aes3_capture_places.specs.Placing.{AreGiven, ArePlaced, IsMark, IsMarked, IsPlace}
+use Rattle.aes3_capture_places.specs.Placing.{AreGiven, IsMark, IsMarked, IsPlace}
 use Rattle.aes3_capture_places.specs.declared.marks.Mark.{Mark}
 use Rattle.aes3_capture_places.proofs.Runs.{first-more, length-packed, samples-runs, told-of-next}
 
@@ -133,12 +133,12 @@ marks-set known levels kept at m within is all i few =
     elim (cases_lt i at) [
       | inl below ↦ other (λ e. omega (arith, below, e))
       | inr above ↦ elim (cases_lt at i) [
-          | inl over ↦ other (λ e. omega (arith, over, e))
-          | inr same ↦
-              let e : i ≡ at = omega (arith, above, same) in
-              subst (IsMark known levels)
-              (sym (ap (λ j. get_or (set kept at m) j no_mark) e ∙ get_or-set_same kept at m no_mark within)) is
-        ]
+        | inl over ↦ other (λ e. omega (arith, over, e))
+        | inr same ↦
+            let e : i ≡ at = omega (arith, above, same) in
+            subst (IsMark known levels)
+            (sym (ap (λ j. get_or (set kept at m) j no_mark) e ∙ get_or-set_same kept at m no_mark within)) is
+      ]
     ]
 
 -- marks of a capture stay such

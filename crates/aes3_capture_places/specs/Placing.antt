@@ -1,12 +1,13 @@
 -- Where the cells of a line are in its capture.
-use Rattle.std.specs.Prelude.{ℕ, List, [], ◌++◌, ◌≡◌, ◌<◌, ◌≤◌, ◌+◌, ◌⊎◌, Option, Some, get_or, length, replicate}
+use Rattle.std.specs.Prelude.{ℕ, List, [], ◌++◌, ◌≡◌, ◌<◌, ◌≤◌, ◌+◌, ◌*◌, ◌^◌, ◌⊎◌, true, Option, Some, get_or, length, replicate}
 use Rattle.aes3_level.specs.declared.level.Level.{Level}
 use Rattle.aes3_level.specs.Cells.{after, line, other}
 use Rattle.aes3_cell.specs.declared.form.Form.TheVariants.{Packed}
 use Rattle.aes3_capture.specs.declared.follower.Follower.{Follower}
 use Rattle.aes3_capture.specs.Following.{Passed}
-use Rattle.aes3_capture_recovery.specs.Recovering.{Recounted, Recovered, Setting, Starts, first_cells, first_level, sample_runs, samples_of}
-use Rattle.aes3_capture_places.specs.Marks.{IsAfter, IsBefore, between, no_mark}
+use Rattle.aes3_capture_recovery.specs.Queues.{waiting}
+use Rattle.aes3_capture_recovery.specs.Recovering.{Recounted, Recovered, Starts, first_cells, first_level, sample_runs, samples_of}
+use Rattle.aes3_capture_places.specs.Marks.{between, no_mark}
 use Rattle.aes3_capture_places.specs.declared.marks.Mark.{Mark}
 use Rattle.aes3_capture_places.specs.declared.places.Places.{Places}
 
@@ -61,3 +62,17 @@ pub record ArePlaced (known : Option ℕ) (levels : List Level) (now : Places) :
   pub recovered : Recovered (Some now.count.given.octets) (record { begun = []; form = Packed; known = known }) levels []
       now.recovery
   pub marks : (i : ℕ) → i < 4096 → IsMark known levels (get_or now.marks.kept i no_mark)
+
+-- the latest mark is one of those that are kept
+abbrev pub KeepsLatest : Places → Type 0
+KeepsLatest now = (i : ℕ) × (i < 4096) × (get_or now.marks.kept i no_mark ≡ now.latest)
+
+-- how many cells were given: those of all octets, and those that wait
+abbrev pub cells_given : Places → ℕ
+cells_given now = 8 * length now.count.given.octets + length (waiting now.recovery.line.queue)
+
+-- The latest mark is kept. Of a line that was found in some samples, fewer than 64 cells were given behind it.
+pub record IsClose (levels : List Level) (now : Places) : Type 0 where
+  pub kept : KeepsLatest now
+  pub close : now.recovery.found ≡ true → 1 ≤ length levels → length now.count.given.octets < 2 ^ 56
+      → cells_given now < now.latest.cells + 64

@@ -1,9 +1,10 @@
 //! A capture whose cells are recovered, to find where they are.
 
-ghost use Rattle.std.specs.Prelude.{◌≡◌, ◌+◌, ◌++◌, ◌<◌, ◌^◌, [], ℕ, List, IfSome, Option, length};
+ghost use Rattle.std.specs.Prelude.{◌≡◌, ◌+◌, ◌++◌, ◌<◌, ◌^◌, [], ℕ, List, IfNone, IfSome, Option, length, true};
 ghost use Rattle.aes3_level.specs.declared.level.Level.{Level};
 ghost use Rattle.aes3_capture_recovery.specs.Levels.{bit_of_line, bits_of_sample, levels_of_samples};
-ghost use Rattle.aes3_capture_places.specs.Placing.{ArePlaced, IsMark, IsPlace};
+ghost use Rattle.aes3_capture_places.specs.Marks.{IsPlaced};
+ghost use Rattle.aes3_capture_places.specs.Placing.{ArePlaced, IsClose, IsMark, IsPlace, KeepsLatest, cells_given};
 
 use crate::marks::{Mark, Marks};
 use crate::octet_count::OctetCount;
@@ -31,7 +32,8 @@ impl Places {
     /// A capture before its first sample. `known` is the length of a cell in 65,536ths of a sample,
     /// if it is given.
     pub fn new(known: Option<u64>) -> Self
-        ensures { ArePlaced known [] result }
+        ensures placed { ArePlaced known [] result }
+        ensures kept { KeepsLatest result }
     {
         Places {
             recovery: Recovery::new(Form::Packed, known),
@@ -52,16 +54,23 @@ impl Places {
     /// Takes a piece of whole samples, and makes one mark at most. Pieces of 64 octets give a mark
     /// for every run or two of 64 cells.
     pub fn take(&mut self, unit: Unit, piece: &[u8])
-        ensures { bit_of_line unit < bits_of_sample unit → (known : Option ℕ) (levels : List Level)
+        ensures placed { bit_of_line unit < bits_of_sample unit → (known : Option ℕ) (levels : List Level)
             → length (levels ++ levels_of_samples unit piece.now) + 1 < 2 ^ 64
             → ArePlaced known levels self.old
             → ArePlaced known (levels ++ levels_of_samples unit piece.now) self.new }
+
+        // However long the capture is, the latest mark is close: a cell that was given lies between
+        // two marks, unless it is one of the last 64.
+        ensures close { bit_of_line unit < bits_of_sample unit → (known : Option ℕ) (levels : List Level)
+            → ArePlaced known levels self.old → KeepsLatest self.old
+            → IsClose (levels ++ levels_of_samples unit piece.now) self.new }
     {
         // This sink never fails.
         let _ = feed(&mut self.recovery, &mut self.count, unit, piece);
-        if let Some(mark) = self.mark()
-            && mark.cells >= self.latest.cells.saturating_add(APART)
-        {
+        let Some(mark) = self.mark() else {
+            return;
+        };
+        if mark.cells >= self.latest.cells.saturating_add(APART) {
             self.marks.add(mark);
             self.latest = mark;
         }
@@ -69,8 +78,12 @@ impl Places {
 
     /// The mark after all cells that were given.
     fn mark(&self) -> Option<Mark>
-        ensures { (known : Option ℕ) (levels : List Level) → length levels + 1 < 2 ^ 64
+        ensures mark { (known : Option ℕ) (levels : List Level) → length levels + 1 < 2 ^ 64
             → ArePlaced known levels self.now → IfSome result (IsMark known levels) }
+        ensures cells { IfSome result (λ mark. length self.now.count.given.octets < 2 ^ 56
+            → mark.cells ≡ cells_given self.now) }
+        ensures none { IfNone result (self.now.recovery.found ≡ true → length self.now.count.given.octets < 2 ^ 56
+            → self.now.recovery.figures.samples ≡ 0) }
     {
         let samples = self.recovery.figures().samples;
         if !self.recovery.is_found() || samples == 0 || self.count.octets() >= MOST {
@@ -85,8 +98,9 @@ impl Places {
     /// The sample that a cell begins at, counted from 0. `None` if the cell is not between two marks
     /// that are kept: it has not come yet, or it came more than 200,000 cells before the latest.
     pub fn sample_of(&self, cell: u64) -> Option<u64>
-        ensures { (known : Option ℕ) (levels : List Level) → ArePlaced known levels self.now
+        ensures place { (known : Option ℕ) (levels : List Level) → ArePlaced known levels self.now
             → IfSome result (IsPlace known levels cell) }
+        ensures nearest { IfSome result (IsPlaced self.now.marks.kept cell) }
     {
         self.marks.sample_of(cell)
     }
@@ -98,7 +112,9 @@ impl Places {
         let cells = cell.checked_sub(self.latest.cells)?;
         let samples = cells.checked_mul(figures.period)? / PARTS;
         let sample = self.latest.samples.saturating_add(samples);
-        let end = figures.samples.saturating_add(figures.period.saturating_mul(2) / PARTS);
+        let end = figures
+            .samples
+            .saturating_add(figures.period.saturating_mul(2) / PARTS);
         if sample <= end && figures.period > 0 {
             Some(sample.min(figures.samples))
         } else {

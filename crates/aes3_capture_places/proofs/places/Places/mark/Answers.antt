@@ -2,8 +2,8 @@ use Rattle.std.proofs.Common.{◌∙◌, arith, inr, sym}
 use Rattle.aes3_capture_places.proofs.Marking.{mark-made, waits-less}
 use Rattle.aes3_capture_places.proofs.places.Places.mark.Goals as goal
 
-pub returns : goal.returns
-returns c = λ known levels room placed.
+pub returns-clause-mark : goal.returns-clause-mark
+returns-clause-mark c = λ known levels room placed.
     let now = c.args.self.now in
     let octets = now.count.given.octets in
     let r = placed.recovered in
