@@ -16,10 +16,6 @@ rule PackedOut = packed_out
 rule Tell = flag (codes "tell")
 rule File = file
 
--- the program with these
-abbrev pub line_with : List Argument → App
-line_with arguments = program_with (codes "aes3-cells") (map rule arguments)
-
 -- the program
 abbrev pub cells_line : App
-cells_line = line_with (Rate ∷ At ∷ Unit ∷ Bit ∷ PackedOut ∷ Tell ∷ File ∷ [])
+cells_line = program_with (codes "aes3-cells") (map rule (Rate ∷ At ∷ Unit ∷ Bit ∷ PackedOut ∷ Tell ∷ File ∷ []))
