@@ -1,4 +1,5 @@
 pub mod Codes
+pub mod Bits
 pub mod Blocks
 pub mod States
 pub mod Professional

@@ -5,7 +5,6 @@ ghost use Rattle.std.specs.List.{flat_map};
 ghost use Rattle.aes3_level.specs.Words.{level_of, word_cells};
 ghost use Rattle.aes3_frame.specs.Blocks.{block_cells};
 ghost use Rattle.aes3_frame.specs.Files.{is_lawful, payload_of};
-ghost use Rattle.aes3_frame.specs.Statuses.{status_of};
 ghost use Rattle.aes3_c.specs.Codes.{channel_of, is_channel};
 
 use crate::level::level_of_byte;
@@ -22,7 +21,7 @@ pub extern "C" fn aes3_encode_block(words: &[u32; 384], before: u8, cells: &mut 
     ensures within { result ≤ 384 }
     ensures lawful { (i : ℕ) → i < result → is_lawful (get_or words.now i 0) ≡ true }
     ensures unlawful { result ≢ 384 → is_lawful (get_or words.now result 0) ≡ false }
-    ensures left { result ≢ 384 → cells.new ≡ cells.old }
+    ensures unchanged { result ≢ 384 → cells.new ≡ cells.old }
 {
     match Block::try_of_words(words) {
         Ok(block) => {
@@ -51,32 +50,5 @@ pub(crate) fn channel_of_number(number: u8) -> Channel
         Channel::First
     } else {
         Channel::Second
-    }
-}
-
-/// Puts the 24 bytes of a channel's status, of the block of these words, into `status`. Returns
-/// 384, or the number of the first word that is not valid, or 385 if the channel is neither 1 nor
-/// 2. In both other cases `status` is unchanged.
-#[unsafe(no_mangle)]
-#[tactic(auto, unfolding(aes3_frame::specs::Blocks::block_slots))]
-pub extern "C" fn aes3_block_status(words: &[u32; 384], channel: u8, status: &mut [u8; 24]) -> u32
-    ensures status { result ≡ 384 → status.new
-        ≡ status_of (map payload_of words.now) (channel_of channel) }
-    ensures channel { is_channel channel ≡ false → result ≡ 385 }
-    ensures within { is_channel channel ≡ true → result ≤ 384 }
-    ensures lawful { is_channel channel ≡ true → (i : ℕ) → i < result → is_lawful (get_or words.now i 0) ≡ true }
-    ensures unlawful { is_channel channel ≡ true → result ≢ 384
-        → is_lawful (get_or words.now result 0) ≡ false }
-    ensures left { result ≢ 384 → status.new ≡ status.old }
-{
-    if !is_channel(channel) {
-        return NO_CHANNEL;
-    }
-    match Block::try_of_words(words) {
-        Ok(block) => {
-            *status = block.channel_status(channel_of_number(channel));
-            384
-        }
-        Err(place) => place as u32,
     }
 }

@@ -17,10 +17,7 @@ rule Tell = flag (codes "tell")
 rule Places = flag (codes "places")
 rule File = file
 
--- the program with these
-abbrev pub line_with : List Argument → App
-line_with arguments = program_with (codes "aes3-cells") (map rule arguments)
-
 -- the program
 abbrev pub cells_line : App
-cells_line = line_with (Rate ∷ At ∷ Unit ∷ Bit ∷ PackedOut ∷ Tell ∷ Places ∷ File ∷ [])
+cells_line =
+    program_with (codes "aes3-cells") (map rule (Rate ∷ At ∷ Unit ∷ Bit ∷ PackedOut ∷ Tell ∷ Places ∷ File ∷ []))

@@ -3,7 +3,7 @@
 ghost use Rattle.aes3_cli.specs.CommandLine.{IsOption, flag, text_option};
 ghost use Rattle.aes3_capture_runs.specs.CellsLine.{rule};
 
-use aes3_cli::{flag, text_option};
+use aes3_cli::{Define, flag, text_option};
 use clap::Arg;
 use std::alloc::Global;
 
@@ -40,11 +40,10 @@ pub(crate) const ARGUMENTS: [Argument; 8] = [
     Argument::File,
 ];
 
-impl Argument {
-    /// The argument's definition, with its line of help.
-    pub(crate) fn define<'a>(self, alloc: Global) -> Arg<'a>
-        ensures { IsOption (rule self) result }
-    {
+impl Define for Argument {
+    ghost rule = { rule };
+
+    fn define<'a>(self, alloc: Global) -> Arg<'a> {
         match self {
             Argument::Rate => text_option(alloc, "rate", "HZ", "Samples a second"),
             Argument::At => {

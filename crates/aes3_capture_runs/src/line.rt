@@ -2,14 +2,12 @@
 
 ghost use Rattle.std.specs.Prelude.{◌≡◌, ◌<◌, [], IfErr, IfOk, None, Some, codes, false, map, true};
 ghost use Rattle.std.specs.Option.{option_map};
-ghost use Rattle.aes3_cli.specs.CommandLine.{IsDefinedAs};
 ghost use Rattle.aes3_cli.specs.Options.{file_by, options_of};
 ghost use Rattle.clap.specs.Walk.{first_of, one_of};
 ghost use Rattle.aes3_cell.specs.declared.form.Form.TheVariants as form;
 ghost use Rattle.aes3_capture_recovery.specs.Levels.{bit_of_line, bits_of_sample};
 ghost use Rattle.aes3_capture_runs.specs.Asks.{AsksFor, FitTogether, IsChosen, IsJobOf, IsValueBy};
 ghost use Rattle.aes3_capture_runs.specs.Asks.{at_by, octets_by, period_of, rate_by, value_by};
-ghost use Rattle.aes3_capture_runs.specs.CellsLine.{cells_line, line_with};
 ghost use Rattle.aes3_capture_runs.specs.Faults.{AreApart, HasNoValue, IsFaultOf, IsOptionFault, IsWrongWith};
 ghost use Rattle.aes3_capture_runs.specs.Samples.{unit_of, unit_of_job};
 ghost use Rattle.aes3_capture_runs.specs.Values.{bit_in, frequency_in, octets_in};
@@ -20,9 +18,9 @@ use crate::value::{bit_of_text, frequency_of_text, octets_of_text, period_of};
 use crate::wrong::{Wrong, wrong_fault};
 use aes3_capture_recovery::Unit;
 use aes3_cell::Form;
-use aes3_cli::{LineFault, file_of_options, program_line};
-use clap::{ArgMatches, Command};
-use std::alloc::{AllocError, Global};
+use aes3_cli::{LineFault, file_of_options, options_of_words, program_line};
+use clap::ArgMatches;
+use std::alloc::Global;
 
 /// A job of the program.
 #[derive(Clone, Copy)]
@@ -45,17 +43,6 @@ pub struct Job<'a> {
     pub file: Option<&'a str>,
 }
 
-/// The command line.
-fn command_line<'a>(alloc: Global) -> Result<Command<'a>, AllocError>
-    ensures { IfOk result (IsDefinedAs cells_line) }
-{
-    let mut line = program_line(alloc, "aes3-cells", PROGRAM);
-    for argument in ARGUMENTS.iter() {
-        line = line.arg(argument.define(alloc))?;
-    }
-    Ok(line)
-}
-
 /// The job of a command line without the program's name. It reads no input.
 ///
 /// # Errors
@@ -66,11 +53,9 @@ pub fn job_of_words<'a>(alloc: Global, words: &'a [&'a str]) -> Result<Job<'a>, 
     ensures job { IfOk result (IsJobOf (map (λ word. word.now) words.now)) }
     ensures fault { IfErr result (IsFaultOf (map (λ word. word.now) words.now)) }
 {
-    let command = command_line(alloc)?;
-    match command.try_get_matches_from(words) {
-        Ok(options) => job_of_options(alloc, &options),
-        Err(error) => Err(LineFault::of_error(alloc, &error, PROGRAM.usage)),
-    }
+    let line = program_line(alloc, "aes3-cells", PROGRAM, &ARGUMENTS)?;
+    let options = options_of_words(alloc, line, PROGRAM.usage, words)?;
+    job_of_options(alloc, &options)
 }
 
 /// The job of these options.

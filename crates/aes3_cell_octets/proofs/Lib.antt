@@ -1,3 +1,3 @@
 pub mod Ends
-pub mod TurnedEnds
-pub mod TurnedOctets
+pub mod ReversedEnds
+pub mod ReversedOctets

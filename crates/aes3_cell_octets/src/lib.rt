@@ -7,12 +7,12 @@ pub mod laws;
 /// Octets without the last octet.
 mod raw;
 /// Octets with reversed bits, as they are written.
-mod turned_sink;
+mod reversed_sink;
 /// Packed cells with reversed bits, as they are read.
-mod turned_source;
+mod reversed_source;
 /// The bits of octets in reversed order.
-mod turning;
+mod reversing;
 
 pub use raw::RawSource;
-pub use turned_sink::TurnedSink;
-pub use turned_source::{TurnedSource, first_octet};
+pub use reversed_sink::ReversedSink;
+pub use reversed_source::{ReversedSource, first_octet};

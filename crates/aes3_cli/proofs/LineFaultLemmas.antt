@@ -1,11 +1,11 @@
 -- What is said of words that are not taken, or whose values are wrong.
-use Rattle.std.proofs.Common.{◌≡◌, [], inl, inr, subst}
+use Rattle.std.proofs.Common.{◌≡◌, ◌&&◌, [], Bool, false, inl, inr, refl, subst, true}
 use Rattle.clap.specs.Kinds.{HasKind, IsAmong, Kinds}
 use Rattle.clap.specs.Values.{kind_of}
 use Rattle.clap.specs.Walk.{Text}
 use Rattle.clap.specs.declared.error.Error.{Error}
 use Rattle.clap.specs.declared.error.kind.ErrorKind.{ErrorKind}
-use Rattle.aes3_cli.specs.LineFaults.{IsFaultBy, IsFaultIn, IsValueFault}
+use Rattle.aes3_cli.specs.LineFaults.{IsFaultBy, IsFaultIn, IsValueFault, IsWordsFault}
 use Rattle.aes3_cli.specs.declared.fault.LineFault.{LineFault}
 use Rattle.aes3_cli.specs.declared.fault.LineFault.TheVariants as fault
 
@@ -31,3 +31,16 @@ pub value_said : (faults : Kinds) (usage : Text) (says : Text → Type 0) (said 
 value_said faults usage says (fault.Usage text) none is = inr (none, is)
 value_said faults usage says (fault.Help text) none is = absurd is
 value_said faults usage says fault.Memory none is = tt
+
+-- what is said of words that are not taken
+pub words_said : (faults : Kinds) (usage : Text) (says : Text → Type 0) (said : LineFault)
+    → IsWordsFault faults usage said → IsFaultIn faults usage says said
+words_said faults usage says (fault.Usage text) (inl not_taken) = inl not_taken
+words_said faults usage says (fault.Usage text) (inr value) = absurd value.1
+words_said faults usage says (fault.Help text) is = is
+words_said faults usage says fault.Memory is = tt
+
+-- a program that is simple and free is simple
+pub left_holds : (a b : Bool) → (a && b) ≡ true → a ≡ true
+left_holds true b both = refl
+left_holds false b both = both

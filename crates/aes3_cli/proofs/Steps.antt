@@ -1,14 +1,13 @@
 -- Steps from a builder of `clap` to the definitions of the command line.
 use Rattle.std.proofs.Common.{◌≡◌, ◌∙◌, ◌||◌, ◌<◌, ◌+◌, ◌++◌, ◌∷◌, ℕ, List, [], ap, ap₂, false, get_or, length, map}
 use Rattle.std.proofs.Common.{refl, subst, sym, take}
-use Rattle.std.proofs.lemmas.List.{map-append, take_more}
+use Rattle.std.proofs.lemmas.List.{append_assoc, map-append, take_more}
 use Rattle.clap.specs.Built.{AddsArg, AddsSubcommand}
-use Rattle.clap.specs.Walk.{Rule, Text}
-use Rattle.clap.specs.Simple.{App, Shape, with_rule, with_subcommand}
+use Rattle.clap.specs.Walk.{Rule}
+use Rattle.clap.specs.Simple.{App, Shape, on_top, with_rule, with_subcommand}
 use Rattle.clap.specs.declared.builder.arg.Arg.{Arg}
 use Rattle.clap.specs.declared.builder.command.Command.{Command}
-use Rattle.aes3_cli.specs.CommandLine.{IsDefinedAs, IsOption, app_with, command, program, program_with, rule, shape}
-use Rattle.aes3_cli.specs.declared.argument.Argument.{Argument}
+use Rattle.aes3_cli.specs.CommandLine.{IsDefinedAs, IsOption, app_with, command, program, shape, with_rules}
 use Rattle.aes3_cli.specs.declared.definitions.Name.{Name}
 use Rattle.aes3_cli.specs.declared.definitions.Name.TheVariants.{Encode, Decode, Normal, Check, Watch, Show, Scan}
 use Rattle.aes3_cli.specs.declared.definitions.Name.TheVariants.{Cut, Info, Rewrite, ToPcm, FromPcm, ToWav, FromWav, ToBits}
@@ -21,32 +20,21 @@ with_option app r old new argument added defined option = (
   added.globals ∙ ap₂ ◌||◌ defined.1 option.1,
 )
 
--- the first arguments of a command, and one more
-pub with_argument : (name : Text) (arguments : List Argument) (i : ℕ) (d : Argument) (old new : Command)
+-- a program or a command with the first of these arguments, and one more
+pub with_argument : {D : Type 0} (rule : D → Rule) (app : App) (arguments : List D) (i : ℕ) (d : D) (old new : Command)
     (argument : Arg)
     → i < length arguments → AddsArg old argument new
-    → IsDefinedAs (app_with (command name (map rule (take i arguments)))) old
-    → IsOption (rule (get_or arguments i d)) argument
-    → IsDefinedAs (app_with (command name (map rule (take (i + 1) arguments)))) new
-with_argument name arguments i d old new argument below added defined is =
-    let more : map rule (take (i + 1) arguments) ≡ map rule (take i arguments) ++ rule (get_or arguments i d) ∷ [] =
+    → IsDefinedAs (with_rules app (map rule (take i arguments))) old → IsOption (rule (get_or arguments i d)) argument
+    → IsDefinedAs (with_rules app (map rule (take (i + 1) arguments))) new
+with_argument rule app arguments i d old new argument below added defined is =
+    let last = rule (get_or arguments i d) in
+    let more : map rule (take (i + 1) arguments) ≡ map rule (take i arguments) ++ last ∷ [] =
     ap (map rule) (take_more arguments i d below) ∙ map-append rule (take i arguments) (get_or arguments i d ∷ []) in
-    subst (λ rules. IsDefinedAs (app_with (command name rules)) new) (sym more)
-    (with_option (app_with (command name (map rule (take i arguments)))) (rule (get_or arguments i d))
-    old new argument added defined is)
-
--- the first options of a program without commands, and one more
-pub with_rule_of : {X : Type 0} (name : Text) (rule : X → Rule) (arguments : List X) (i : ℕ) (d : X) (old new : Command)
-    (argument : Arg)
-    → i < length arguments → AddsArg old argument new
-    → IsDefinedAs (program_with name (map rule (take i arguments))) old → IsOption (rule (get_or arguments i d)) argument
-    → IsDefinedAs (program_with name (map rule (take (i + 1) arguments))) new
-with_rule_of name rule arguments i d old new argument below added defined is =
-    let more : map rule (take (i + 1) arguments) ≡ map rule (take i arguments) ++ rule (get_or arguments i d) ∷ [] =
-    ap (map rule) (take_more arguments i d below) ∙ map-append rule (take i arguments) (get_or arguments i d ∷ []) in
-    subst (λ rules. IsDefinedAs (program_with name rules) new) (sym more)
-    (with_option (program_with name (map rule (take i arguments))) (rule (get_or arguments i d))
-    old new argument added defined is)
+    let joined : app.top.rules ++ map rule (take (i + 1) arguments)
+    ≡ (app.top.rules ++ map rule (take i arguments)) ++ last ∷ [] =
+    ap (λ rules. app.top.rules ++ rules) more ∙ sym (append_assoc app.top.rules (map rule (take i arguments)) (last ∷ [])) in
+    subst (λ rules. IsDefinedAs (on_top (λ s. record s { rules = rules }) app) new) (sym joined)
+    (with_option (with_rules app (map rule (take i arguments))) last old new argument added defined is)
 
 -- one more command
 with_command : (app : App) (s : Shape) (old sub new : Command) → AddsSubcommand old sub new

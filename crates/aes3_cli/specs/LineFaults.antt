@@ -33,6 +33,11 @@ IsFaultIn faults usage says (fault.Usage text) =
 IsFaultIn faults usage says (fault.Help text) = IsAmong DisplayHelp faults ⊎ IsAmong DisplayVersion faults
 IsFaultIn faults usage says fault.Memory = Unit {0}
 
+-- why words ask for no job, whatever their values are: they are not taken; or help or the version is asked for; or
+-- memory was refused
+abbrev pub IsWordsFault : Kinds → Text → LineFault → Type 0
+IsWordsFault faults usage = IsFaultIn faults usage (λ text. ⊥)
+
 -- the text says what is wrong with the values; or memory was refused
 abbrev pub IsValueFault : (Text → Type 0) → LineFault → Type 0
 IsValueFault says (fault.Usage text) = says text.bytes.items

@@ -1,6 +1,8 @@
 -- What options say that `clap` found among words.
-use Rattle.std.specs.Prelude.{List, Option, Some, None, codes, if◌then◌else◌, option_and_then}
+use Rattle.std.specs.Prelude.{List, [], ◌≡◌, Option, Some, None, codes, if◌then◌else◌, option_and_then}
 use Rattle.std.specs.Str.{bytes_eq}
+use Rattle.clap.specs.Faults.{fault_of}
+use Rattle.clap.specs.Simple.{App, matches_of}
 use Rattle.clap.specs.Walk.{Row, Text, first_of, rows_of}
 use Rattle.clap.specs.Matches.{found_of}
 use Rattle.clap.specs.declared.parser.matches.ArgMatches.{ArgMatches}
@@ -11,6 +13,11 @@ Options = List Row
 
 abbrev pub options_of : ArgMatches → Options
 options_of matches = rows_of (found_of matches)
+
+-- the definitions of a program take the words, and these are the options that stand in them
+pub record AreOptionsIn (app : App) (words : List Text) (matches : ArgMatches) : Type 0 where
+  pub taken : fault_of app words ≡ []
+  pub options : options_of matches ≡ matches_of app words
 
 -- the file of this name; a minus sign alone is a standard stream
 abbrev pub named_file : Text → Option Text

@@ -1,5 +1,6 @@
 //! The options and values that commands take, each with its line of help.
 
+ghost use Rattle.clap.specs.Walk.{Rule};
 ghost use Rattle.aes3_cli.specs.CommandLine.{IsOption, flag, number, rule, settings_option};
 ghost use Rattle.aes3_cli.specs.CommandLine.{file_name, file_option, named_option, number_option};
 ghost use Rattle.aes3_cli.specs.CommandLine.{text_option, word};
@@ -117,11 +118,19 @@ pub(crate) enum Argument {
     Output,
 }
 
-impl Argument {
-    /// The argument's definition, with its line of help.
-    pub(crate) fn define<'a>(self, alloc: Global) -> Arg<'a>
-        ensures { IsOption (rule self) result }
-    {
+/// An option or a value that a program or a command takes.
+pub trait Define: Copy {
+    ghost rule: { Self → Rule };
+
+    /// The definition, with its line of help.
+    fn define<'a>(self, alloc: Global) -> Arg<'a>
+        ensures { IsOption (rule self) result };
+}
+
+impl Define for Argument {
+    ghost rule = { rule };
+
+    fn define<'a>(self, alloc: Global) -> Arg<'a> {
         match self {
             Argument::PackedIn => flag(alloc, "packed-in", "Read packed cells, eight an octet"),
             Argument::RawIn => flag(

@@ -1,10 +1,11 @@
 //! The program's command line, as definitions for `clap`.
 
 ghost use Rattle.std.specs.Prelude.{◌≡◌, [], IfOk, map};
+ghost use Rattle.clap.specs.Simple.{App};
 ghost use Rattle.aes3_cli.specs.CommandLine.{IsDefinedAs, app_with, command, command_line};
-ghost use Rattle.aes3_cli.specs.CommandLine.{program, program_with, rule, shape};
+ghost use Rattle.aes3_cli.specs.CommandLine.{program, program_with, rule, shape, with_rules};
 
-use crate::argument::Argument;
+use crate::argument::{Argument, Define};
 use crate::help::{self, Texts};
 use clap::Command;
 use std::alloc::{AllocError, Global};
@@ -77,8 +78,23 @@ pub fn command_line<'a>(alloc: Global) -> Result<Command<'a>, AllocError>
     Ok(line)
 }
 
-/// The command line of a program without commands, before any arguments are added.
-pub fn program_line<'a>(alloc: Global, name: &'a str, texts: Texts<'a>) -> Command<'a>
+/// The command line of a program without commands, which takes these arguments.
+///
+/// # Errors
+/// `AllocError` if there is no memory.
+pub fn program_line<'a, D: Define>(
+    alloc: Global,
+    name: &'a str,
+    texts: Texts<'a>,
+    arguments: &[D],
+) -> Result<Command<'a>, AllocError>
+    ensures { IfOk result (IsDefinedAs (program_with name.now (map D.rule arguments.now))) }
+{
+    with_arguments(alloc, bare_program(alloc, name, texts), arguments)
+}
+
+/// A program without arguments and commands.
+fn bare_program<'a>(alloc: Global, name: &'a str, texts: Texts<'a>) -> Command<'a>
     ensures { IsDefinedAs (program_with name.now []) result }
 {
     Command::new(alloc, name)
@@ -93,7 +109,7 @@ pub fn program_line<'a>(alloc: Global, name: &'a str, texts: Texts<'a>) -> Comma
 fn program<'a>(alloc: Global) -> Result<Command<'a>, AllocError>
     ensures { IfOk result (IsDefinedAs program) }
 {
-    program_line(alloc, "aes3", help::PROGRAM)
+    bare_program(alloc, "aes3", help::PROGRAM)
         .disable_help_subcommand(true)
         .subcommand_required(true)
         .bin_name("aes3")
@@ -253,10 +269,23 @@ fn command<'a>(
 ) -> Result<Command<'a>, AllocError>
     ensures { IfOk result (IsDefinedAs (app_with (command name.now (map rule arguments.now)))) }
 {
-    let mut command = Command::new(alloc, name)
+    let command = Command::new(alloc, name)
         .about(texts.about)
         .override_usage(texts.usage)
         .after_help(texts.more);
+    with_arguments(alloc, command, arguments)
+}
+
+/// The command with these arguments after those that it has.
+fn with_arguments<'a, D: Define>(
+    alloc: Global,
+    bare: Command<'a>,
+    arguments: &[D],
+) -> Result<Command<'a>, AllocError>
+    ensures { (app : App) → IsDefinedAs app bare.entry
+        → IfOk result (IsDefinedAs (with_rules app (map D.rule arguments.now))) }
+{
+    let mut command = bare;
     for argument in arguments.iter() {
         command = command.arg(argument.define(alloc))?;
     }

@@ -21,10 +21,10 @@ mod unread;
 /// The texts of usage errors.
 pub mod wording;
 
-pub use argument::{flag, repeated_option, text_option};
+pub use argument::{Define, flag, repeated_option, text_option};
 pub use definitions::{command_line, program_line};
 pub use fault::LineFault;
 pub use message::{DONE, REFUSED, USAGE, put_text};
 pub use number::number_of_text;
-pub use options::{file_of_options, output_of_options};
+pub use options::{file_of_options, options_of_words, output_of_options};
 pub use unread::{Unread, words_of_line};

@@ -1,13 +1,43 @@
 //! The options that `clap` found among the words.
 
-ghost use Rattle.std.specs.Prelude.{◌≡◌, option_and_then};
+ghost use Rattle.std.specs.Prelude.{◌≡◌, IfErr, IfOk, map, option_and_then, true};
 ghost use Rattle.std.specs.Option.{option_map};
-ghost use Rattle.aes3_cli.specs.Options.{file_by, name_by, named_file, options_of, output_by};
+ghost use Rattle.clap.specs.Faults.{fault_of, is_simple_and_free};
+ghost use Rattle.clap.specs.Simple.{App};
+ghost use Rattle.aes3_cli.specs.CommandLine.{IsDefinedAs};
+ghost use Rattle.aes3_cli.specs.LineFaults.{IsWordsFault};
+ghost use Rattle.aes3_cli.specs.Options.{AreOptionsIn, file_by, name_by, named_file, options_of, output_by};
 
-use clap::ArgMatches;
+use crate::fault::LineFault;
+use clap::{ArgMatches, Command};
+use std::alloc::Global;
 
 /// The word for a standard stream in place of a file name.
 const STANDARD: &str = "-";
+
+/// The options among these words, by the definitions of a program without commands, which has this
+/// usage.
+///
+/// # Errors
+/// - `Usage` if the words don't fit the definitions.
+/// - `Help` if they ask for help or the version.
+/// - `Memory` if there is no memory.
+pub fn options_of_words<'a>(
+    alloc: Global,
+    line: Command<'a>,
+    usage: &str,
+    words: &'a [&'a str],
+) -> Result<ArgMatches<'a>, LineFault>
+    ensures options { (app : App) → IsDefinedAs app line.entry → is_simple_and_free app ≡ true
+        → IfOk result (AreOptionsIn app (map (λ word. word.now) words.now)) }
+    ensures fault { (app : App) → IsDefinedAs app line.entry → is_simple_and_free app ≡ true
+        → IfErr result (IsWordsFault (fault_of app (map (λ word. word.now) words.now)) usage.now) }
+{
+    match line.try_get_matches_from(words) {
+        Ok(options) => Ok(options),
+        Err(error) => Err(LineFault::of_error(alloc, &error, usage)),
+    }
+}
 
 /// The name of a file; `None` for a standard stream.
 fn named_file<'a>(name: Option<&'a str>) -> Option<&'a str>

@@ -220,20 +220,20 @@ of-run : (line : CommandLine) {streams : Streams} {status : ℕ} → JobRan line
     → ErrorsTold (Ok line) streams.errors status
 of-run line {streams} {status} r = of-answer line _ _ _ r.answer r.failed streams.sink streams.errors status r.run r.told
 
-of-packed : (line : CommandLine) (turned : Bool) (streams : Streams) (status : ℕ)
-    → PackedRan turned line.job line.typed streams status → ErrorsTold (Ok line) streams.errors status
+of-packed : (line : CommandLine) (reversed : Bool) (streams : Streams) (status : ℕ)
+    → PackedRan reversed line.job line.typed streams status → ErrorsTold (Ok line) streams.errors status
 of-packed line true streams status r = elim r [
   | inl k ↦ of-run line k.ran.ran
   | inr k ↦ of-first line streams status k
 ]
 of-packed line false streams status r = of-run line r
 
-of-job : (line : CommandLine) (raw turned : Bool) (streams : Streams) (status : ℕ)
-    → RawBy raw (λ streams. PackedRan turned line.job line.typed streams status) streams
+of-job : (line : CommandLine) (raw reversed : Bool) (streams : Streams) (status : ℕ)
+    → RawBy raw (λ streams. PackedRan reversed line.job line.typed streams status) streams
     → ErrorsTold (Ok line) streams.errors status
-of-job line true turned streams status r =
-    of-packed line turned (read_as r.told_end (as_raw r.counted streams.source) streams) status r.ran
-of-job line false turned streams status r = of-packed line turned streams status r
+of-job line true reversed streams status r =
+    of-packed line reversed (read_as r.told_end (as_raw r.counted streams.source) streams) status r.ran
+of-job line false reversed streams status r = of-packed line reversed streams status r
 
 -- of a line that asks for a job
 pub line_told : {asked : Result CommandLine LineFault} {line : CommandLine} (streams : Streams) (status : ℕ)

@@ -7,7 +7,7 @@ use Rattle.aes3_cell.specs.declared.form.Form.{Form}
 use Rattle.aes3_cell.specs.declared.form.Form.TheVariants.{Text, Packed}
 use Rattle.aes3_cell.specs.Written.{written}
 use Rattle.aes3_cell.proofs.PackedCells.{packed_of-packs}
-use Rattle.aes3_cell_octets.proofs.TurnedOctets.{whole-turned}
+use Rattle.aes3_cell_octets.proofs.ReversedOctets.{whole-reversed}
 use Rattle.aes3_forms_words.specs.declared.form.Words.TheVariants.{Own, Alsa, Am824}
 use Rattle.aes3_forms_words.specs.Lists.{own_of}
 use Rattle.aes3_frame.specs.Blocks.{stream}
@@ -39,7 +39,7 @@ of-blocks Packed bs h e =
     record {
       cells = stream Low bs;
       packs = packed_of-packs (stream Low bs);
-      turned = whole-turned (stream Low bs) (omega (arith, l));
+      reversed = whole-reversed (stream Low bs) (omega (arith, l));
     }
 
 of-normal : (form : Form) (c : List Level) → IsTrue (is_packed form) → PackBoth (written form (normal c))
@@ -59,12 +59,12 @@ of-stream i o (Rewrite change false) h b =
     of-blocks o (rewritten_blocks change (blocks (cells_of i b))) h
     (each-blocks change (blocks (cells_of i b)) (blocks27 (cells_of i b)))
 
-pub can-be-turned : (job : Job) → IsTrue (writes_packed job) → (bytes : List ℕ)
+pub can-be-reversed : (job : Job) → IsTrue (writes_packed job) → (bytes : List ℕ)
     → PackBoth (written_whole job bytes)
-can-be-turned (Encode o Own) h b = of-blocks o (file_blocks b) h (each27-whole b)
-can-be-turned (Encode o Alsa) h b = of-blocks o (file_blocks (own_of Alsa b)) h (each27-whole (own_of Alsa b))
-can-be-turned (Encode o Am824) h b = of-blocks o (file_blocks (own_of Am824 b)) h (each27-whole (own_of Am824 b))
-can-be-turned (Stream i o work) h b = of-stream i o work h b
-can-be-turned (Read i work) h b = absurd cc
-can-be-turned (FromPcm format exact change words) h b = absurd cc
-can-be-turned (FromWav channels mono exact professional change words) h b = absurd cc
+can-be-reversed (Encode o Own) h b = of-blocks o (file_blocks b) h (each27-whole b)
+can-be-reversed (Encode o Alsa) h b = of-blocks o (file_blocks (own_of Alsa b)) h (each27-whole (own_of Alsa b))
+can-be-reversed (Encode o Am824) h b = of-blocks o (file_blocks (own_of Am824 b)) h (each27-whole (own_of Am824 b))
+can-be-reversed (Stream i o work) h b = of-stream i o work h b
+can-be-reversed (Read i work) h b = absurd cc
+can-be-reversed (FromPcm format exact change words) h b = absurd cc
+can-be-reversed (FromWav channels mono exact professional change words) h b = absurd cc

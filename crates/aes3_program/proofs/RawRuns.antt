@@ -36,9 +36,9 @@ raw-ran Ran streams {u₀} {g₀} {counted = counted} {told_end} none old failed
     }
 
 -- the same by the layout
-pub source-raw : (octets : Octets) (job : Job) (typed : TypedSettings) {turned : Bool} (streams : Streams) (status : ℕ)
-    → octets.raw_in ≡ true → turned ≡ (octets.lsb_first && reads_packed job)
-    → RawRan (λ streams. PackedRan turned job typed streams status) streams
+pub source-raw : (octets : Octets) (job : Job) (typed : TypedSettings) {reversed : Bool} (streams : Streams) (status : ℕ)
+    → octets.raw_in ≡ true → reversed ≡ (octets.lsb_first && reads_packed job)
+    → RawRan (λ streams. PackedRan reversed job typed streams status) streams
     → SourceRan octets job typed streams status
 source-raw octets job typed streams status raw is ran =
     subst (λ (r : Bool). RawBy r

@@ -5,8 +5,8 @@ use Rattle.aes3_cell.specs.Ends.{Grew}
 use Rattle.aes3_cell.specs.Packed.{Packs}
 use Rattle.aes3_cell.specs.declared.refusal.RunError.TheVariants.{Read, Write}
 use Rattle.aes3_input.specs.Running.{Movement, Quiet, Failed}
-use Rattle.aes3_cell_octets.specs.Octets.{PacksTurned, turned}
-use Rattle.aes3_cell_octets.specs.Told.{all_turned, only, raw_told, turned_told}
+use Rattle.aes3_cell_octets.specs.Octets.{PacksReversed, reversed}
+use Rattle.aes3_cell_octets.specs.Told.{all_reversed, only, raw_told, reversed_told}
 use Rattle.aes3_status_text.specs.declared.typed.TypedSettings.{TypedSettings}
 use Rattle.aes3_cli_jobs.specs.Forms.{reads_packed, writes_packed}
 use Rattle.aes3_cli_jobs.specs.declared.job.Job.{Job}
@@ -27,19 +27,19 @@ as_raw counted source = record {
 
 -- how a source moved whose octets have their first cell in the lowest bit, as the job reads them: behind its first
 -- octet, which is held back then, if there is one, up to the octet that is held back now, if one is
-abbrev pub as_turned : Option ℕ → Option ℕ → Movement → Movement
-as_turned first held source = record {
-  old = turned_told first source.old;
-  new = turned_told held source.new;
+abbrev pub as_reversed : Option ℕ → Option ℕ → Movement → Movement
+as_reversed first held source = record {
+  old = reversed_told first source.old;
+  new = reversed_told held source.new;
   failed_old = source.failed_old;
   failed_new = source.failed_new;
 }
 
--- how a sink moved as the job wrote to it, where each octet is turned on the way
+-- how a sink moved as the job wrote to it, where each octet is reversed on the way
 abbrev pub written_by : Bool → Movement → Movement
 written_by true sink = record {
-  old = all_turned sink.old;
-  new = all_turned sink.new;
+  old = all_reversed sink.old;
+  new = all_reversed sink.new;
   failed_old = sink.failed_old;
   failed_new = sink.failed_new;
 }
@@ -59,17 +59,17 @@ pub record RawRan (Ran : Streams → Type 0) (streams : Streams) : Type 0 where
   pub ran : Ran (read_as told_end (as_raw counted streams.source) streams)
 
 -- a job on packed cells with the first of each octet in the lowest bit, of which the first octet was read, if there is
--- one: it is run on the octets turned, and the last, which counts, as it is. One octet is held back until the source
+-- one: it is run on the octets reversed, and the last, which counts, as it is. One octet is held back until the source
 -- has ended, and none once the job was told the end.
 pub record BehindRan (first : Option ℕ) (job : Job) (typed : TypedSettings) (streams : Streams) (status : ℕ) : Type 0 where
   pub held : Option ℕ
   pub told_end : Bool
   pub behind_all : held ≡ None → IsTrue streams.ended
   pub before_end : IsTrue told_end → held ≡ None
-  pub ran : JobRan job typed (read_as told_end (as_turned first held streams.source) streams) status
+  pub ran : JobRan job typed (read_as told_end (as_reversed first held streams.source) streams) status
 
 -- the same from the first octet on
-pub record TurnedRan (job : Job) (typed : TypedSettings) (streams : Streams) (status : ℕ) : Type 0 where
+pub record ReversedRan (job : Job) (typed : TypedSettings) (streams : Streams) (status : ℕ) : Type 0 where
   pub first : Option ℕ
   pub begun : Option (List ℕ)
   pub read : Grew streams.source.old begun (only first)
@@ -87,9 +87,9 @@ pub record FirstFailed (streams : Streams) (status : ℕ) : Type 0 where
   pub unread : Grew streams.source.old streams.source.new []
   pub refused : ReadRefused streams.sink streams.errors status
 
--- a job on packed cells whose octets are turned, or on input as it is
+-- a job on packed cells whose octets are reversed, or on input as it is
 abbrev pub PackedRan : Bool → Job → TypedSettings → Streams → ℕ → Type 0
-PackedRan true job typed streams status = TurnedRan job typed streams status ⊎ FirstFailed streams status
+PackedRan true job typed streams status = ReversedRan job typed streams status ⊎ FirstFailed streams status
 PackedRan false job typed streams status = JobRan job typed streams status
 
 -- a run on octets that are raw, or on input as it is
@@ -103,20 +103,20 @@ SourceRan octets job typed streams status =
     RawBy octets.raw_in
     (λ streams. PackedRan (octets.lsb_first && reads_packed job) job typed streams status) streams
 
--- a job whose octets are laid out so: packed cells are turned where they are read and where they are written, and
+-- a job whose octets are laid out so: packed cells are reversed where they are read and where they are written, and
 -- nothing else is
 abbrev pub OctetsRan : Octets → Job → TypedSettings → Streams → ℕ → Type 0
 OctetsRan octets job typed streams status =
     SourceRan octets job typed
     (record streams { sink = written_by (octets.lsb_first && writes_packed job) streams.sink }) status
 
--- octets that pack cells, and turned with the last of them pack the same with the first of each octet in the lowest bit
+-- octets that pack cells, and reversed with the last of them pack the same with the first of each octet in the lowest bit
 pub record PackBoth (octets : List ℕ) : Type 0 where
   pub cells : List Level
   pub packs : Packs octets cells
-  pub turned : PacksTurned (map turned octets) cells
+  pub reversed : PacksReversed (map reversed octets) cells
 
--- whatever a job writes as packed cells can be turned with the last octet: it is whole octets of cells
-abbrev pub OutputsCanBeTurned : Type 0
-OutputsCanBeTurned =
+-- whatever a job writes as packed cells can be reversed with the last octet: it is whole octets of cells
+abbrev pub OutputsCanBeReversed : Type 0
+OutputsCanBeReversed =
     (job : Job) → IsTrue (writes_packed job) → (bytes : List ℕ) → PackBoth (written_whole job bytes)

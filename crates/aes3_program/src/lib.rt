@@ -18,7 +18,7 @@ mod run;
 pub use aes3_cli::{DONE, REFUSED, USAGE, Unread};
 pub use aes3_status_text::TypedSettings;
 pub use job_run::{FAULTY, finish_job, run_job};
-pub use octets::{Ran, outputs_can_be_turned, run_octets};
+pub use octets::{Ran, outputs_can_be_reversed, run_octets};
 pub use outcome::{Met, Outcome, Remark};
 pub use refusal::{put_refusal, refuse};
 pub use run::{run_line, tell_unread};

@@ -3,12 +3,12 @@
 ghost use Rattle.std.specs.Prelude.{◌≡◌, ◌&&◌, ◌<◌, ◌+◌, ◌^◌, IsTrue, None, Some, true};
 ghost use Rattle.aes3_cli_jobs.specs.Forms.{reads_packed};
 ghost use Rattle.aes3_program.specs.Asides.{AsideOfRun};
-ghost use Rattle.aes3_program.specs.OctetRuns.{BehindRan, OctetsRan, OutputsCanBeTurned, PackedRan, SourceRan};
+ghost use Rattle.aes3_program.specs.OctetRuns.{BehindRan, OctetsRan, OutputsCanBeReversed, PackedRan, SourceRan};
 ghost use Rattle.aes3_program.specs.Streams.{PassesOn, streams_of};
 
 use crate::job_run::{finish_begun, finish_job, refuse_unread};
 use aes3_cell::{Sink, Source};
-use aes3_cell_octets::{RawSource, TurnedSink, TurnedSource, first_octet};
+use aes3_cell_octets::{RawSource, ReversedSink, ReversedSource, first_octet};
 use aes3_cli_arguments::Octets;
 use aes3_cli_jobs::{Job, Observer};
 use aes3_status_text::TypedSettings;
@@ -47,7 +47,7 @@ pub fn run_octets<S: Source + Drop, T: Sink + Drop, E: Sink, O: Observer>(
             job,
             typed,
             source,
-            TurnedSink::new(sink),
+            ReversedSink::new(sink),
             errors,
             observer,
         );
@@ -61,7 +61,7 @@ pub fn run_octets<S: Source + Drop, T: Sink + Drop, E: Sink, O: Observer>(
 }
 
 /// Whether octets with this layout are reversed before the job reads them.
-fn turns_input(octets: Octets, job: &Job) -> bool
+fn reverses_input(octets: Octets, job: &Job) -> bool
     ensures { result ≡ octets.lsb_first && reads_packed job.now }
 {
     octets.lsb_first && job.reads_packed()
@@ -86,22 +86,22 @@ fn run_source<S: Source + Drop, T: Sink + Drop, E: Sink, O: Observer>(
     ensures aside { AsideOfRun (Some job.now) E.Sink errors.old errors.new
         O.Observer observer.old observer.new result.status }
 {
-    let is_turned = turns_input(octets, job);
+    let is_reversed = reverses_input(octets, job);
     if octets.raw_in {
         let raw = RawSource::new(source);
-        let ran = run_packed(is_turned, job, typed, raw, sink, errors, observer);
+        let ran = run_packed(is_reversed, job, typed, raw, sink, errors, observer);
         return Ran {
             status: ran.status,
             source: ran.source.into_source(),
             sink: ran.sink,
         };
     }
-    run_packed(is_turned, job, typed, source, sink, errors, observer)
+    run_packed(is_reversed, job, typed, source, sink, errors, observer)
 }
 
 /// Runs a job on packed cells whose octets are reversed, or on unchanged input.
 fn run_packed<S: Source + Drop, T: Sink + Drop, E: Sink, O: Observer>(
-    is_turned: bool,
+    is_reversed: bool,
     job: &Job,
     typed: &TypedSettings<'_>,
     source: S,
@@ -112,14 +112,14 @@ fn run_packed<S: Source + Drop, T: Sink + Drop, E: Sink, O: Observer>(
     requires source_room { S.failed source + 1 < 2 ^ 64 }
     requires sink_room { T.failed sink + 1 < 2 ^ 64 }
     requires errors_room { E.failed errors.old + 1 < 2 ^ 64 }
-    ensures ran { PackedRan is_turned job.now typed.now (streams_of S.Source source result.source
+    ensures ran { PackedRan is_reversed job.now typed.now (streams_of S.Source source result.source
         T.Sink sink result.sink E.Sink errors.old errors.new) result.status }
     ensures passed_on { PassesOn T.Sink sink result.sink }
     ensures aside { AsideOfRun (Some job.now) E.Sink errors.old errors.new
         O.Observer observer.old observer.new result.status }
 {
-    if is_turned {
-        return run_turned(job, typed, source, sink, errors, observer);
+    if is_reversed {
+        return run_reversed(job, typed, source, sink, errors, observer);
     }
     let mut source = source;
     let mut sink = sink;
@@ -133,7 +133,7 @@ fn run_packed<S: Source + Drop, T: Sink + Drop, E: Sink, O: Observer>(
 
 /// Runs a job on packed cells with the first of each octet in the lowest bit. The first octet is
 /// read before the job runs. If that fails, the error is that of the job.
-fn run_turned<S: Source + Drop, T: Sink + Drop, E: Sink, O: Observer>(
+fn run_reversed<S: Source + Drop, T: Sink + Drop, E: Sink, O: Observer>(
     job: &Job,
     typed: &TypedSettings<'_>,
     source: S,
@@ -186,18 +186,18 @@ fn run_behind<S: Source + Drop, T: Sink + Drop, E: Sink, O: Observer>(
     ensures aside { AsideOfRun None E.Sink errors.old errors.new
         O.Observer observer.old observer.new result.status }
 {
-    let mut turned = TurnedSource::new(source, first);
+    let mut reversed = ReversedSource::new(source, first);
     let mut sink = sink;
-    let status = finish_begun(job, typed, &mut turned, &mut sink, errors, observer);
+    let status = finish_begun(job, typed, &mut reversed, &mut sink, errors, observer);
     Ran {
         status,
-        source: turned.into_source(),
+        source: reversed.into_source(),
         sink,
     }
 }
 
 /// Packed cells that a job writes can be reversed together with the last octet, since they are
 /// whole octets.
-pub fn outputs_can_be_turned()
-    ensures { OutputsCanBeTurned }
+pub fn outputs_can_be_reversed()
+    ensures { OutputsCanBeReversed }
 {}

@@ -16,14 +16,10 @@ rule (Named error) = settings_option (name_of error)
 rule Every = text_option (codes "every")
 rule File = file
 
--- the program with these
-abbrev pub line_with : List Argument → App
-line_with arguments = program_with (codes "aes3-spoil") (map rule arguments)
-
 -- the program
 abbrev pub spoil_line : App
-spoil_line = line_with
+spoil_line = program_with (codes "aes3-spoil") (map rule
     (PackedIn ∷ PackedOut
     ∷ Named named.Cell ∷ Named named.Invert ∷ Named named.Lost ∷ Named named.Double
     ∷ Named named.Parity ∷ Named named.Biphase ∷ Named named.Preamble ∷ Named named.CheckByte
-    ∷ Every ∷ File ∷ [])
+    ∷ Every ∷ File ∷ []))

@@ -6,7 +6,7 @@ ghost use Rattle.aes3_spoil_runs.specs.SpoilLine.{rule};
 ghost use Rattle.std.specs.Prelude.{◌≡◌};
 
 use crate::named::NamedError;
-use aes3_cli::{flag, repeated_option, text_option};
+use aes3_cli::{Define, flag, repeated_option, text_option};
 use clap::Arg;
 use std::alloc::Global;
 
@@ -41,11 +41,10 @@ pub(crate) const ARGUMENTS: [Argument; 12] = [
     Argument::File,
 ];
 
-impl Argument {
-    /// The argument's definition, with its line of help.
-    pub(crate) fn define<'a>(self, alloc: Global) -> Arg<'a>
-        ensures { IsOption (rule self) result }
-    {
+impl Define for Argument {
+    ghost rule = { rule };
+
+    fn define<'a>(self, alloc: Global) -> Arg<'a> {
         match self {
             Argument::PackedIn => flag(alloc, "packed-in", "Read packed cells, eight an octet"),
             Argument::PackedOut => flag(alloc, "packed-out", "Write packed cells, eight an octet"),

@@ -4,14 +4,12 @@ ghost use Rattle.std.specs.Prelude.{◌≡◌, ◌++◌, [], IfErr, IfOk, IfSome
 ghost use Rattle.std.specs.List.{All, flat_map};
 ghost use Rattle.std.specs.Option.{option_map};
 ghost use Rattle.clap.specs.Walk.{first_of};
-ghost use Rattle.aes3_cli.specs.CommandLine.{IsDefinedAs};
 ghost use Rattle.aes3_cli.specs.Options.{file_by, options_of};
 ghost use Rattle.aes3_spoil.specs.Errors.{errors_of};
 ghost use Rattle.aes3_spoil_runs.specs.Asks.{AreValues, AsksFor, IsEvery, IsFormOf, IsJobOf, IsValue};
 ghost use Rattle.aes3_spoil_runs.specs.Asks.{all_errors, errors_by, errors_in, every_by, named_errors};
 ghost use Rattle.aes3_spoil_runs.specs.Faults.{IsFaultOf, IsOptionFault, IsWrongAfter};
 ghost use Rattle.aes3_spoil_runs.specs.Faults.{IsWrongAt, IsWrongIn, IsWrongWith};
-ghost use Rattle.aes3_spoil_runs.specs.SpoilLine.{line_with, spoil_line};
 
 use crate::argument::ARGUMENTS;
 use crate::help::PROGRAM;
@@ -19,10 +17,10 @@ use crate::named::{NAMED, NamedError};
 use crate::value::{every_of_text, spot_of_text};
 use crate::wrong::{Wrong, wrong_fault};
 use aes3_cell::Form;
-use aes3_cli::{LineFault, file_of_options, program_line};
+use aes3_cli::{LineFault, file_of_options, options_of_words, program_line};
 use aes3_spoil::Errors;
-use clap::{ArgMatches, Command};
-use std::alloc::{AllocError, Global};
+use clap::ArgMatches;
+use std::alloc::Global;
 
 /// A job of the program.
 #[derive(Clone, Copy)]
@@ -38,17 +36,6 @@ pub struct Job<'a> {
     pub file: Option<&'a str>,
 }
 
-/// The command line.
-fn command_line<'a>(alloc: Global) -> Result<Command<'a>, AllocError>
-    ensures { IfOk result (IsDefinedAs spoil_line) }
-{
-    let mut line = program_line(alloc, "aes3-spoil", PROGRAM);
-    for argument in ARGUMENTS.iter() {
-        line = line.arg(argument.define(alloc))?;
-    }
-    Ok(line)
-}
-
 /// The job of a command line without the program's name. It reads no input.
 ///
 /// # Errors
@@ -60,11 +47,9 @@ pub fn job_of_words<'a>(alloc: Global, words: &'a [&'a str]) -> Result<Job<'a>, 
     ensures job { IfOk result (IsJobOf (map (λ word. word.now) words.now)) }
     ensures fault { IfErr result (IsFaultOf (map (λ word. word.now) words.now)) }
 {
-    let command = command_line(alloc)?;
-    match command.try_get_matches_from(words) {
-        Ok(options) => job_of_options(alloc, &options),
-        Err(error) => Err(LineFault::of_error(alloc, &error, PROGRAM.usage)),
-    }
+    let line = program_line(alloc, "aes3-spoil", PROGRAM, &ARGUMENTS)?;
+    let options = options_of_words(alloc, line, PROGRAM.usage, words)?;
+    job_of_options(alloc, &options)
 }
 
 /// The job of these options.

@@ -179,8 +179,8 @@ impl WaveInput {
         self.take_pairs(change, sink, octets, count, &wide[..PAIR_LEN * count])
     }
 
-    /// Takes whole frames if no frame is begun and their octets are samples in this form. It equals
-    /// `take_each`, which takes four times as long.
+    /// Takes whole frames if no frame is begun and their octets are samples in this form. One by
+    /// one they would take four times as long.
     fn take_block<T: Sink>(
         &mut self,
         change: &mut Change,
@@ -205,28 +205,6 @@ impl WaveInput {
         }
     }
 
-    /// Takes whole frames one by one, if no frame is begun.
-    fn take_each<T: Sink>(
-        &mut self,
-        change: &mut Change,
-        sink: &mut T,
-        octets: &[u8],
-    ) -> Result<usize, RunError>
-        requires some { frame_len self.old.format ≤ length octets.now }
-        requires samples { length octets.now ≤ self.old.left }
-        requires none { self.old.at ≡ 0 }
-        requires room { T.failed sink.old + 1 < 2 ^ 64 }
-        requires following { (b : List ℕ) × (length b + length octets.now ≤ 2 ^ 40)
-            × (state_of self.old change.old).follows b }
-        ensures { FrontRan (state_of self.old change.old) (state_of self.new change.new) octets.now
-            (movement_of T.taken T.failed sink.old sink.new) result }
-    {
-        let count = self.frames_due(octets);
-        let mut wide = [0; BLOCK_BYTES];
-        put_each(self.format, self.channels, octets, count, &mut wide);
-        self.take_pairs(change, sink, octets, count, &wide[..PAIR_LEN * count])
-    }
-
     /// Takes whole frames, if no frame is begun, and returns how many octets they have.
     fn take_frames<T: Sink>(
         &mut self,
@@ -246,7 +224,12 @@ impl WaveInput {
         match form_of(self.format, self.channels) {
             Some(SampleFormat::S32) => self.take_wide(change, sink, octets),
             Some(form) => self.take_block(change, sink, octets, form),
-            None => self.take_each(change, sink, octets),
+            None => {
+                let count = self.frames_due(octets);
+                let mut wide = [0; BLOCK_BYTES];
+                put_each(self.format, self.channels, octets, count, &mut wide);
+                self.take_pairs(change, sink, octets, count, &wide[..PAIR_LEN * count])
+            }
         }
     }
 

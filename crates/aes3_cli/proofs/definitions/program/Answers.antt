@@ -13,7 +13,7 @@ returns c =
           ∙ (ap app_of_fields c.subcommand_required.ensures
           ∙ ap (on_top (λ s. record s { subcommand_required = true }))
           (ap app_of_fields c.disable_help_subcommand.ensures
-          ∙ ap (on_top (λ s. record s { disable_help_subcommand = true })) c.program_line.ensures.0)),
+          ∙ ap (on_top (λ s. record s { disable_help_subcommand = true })) c.bare_program.ensures.0)),
       ap globals is.0 ∙ (ap globals c.subcommand_required.ensures ∙ (ap globals c.disable_help_subcommand.ensures
-          ∙ c.program_line.ensures.1)),
+          ∙ c.bare_program.ensures.1)),
     )) c.bin_name.ensures

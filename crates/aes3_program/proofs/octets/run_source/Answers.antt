@@ -13,8 +13,8 @@ returns-then-octets-clause-ran g c =
     subst (λ source. SourceRan c.args.octets job typed (streams_of g.S.Source c.args.source source
     g.T.Sink c.args.sink ran.result.sink g.E.Sink c.args.errors.now ran.new.errors) status)
     (sym c.into_source.ensures.source)
-    (source-raw c.args.octets job typed _ status c.if-octets.true c.turns_input-is_turned.ensures
-    (raw-ran (λ streams. PackedRan c.turns_input-is_turned.result job typed streams status) _
+    (source-raw c.args.octets job typed _ status c.if-octets.true c.reverses_input-is_reversed.ensures
+    (raw-ran (λ streams. PackedRan c.reverses_input-is_reversed.result job typed streams status) _
     c.new-raw.ensures.uncounted (ap g.S.Source.given c.new-raw.ensures.source)
     (ap g.S.Source.failed c.new-raw.ensures.source)
     (λ h. subst (λ source. IsTrue (g.S.Source.has_ended source)) c.into_source.ensures.source

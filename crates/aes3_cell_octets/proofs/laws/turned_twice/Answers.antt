@@ -1,5 +1,0 @@
-use Rattle.aes3_cell_octets.proofs.TurnedOctets.{are-octets, octets-twice}
-use Rattle.aes3_cell_octets.proofs.laws.turned_twice.Goals as goal
-
-pub returns : goal.returns
-returns c = λ octets. (octets-twice octets, are-octets octets)

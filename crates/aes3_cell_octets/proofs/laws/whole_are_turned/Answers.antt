@@ -1,5 +1,0 @@
-use Rattle.aes3_cell_octets.proofs.TurnedOctets.{whole-turned}
-use Rattle.aes3_cell_octets.proofs.laws.whole_are_turned.Goals as goal
-
-pub returns : goal.returns
-returns c = whole-turned

@@ -1,6 +1,0 @@
-use Rattle.std.proofs.Common.{◌≡◌, ◌*◌, ◌++◌, take, drop, map}
-use Rattle.aes3_cell_octets.specs.Octets.{turned}
-use Rattle.aes3_cell_octets.proofs.turning.turn.Given as goal
-
-abbrev pub invariant-loop-i : goal.invariant-loop-i
-invariant-loop-i l = l.octets ≡ map turned (take (8 * l.i) l.fn.octets) ++ drop (8 * l.i) l.fn.octets
