@@ -57,6 +57,7 @@ pub record AsksFor (options : Options) (job : Job) : Type 0 where
   pub period : job.period ≡ period_of (rate_by options) (at_by options)
   pub tell_wants_rate : first_of (codes "rate") options ≡ None → one_of (codes "tell") options ≡ Some (codes "true") → ⊥
   pub tell : IsChosen options (codes "tell") (rate_by options) None job.tell_each
+  pub picture : option_map (λ name. name.now) job.picture ≡ first_of (codes "picture") options
   pub file : option_map (λ name. name.now) job.file ≡ file_by options
 
 -- why the definitions do not take the words: `--help` or `--version` is among them, or a fault; empty where they

@@ -4,7 +4,7 @@ use Rattle.clap.specs.Walk.{Rule}
 use Rattle.clap.specs.Simple.{App}
 use Rattle.aes3_cli.specs.CommandLine.{file, flag, packed_out, program_with, text_option}
 use Rattle.aes3_capture_runs.specs.declared.argument.Argument.{Argument}
-use Rattle.aes3_capture_runs.specs.declared.argument.Argument.TheVariants.{Rate, At, Unit, Bit, PackedOut, Tell, File}
+use Rattle.aes3_capture_runs.specs.declared.argument.Argument.TheVariants.{Rate, At, Unit, Bit, PackedOut, Tell, Picture, File}
 
 -- the options and values
 abbrev pub rule : Argument → Rule
@@ -14,6 +14,7 @@ rule Unit = text_option (codes "unit")
 rule Bit = text_option (codes "bit")
 rule PackedOut = packed_out
 rule Tell = flag (codes "tell")
+rule Picture = text_option (codes "picture")
 rule File = file
 
 -- the program with these
@@ -22,4 +23,4 @@ line_with arguments = program_with (codes "aes3-cells") (map rule arguments)
 
 -- the program
 abbrev pub cells_line : App
-cells_line = line_with (Rate ∷ At ∷ Unit ∷ Bit ∷ PackedOut ∷ Tell ∷ File ∷ [])
+cells_line = line_with (Rate ∷ At ∷ Unit ∷ Bit ∷ PackedOut ∷ Tell ∷ Picture ∷ File ∷ [])

@@ -22,18 +22,21 @@ pub(crate) enum Argument {
     PackedOut,
     /// `--tell`: what was found is reported during the run.
     Tell,
+    /// `--picture FILE`: the file to which a picture of the capture is written.
+    Picture,
     /// The name of the file that is read instead of standard input.
     File,
 }
 
 /// All arguments, in the order in which help lists them.
-pub(crate) const ARGUMENTS: [Argument; 7] = [
+pub(crate) const ARGUMENTS: [Argument; 8] = [
     Argument::Rate,
     Argument::At,
     Argument::Unit,
     Argument::Bit,
     Argument::PackedOut,
     Argument::Tell,
+    Argument::Picture,
     Argument::File,
 ];
 
@@ -67,6 +70,14 @@ impl Argument {
                     alloc,
                     "tell",
                     "Print once a second what was found; needs --rate",
+                )
+            }
+            Argument::Picture => {
+                text_option(
+                    alloc,
+                    "picture",
+                    "FILE",
+                    "Draw the jitter of the line's edges into an SVG file",
                 )
             }
             Argument::File => Arg::new(alloc, "FILE").help(

@@ -23,6 +23,10 @@ At the end, one line on standard error says what was found:
 With --tell the line also comes every --rate samples, and when the signal stops. A
 further line warns if cells are likely to be wrong.
 
+With --picture a picture in SVG shows how far rising and falling edges are from their
+places, with AES3's jitter tolerance, the length of a cell over time, and where there
+was no signal. If it can't be written, the cells are written all the same.
+
 A file of another kind is rejected by its first bytes: a sound file, VCD, CSV, a session
 of sigrok, a compressed file, a program, or cells. `man aes3-cells` has a command for
 each kind of capture file.
@@ -32,6 +36,6 @@ Exit status:
   1  no line was found, or the input is not a capture. With --rate and --at the cells
      are written even if no line was found
   2  usage error; standard error says why
-  3  the input or the output failed
+  3  the input, the output or the picture failed
 ",
 };

@@ -15,6 +15,7 @@ ghost use Rattle.aes3_capture_runs.specs.Values.{bit_in, frequency_in, octets_in
 
 use crate::argument::ARGUMENTS;
 use crate::help::PROGRAM;
+use crate::picture::picture_of_options;
 use crate::value::{bit_of_text, frequency_of_text, octets_of_text, period_of};
 use crate::wrong::{Wrong, wrong_fault};
 use aes3_capture_recovery::Unit;
@@ -38,6 +39,8 @@ pub struct Job<'a> {
     pub period: Option<u64>,
     /// How many samples come between two lines of what was found, if it is reported during the run.
     pub tell_each: Option<u64>,
+    /// The name of the file to which a picture of the capture is written.
+    pub picture: Option<&'a str>,
     /// The name of the file that is read instead of standard input.
     pub file: Option<&'a str>,
 }
@@ -105,6 +108,7 @@ fn job_by<'a>(options: &ArgMatches<'a>) -> Result<Job<'a>, Wrong>
         rate,
         period,
         tell_each: tell_each(options, rate),
+        picture: picture_of_options(options),
         file: file_of_options(options),
     })
 }

@@ -13,6 +13,7 @@ use crate::figures::{figures_line, found_text, no_line_text};
 use crate::line::{Job, unit_of_job};
 use crate::look::Look;
 use crate::other_file::{FIRST_LEN, advice_on_other};
+use crate::picture::run_pictured;
 use crate::search::line_bit;
 use aes3_capture_recovery::{Figures, Progress, Recovery, Refusal, Unit, recover};
 use aes3_cell::{BufferedSink, Fault, Sink, Source, StdSink, StdSource, write_all};
@@ -63,15 +64,18 @@ pub fn run_capture<E: Sink>(
     let is_shown = rt.stdout().is_terminal();
     let output = Clearing::new(StdSink::new(rt.stdout().lock()), told, shown, is_shown);
     let mut sink = BufferedSink::new(rt.alloc(), output)?;
-    let status = run_job(
-        rt.alloc(),
-        job,
-        found,
-        &look,
-        &mut source,
-        &mut sink,
-        messages,
-    );
+    let status = match job.picture {
+        Some(name) => run_pictured(rt, job, name, found, &look, source, &mut sink, messages),
+        None => run_job(
+            rt.alloc(),
+            job,
+            found,
+            &look,
+            &mut source,
+            &mut sink,
+            messages,
+        ),
+    };
     say_trouble(rt, job.file, trouble.get(), messages);
     Ok(status)
 }
@@ -115,7 +119,7 @@ pub fn say<E: Sink>(text: &str, messages: &mut E)
 }
 
 /// Says that there was no memory, and returns the exit status.
-fn say_memory<E: Sink>(messages: &mut E) -> u8
+pub(crate) fn say_memory<E: Sink>(messages: &mut E) -> u8
     requires { E.failed messages.old + 1 < 2 ^ 64 }
     ensures status { result ≡ 3 }
     ensures text { E.failed messages.new ≡ E.failed messages.old
