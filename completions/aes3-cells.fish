@@ -6,5 +6,6 @@ complete -c aes3-cells -l bit -x -a '(seq 0 15)' -d 'The bit of a sample that is
 complete -c aes3-cells -l packed-out -d 'Write packed cells, eight an octet'
 complete -c aes3-cells -l tell -d 'Print once a second what was found; needs --rate'
 complete -c aes3-cells -l places -d 'Copy a report of aes3, and add the sample of each cell that it names'
+complete -c aes3-cells -l picture -r -F -d 'Draw the jitter of the edges into an SVG file'
 complete -c aes3-cells -s h -l help -d 'Print help'
 complete -c aes3-cells -s V -l version -d 'Print version'

@@ -98,6 +98,7 @@ part_with python3 bin/make-manual --check "$program"
 part_with python3 bin/make-reference --check
 part tests/manual.sh
 part_with python3 tests/completions.py "$program"
+part_with python3 tests/pictures.py "$root/crates/aes3_cells_program/out/aes3_cells_program" "$program"
 part tests/captures.sh "$root/crates/aes3_cells_program/out/aes3_cells_program" "$program"
 part tests/other_files.sh "$program" "$root/crates/aes3_cells_program/out/aes3_cells_program"
 part tests/capture_files.sh "$program" "$root/crates/aes3_cells_program/out/aes3_cells_program"

@@ -59,6 +59,7 @@ pub record AsksFor (options : Options) (job : Job) : Type 0 where
   pub tell : IsChosen options (codes "tell") (rate_by options) None job.tell_each
   pub places : IsChosen options (codes "places") true false job.places
   pub places_want_file : file_by options ≡ None → one_of (codes "places") options ≡ Some (codes "true") → ⊥
+  pub picture : option_map (λ name. name.now) job.picture ≡ first_of (codes "picture") options
   pub file : option_map (λ name. name.now) job.file ≡ file_by options
 
 -- why the definitions do not take the words: `--help` or `--version` is among them, or a fault; empty where they

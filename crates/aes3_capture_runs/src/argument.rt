@@ -24,12 +24,14 @@ pub(crate) enum Argument {
     Tell,
     /// `--places`: a report is copied, with the samples of the cells that it names.
     Places,
+    /// `--picture FILE`: the file to which a picture of the capture is written.
+    Picture,
     /// The name of the file that is read instead of standard input.
     File,
 }
 
 /// All arguments, in the order in which help lists them.
-pub(crate) const ARGUMENTS: [Argument; 8] = [
+pub(crate) const ARGUMENTS: [Argument; 9] = [
     Argument::Rate,
     Argument::At,
     Argument::Unit,
@@ -37,6 +39,7 @@ pub(crate) const ARGUMENTS: [Argument; 8] = [
     Argument::PackedOut,
     Argument::Tell,
     Argument::Places,
+    Argument::Picture,
     Argument::File,
 ];
 
@@ -76,6 +79,14 @@ impl Define for Argument {
                     alloc,
                     "places",
                     "Copy a report of aes3, and add the sample of each cell that it names",
+                )
+            }
+            Argument::Picture => {
+                text_option(
+                    alloc,
+                    "picture",
+                    "FILE",
+                    "Draw the jitter of the line's edges into an SVG file",
                 )
             }
             Argument::File => Arg::new(alloc, "FILE").help(

@@ -28,6 +28,10 @@ standard output, and adds to each line that names a cell the sample of FILE that
 cell begins at, ` sample N`, and with --rate its time, ` seconds S`. Example:
   aes3 check --gaps line.txt | aes3-cells --rate 24M --places capture.bin
 
+With --picture a picture in SVG shows how far rising and falling edges are from their
+places, with AES3's jitter tolerance, the length of a cell over time, and where there
+was no signal. If it can't be written, the cells are written all the same.
+
 A file of another kind is rejected by its first bytes: a sound file, VCD, CSV, a session
 of sigrok, a compressed file, a program, or cells. `man aes3-cells` has a command for
 each kind of capture file.
@@ -37,6 +41,6 @@ Exit status:
   1  no line was found, or the input is not a capture. With --rate and --at the cells
      are written even if no line was found. With --places: a cell was not found
   2  usage error; standard error says why
-  3  the input or the output failed
+  3  the input, the output or the picture failed
 ",
 };

@@ -14,6 +14,8 @@ mod line;
 mod look;
 /// What to do with a file that is no capture.
 mod other_file;
+/// A picture of the capture of a job.
+mod picture;
 /// A report that is copied, with the places of its cells in the capture.
 mod report;
 /// A job on a file, standard input or any source and sink, and what is reported of it.

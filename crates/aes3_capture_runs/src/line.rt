@@ -14,6 +14,7 @@ ghost use Rattle.aes3_capture_runs.specs.Values.{bit_in, frequency_in, octets_in
 
 use crate::argument::ARGUMENTS;
 use crate::help::PROGRAM;
+use crate::picture::picture_of_options;
 use crate::value::{bit_of_text, frequency_of_text, octets_of_text, period_of};
 use crate::wrong::{Wrong, wrong_fault};
 use aes3_capture_recovery::Unit;
@@ -39,6 +40,8 @@ pub struct Job<'a> {
     pub tell_each: Option<u64>,
     /// Whether a report is copied from standard input, with the samples of the cells that it names.
     pub places: bool,
+    /// The name of the file to which a picture of the capture is written.
+    pub picture: Option<&'a str>,
     /// The name of the file that is read instead of standard input.
     pub file: Option<&'a str>,
 }
@@ -96,6 +99,7 @@ fn job_by<'a>(options: &ArgMatches<'a>) -> Result<Job<'a>, Wrong>
         period,
         tell_each: tell_each(options, rate),
         places,
+        picture: picture_of_options(options),
         file,
     })
 }

@@ -13,6 +13,7 @@ use crate::figures::{figures_line, found_text, no_line_text};
 use crate::line::{Job, unit_of_job};
 use crate::look::Look;
 use crate::other_file::{FIRST_LEN, advice_on_other};
+use crate::picture::run_pictured;
 use crate::report::run_places;
 use crate::search::line_bit;
 use aes3_capture_recovery::{Figures, Progress, Recovery, Refusal, Unit, recover};
@@ -64,28 +65,30 @@ pub fn run_capture<E: Sink>(
     let is_shown = rt.stdout().is_terminal();
     let output = Clearing::new(StdSink::new(rt.stdout().lock()), told, shown, is_shown);
     let mut sink = BufferedSink::new(rt.alloc(), output)?;
-    let status = if job.places {
-        let mut report = StdSource::new(rt.stdin());
-        run_places(
+    let status = match job.picture {
+        _ if job.places => {
+            let mut report = StdSource::new(rt.stdin());
+            run_places(
+                rt.alloc(),
+                job,
+                found,
+                &look,
+                &mut report,
+                &mut source,
+                &mut sink,
+                messages,
+            )
+        }
+        Some(name) => run_pictured(rt, job, name, found, &look, source, &mut sink, messages),
+        None => run_job(
             rt.alloc(),
             job,
             found,
             &look,
-            &mut report,
             &mut source,
             &mut sink,
             messages,
-        )
-    } else {
-        run_job(
-            rt.alloc(),
-            job,
-            found,
-            &look,
-            &mut source,
-            &mut sink,
-            messages,
-        )
+        ),
     };
     say_trouble(rt, job.file, trouble.get(), messages);
     Ok(status)
