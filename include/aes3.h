@@ -27,7 +27,7 @@
  *
  * Stack in bytes that a call used (examples/c/stack.c, x86-64):
  *
- * - aes3_recovery_take(): 9,472
+ * - aes3_recovery_take(): 9,520
  * - aes3_recovery_finish(): 7,056
  * - aes3_blocks_of_samples(): 6,248
  * - aes3_capture_cells(): 5,552
