@@ -27,7 +27,7 @@
  *
  * Stack in bytes that a call used (examples/c/stack.c, x86-64):
  *
- * - aes3_recovery_take(): 9,472
+ * - aes3_recovery_take(): 9,520
  * - aes3_recovery_finish(): 7,056
  * - aes3_blocks_of_samples(): 6,248
  * - aes3_capture_cells(): 5,552
@@ -1189,9 +1189,9 @@ void aes3_recovery_init(aes3_recovery *recovery, uint64_t period);
  * @param[out] cells  packed cells; unchanged after `*put` octets
  * @param room  how many octets there is room for, at least 1
  * @param[out] put  how many octets of cells were put
- * @return true if all whole samples were taken, else false. If it took none though `*put` is less than `room` and there were some, then
- *     the cells of the next 4,032 octets are more than 1,024 stretches of equal octets. No capture was seen to have so many: then give
- *     fewer samples.
+ * @return true if all whole samples were taken, else false. Then `cells` is full, or some samples were taken, or aes3_recovery_finish()
+ *     was called before. Otherwise the cells of the next two octets of samples are more than 1,024 stretches of equal octets, and can't
+ *     be kept: no capture was seen to have so many.
  *
  * @code
  * static uint8_t samples[4 * 24576], packed[24576];
@@ -1225,7 +1225,8 @@ bool aes3_recovery_take(aes3_recovery *recovery, const uint8_t *samples, size_t 
  * @param[out] cells  packed cells; unchanged after `*put` octets
  * @param room  how many octets there is room for, at least 1
  * @param[out] put  how many octets of cells were put, fewer than `room` if the call returns true
- * @return true if all cells were put; else false
+ * @return true if all cells were put; else false, and `cells` is full. Otherwise the last cells are more than 1,024 stretches of equal
+ *     octets, likewise.
  *
  * @code
  * static aes3_recovery recovery;

@@ -102,11 +102,11 @@ shown() { # PYTHON
 
 # The examples of python/README.md, one after the other, with a block of samples.
 {
-    printf 'import numpy\nsamples = numpy.zeros((192, 2), numpy.int32)\n'
+    printf 'import numpy\nsamples, pieces = numpy.zeros((192, 2), numpy.int32), [bytes(100)]\n'
     sed -n '/^```python$/,/^```$/p' "$root/python/README.md" | sed '/^```/d'
 } >readme.py
 readme() { # PYTHON
-    "$1" readme.py >got && [ "$(sed -n '1p;2s/ .*//p;3p' got | tr '\n' ,)" = "whole at 0 before 0,48000,a block at cell 0," ]
+    "$1" readme.py >got && [ "$(sed -n '1p;2s/ .*//p;3p' got | tr '\n' ,)" = "whole at 0 before 0,48000,a block at cell 0," ] && [ "$(sed -n '$p' got)" = "0 cells" ]
 }
 
 # What each says of itself, and of a word that it does not know.

@@ -36,6 +36,8 @@ _Cells = c.c_uint64 * 384
 _Samples = c.c_int32 * 384
 _Status = c.c_uint8 * 24
 
+_ROOM = 4096  # octets of cells that a recovery puts in one call
+
 
 def _library() -> c.CDLL:
     name = "libaes3.so.1"
@@ -77,6 +79,10 @@ class _Capture(c.Structure):
     _fields_ = [(name, c.c_uint64) for name in ("octets", *FOUND)]
 
 
+class _Recovery(c.Structure):
+    _fields_ = [("state", c.c_uint64 * 813)]
+
+
 class _Wav(c.Structure):
     _fields_ = [("start", c.c_uint64), ("len", c.c_uint64), ("rate", c.c_uint32), ("channels", c.c_uint16), ("octets", c.c_uint8),
                 ("bits", c.c_uint8)]
@@ -104,6 +110,9 @@ _before = _declare("aes3_account_before", c.c_bool, _at, _at, _at)
 _passed = _declare("aes3_account_passed", c.c_bool, _at, c.c_uint64, _at)
 _end = _declare("aes3_account_end", c.c_bool, _at, c.c_uint64, _at)
 _encode_block = _declare("aes3_encode_block", c.c_uint32, _at, c.c_uint8, _at)
+_encode_blocks = _declare("aes3_encode_blocks", c.c_size_t, _at, c.c_size_t, c.c_uint8, _at, c.c_size_t)
+_samples_of_blocks = _declare("aes3_samples_of_blocks", c.c_size_t, _at, c.c_size_t, c.c_uint8, _at, c.c_size_t)
+_blocks_of_samples = _declare("aes3_blocks_of_samples", c.c_size_t, _at, c.c_size_t, c.c_uint8, _at, c.c_size_t)
 _block_samples = _declare("aes3_block_samples", c.c_uint32, _at, _at)
 _block_of_samples = _declare("aes3_block_of_samples", None, _at, _at)
 _bits = {
@@ -116,6 +125,10 @@ _status_text = _declare("aes3_status_text", c.c_uint32, _at, _at)
 _capture_cells = _declare(
     "aes3_capture_cells", c.c_bool, _at, c.c_size_t, c.c_uint8, c.c_uint8, c.c_uint64, _at, c.c_size_t, _at
 )
+_recovery_init = _declare("aes3_recovery_init", None, _at, c.c_uint64)
+_recovery_take = _declare("aes3_recovery_take", c.c_bool, _at, _at, c.c_size_t, c.c_uint8, c.c_uint8, _at, _at, c.c_size_t, _at)
+_recovery_finish = _declare("aes3_recovery_finish", c.c_bool, _at, _at, c.c_size_t, _at)
+_recovery_figures = _declare("aes3_recovery_figures", None, _at, _at)
 _wav_read = _declare("aes3_wav_read", c.c_uint8, _at, c.c_size_t, _at, _at)
 _wav_samples = _declare("aes3_wav_samples", c.c_size_t, _at, c.c_uint16, c.c_uint16, _at, c.c_size_t, _at, c.c_size_t)
 _wav_write = _declare("aes3_wav_write", c.c_uint32, c.c_uint8, c.c_uint32, c.c_uint64, _at)
@@ -416,15 +429,99 @@ def cells_of_samples(samples: Octets, bit: int = 0, unit: int = 1, period: int =
     A sample has `unit` octets, 1 or 2, the lower first; a cell is `period` 65,536ths of a sample, or is measured. What was found is a
     dict by the names of aes3.h: `measured` is 0 where no line was. The cells are then by `period` alone, if it was given, and unconfirmed.
     """
-    unit = _number(unit, "the number of octets of a sample", 1, 2)
-    bit = _number(bit, "the bit of a sample", 0, 8 * unit - 1)
-    period = _number(period, "the period of a cell", 0, 2**64 - 1, ", in 65,536ths of a sample")
+    bit, unit, period = _line_in(bit, unit, period)
     owner, at, count = _octets_in(samples, "the octets of samples")
     room, found = (c.c_uint8 * (count // 4 + 64))(), _Capture()
     if not _capture_cells(at, count, unit, bit, period, room, len(room), c.byref(found)):
         raise ValueError("the cells are more than samples can have")
     del owner
-    return bytes(memoryview(room)[: found.octets]), {name: getattr(found, name) for name in FOUND}
+    return bytes(memoryview(room)[: found.octets]), _figures_of(found)
+
+
+def _line_in(bit: Any, unit: Any, period: Any) -> Tuple[int, int, int]:
+    """The bit that is the line, the octets of a sample, and the period of a cell."""
+    unit = _number(unit, "the number of octets of a sample", 1, 2)
+    bit = _number(bit, "the bit of a sample", 0, 8 * unit - 1)
+    return bit, unit, _number(period, "the period of a cell", 0, 2**64 - 1, ", in 65,536ths of a sample")
+
+
+def _figures_of(found: _Capture) -> Dict[str, int]:
+    return {name: getattr(found, name) for name in FOUND}
+
+
+class Recovery:
+    """Recovers the cells of a line from a capture that comes in pieces.
+
+        recovery, line = aes3.Recovery(bit=3), b""
+        for samples in pieces:
+            line += recovery.take(samples)
+        samples, reports, status = aes3.decode(line + recovery.finish())
+
+    The options are those of `cells_of_samples`, and the octets of all calls, one after the other, are those that it gives of all samples
+    at once. A piece may have any length, and may end inside a sample of two octets.
+    """
+
+    def __init__(self, bit: int = 0, unit: int = 1, period: int = 0) -> None:
+        self._bit, self._unit, period = _line_in(bit, unit, period)
+        self._recovery, self._cut, self._is_ended = _Recovery(), b"", False
+        _recovery_init(c.byref(self._recovery), period)
+
+    def take(self, samples: Octets) -> bytes:
+        """The octets of the cells that these samples decide, eight cells each. Until a line is found there are none."""
+        if self._is_ended:
+            raise ValueError("a recovery takes no samples after finish: a new Recovery takes those of another capture")
+        octets, at, count = _octets_in(samples, "the octets of samples")
+        if self._cut:
+            at = octets = self._cut + bytes(octets)
+            count += 1
+        whole = count - count % self._unit
+        self._cut = bytes(octets[whole:])
+        if not isinstance(at, int):
+            at = c.cast(c.c_char_p(at), c.c_void_p).value or 0
+        taken, done = c.c_size_t(), 0
+
+        def put_cells(room: Any, put: Any) -> bool:
+            nonlocal done
+            is_all = _recovery_take(
+                c.byref(self._recovery), at + done, whole - done, self._unit, self._bit, c.byref(taken), room, _ROOM, c.byref(put)
+            )
+            done += taken.value
+            if not taken.value and not is_all and put.value < _ROOM:
+                raise OverflowError("the cells of one sample are more than a recovery keeps")
+            return bool(is_all) and put.value < _ROOM
+
+        return _all_put(put_cells) if whole else b""
+
+    def finish(self) -> bytes:
+        """The octets of the last cells, and the last octet, which counts the unused cells. A second call gives none."""
+        self._is_ended = True
+
+        def put_cells(room: Any, put: Any) -> bool:
+            is_all = _recovery_finish(c.byref(self._recovery), room, _ROOM, c.byref(put))
+            if not is_all and put.value < _ROOM:
+                raise OverflowError("the last cells are more than a recovery keeps")
+            return bool(is_all)
+
+        return _all_put(put_cells)
+
+    @property
+    def figures(self) -> Dict[str, int]:
+        """What was found of the line in the samples so far: a dict as `cells_of_samples` gives it."""
+        found = _Capture()
+        _recovery_figures(c.byref(self._recovery), c.byref(found))
+        return _figures_of(found)
+
+
+def _all_put(put_cells: Callable[[Any, Any], bool]) -> bytes:
+    """The octets that calls put, one after the other, until a call says that it put the last ones."""
+    room, put = bytearray(_ROOM), c.c_size_t()
+    memory = (c.c_char * _ROOM).from_buffer(room)
+    pieces: List[bytearray] = []
+    is_all = False
+    while not is_all:
+        is_all = put_cells(memory, put)
+        pieces.append(room[: put.value])
+    return b"".join(pieces)
 
 
 # ---- the lock

@@ -27,6 +27,7 @@ _FRAMES = 192  # of a block
 _SAMPLES = 2 * _FRAMES
 _CELLS = 24576  # of a block
 _OCTETS = _CELLS // 8
+_S32 = 0  # samples in the highest 24 of 32 bits
 _FEW = 32  # blocks that a processor has at hand with their cells
 
 # The octet with the bits of each octet in the other order.
@@ -210,16 +211,18 @@ def _pieces(at: int, blocks: int, first: bytes, second: bytes) -> Iterator[bytes
     words, cells = bytearray(few * 4 * _SAMPLES), bytearray(few * _OCTETS)
     word_at, cell_at = (c.addressof((c.c_char * len(it)).from_buffer(it)) for it in (words, cells))
     set_status = _status_setter(words, word_at, first, second)
-    of_samples, encode_block = calls._block_of_samples, calls._encode_block
     for begin in range(0, blocks, _FEW):
-        some = min(blocks - begin, _FEW)
-        for i in range(some):
-            of_samples(at + 4 * _SAMPLES * (begin + i), word_at + 4 * _SAMPLES * i)
+        count = _SAMPLES * min(blocks - begin, _FEW)
+        calls._blocks_of_samples(at + 4 * _SAMPLES * begin, 4 * count, _S32, word_at, count)
         set_status()
-        for i in range(some):
-            calls._check_valid(encode_block(word_at + 4 * _SAMPLES * i, 0, cell_at + _OCTETS * i))
-        # A bytearray is translated in half the time that bytes take.
-        yield cells.translate(_REVERSED)[: some * _OCTETS]
+        _check_all(calls._encode_blocks(word_at, count, 0, cell_at, len(cells)), count)
+        yield cells[: count // _SAMPLES * _OCTETS]
+
+
+def _check_all(answer: int, count: int) -> None:
+    """All words of blocks were valid."""
+    if answer != count:
+        calls._check_valid(answer % _SAMPLES)
 
 
 def _status_setter(words: bytearray, at: int, first: bytes, second: bytes) -> Callable[[], object]:
@@ -278,10 +281,10 @@ def _samples_in(blocks: List[c.Array[c.c_uint32]]) -> DecodedSamples:
     else:
         samples = array.array("i", bytes(4 * _SAMPLES * len(blocks)))
         to = samples.buffer_info()[0]
-    samples_of = calls._block_samples
-    for block in blocks:
-        calls._check_valid(samples_of(block, to))
-        to += 4 * _SAMPLES
+    words = b"".join(blocks)
+    count = len(words) // 4
+    if count:
+        _check_all(calls._samples_of_blocks(words, count, _S32, to, len(words)), count)
     found: DecodedSamples = samples
     return found
 

@@ -69,6 +69,11 @@ def main() -> None:
     text: str = aes3.status_text(octets[:24])
     check: int = aes3.check_byte(aes3.Status.professional().__bytes__())
     figures: Tuple[bytes, Dict[str, int]] = aes3.cells_of_samples(bytes(100), bit=2, unit=1)
+    recovery = aes3.Recovery(bit=2, unit=1, period=0)
+    cells_so_far: bytes = recovery.take(array.array("B", [4, 0, 4])) + recovery.take(bytearray(97))
+    cells_so_far += recovery.finish()
+    so_far: Dict[str, int] = recovery.figures
+    assert so_far["samples"] == 100 and len(cells_so_far) < 100
     version: str = aes3.__version__
     assert text.startswith("consumer ") and 0 <= check < 256 and figures[1]["cells"] == 0 and version == aes3.library_version()
     again_block: numpy.typing.NDArray[numpy.uint32] = aes3.block_of_samples(aes3.block_samples(block))

@@ -486,6 +486,103 @@ def check_wavs_of_numpy():
         is_refused(ValueError, aes3.write_wav, io.BytesIO(), wrong)
 
 
+def capture_of(line, bit, unit, cell, seed):
+    """A capture of a line in a bit of samples: cells of about so many samples, after no signal and before it, and other bits beside it."""
+    chance = random.Random(seed)
+    levels = [0] * chance.randrange(1, 9000)
+    for it in line:
+        for i in range(7, -1, -1):
+            levels += [it >> i & 1] * (cell + chance.randrange(2) * (chance.randrange(40) == 0))
+    levels += [levels[-1]] * 7000
+    beside = chance.randrange(1, 256) & ~(1 << bit % 8)
+    octets = bytes(beside | level << bit % 8 for level in levels)
+    if unit == 1:
+        return octets
+    pairs = bytearray(2 * len(octets))
+    pairs[bit // 8 :: 2] = octets
+    pairs[1 - bit // 8 :: 2] = bytes(chance.randrange(256) for _ in octets)
+    return bytes(pairs)
+
+
+def in_pieces(capture, size, **options):
+    """The cells of a capture of which so many octets come at once, and the figures."""
+    recovery, cells = aes3.Recovery(**options), b""
+    for at in range(0, len(capture), size):
+        piece = recovery.take(capture[at : at + size])
+        assert type(piece) is bytes
+        cells += piece
+    cells += recovery.finish()
+    assert recovery.finish() == b""
+    return cells, recovery.figures
+
+
+def check_recovery():
+    """Pieces of any size give what one call gives."""
+    line = line_of(frames_of(192))
+    for bit, unit, cell, period in (0, 1, 5, 0), (7, 1, 3, 0), (11, 2, 4, 0), (2, 2, 6, 0), (3, 1, 4, 4 * 65536), (1, 1, 2, 2**17 + 2**10):
+        options = {"bit": bit, "unit": unit, "period": period}
+        capture = capture_of(line, bit, unit, cell, bit)[: 150_001 if unit == 2 else None]
+        want = aes3.cells_of_samples(capture, bit, unit, period)
+        assert want[1]["measured"] or period == 2**17 + 2**10, options
+        for size in 1000, 4032, 4033, 65536, len(capture):
+            assert in_pieces(capture, size, **options) == want, (options, size)
+        short = capture[:40_001]
+        want = aes3.cells_of_samples(short, bit, unit, period)
+        for size in 1, 2, 3, 7, 64:
+            assert in_pieces(short, size, **options) == want, (options, size)
+    # The cells are those that were sent.
+    recovery = aes3.Recovery(bit=3)
+    capture = bytes((it >> i & 1) << 3 for it in 2 * line for i in range(7, -1, -1) for _ in range(4))
+    pieces = [recovery.take(capture[at : at + 3000]) for at in range(0, len(capture), 3000)]
+    found = aes3.decode(b"".join(pieces) + recovery.finish())
+    assert samples_of(found) == 2 * frames_of(192)
+
+
+def check_recovery_of_other_pieces():
+    line = line_of(frames_of(192))
+    for unit in 1, 2:
+        capture = capture_of(line, 1, unit, 4, unit)[:60_001]
+        want = aes3.cells_of_samples(capture, 1, unit)
+        data = [capture[at : at + 2001] for at in range(0, len(capture), 2001)]
+        twice = [bytes(it for it in piece for _ in range(2)) for piece in data]
+        for pieces in (
+            [*map(bytearray, data)], [*map(memoryview, data)], [memoryview(it)[::2] for it in twice], [array.array("B", it) for it in data], [*map(list, data)],
+            [*map(iter, data)], [(ctypes.c_uint8 * len(it))(*it) for it in data], [piece for it in data for piece in (b"", it, bytearray(), [])],
+            [numpy.frombuffer(it, numpy.uint8) for it in data] if numpy else data, [numpy.frombuffer(it, numpy.uint8)[::2] for it in twice] if numpy else data,
+            [numpy.zeros(0, numpy.uint8), *data, numpy.zeros(0, numpy.uint8)] if numpy else data,
+        ):
+            recovery = aes3.Recovery(1, unit)
+            assert b"".join([*map(recovery.take, pieces), recovery.finish()]) == want[0] and recovery.figures == want[1]
+    # A line that is found after a long time without one: its cells come at once, and are more than those of a piece.
+    capture = bytes(3_000_000) + capture_of(line, 0, 1, 3, 4)
+    assert in_pieces(capture, 10_000) == aes3.cells_of_samples(capture)
+
+
+def check_wrong_pieces():
+    for wrong in "", "text", 7, None, 0.5, True, object(), [0.5], ["1"], array.array("i", 8 * [1]), array.array("H", 8 * [1]), array.array("b", 8 * [1]), (ctypes.c_int16 * 4)():
+        recovery = aes3.Recovery()
+        is_refused(TypeError, recovery.take, wrong)
+        assert recovery.figures["samples"] == 0
+    for wrong in [256], [-1], memoryview(bytes(64)).cast("B", (8, 8)):
+        is_refused(ValueError, aes3.Recovery().take, wrong)
+    for options in {"bit": 8}, {"bit": -1}, {"bit": 16, "unit": 2}, {"unit": 0}, {"unit": 3}, {"period": -1}, {"period": 2**64}:
+        is_refused(ValueError, aes3.Recovery, **options)
+    for options in {"bit": "0"}, {"bit": None}, {"unit": 1.0}, {"period": None}, {"period": 4.5}:
+        is_refused(TypeError, aes3.Recovery, **options)
+    recovery = aes3.Recovery(unit=2)
+    assert recovery.take(b"\1") == b"" and recovery.figures["samples"] == 0
+    assert recovery.take(b"\1\0") == b"" and recovery.figures["samples"] == 1
+    assert recovery.finish() == aes3.cells_of_samples(b"\1\1\0", unit=2)[0] and recovery.finish() == b""
+    for late in b"", b"\1", bytes(100):
+        is_refused(ValueError, recovery.take, late)
+    figures = recovery.figures
+    figures["samples"] = 99
+    assert recovery.figures == {**figures, "samples": 1} and [*figures] == [*aes3.FOUND]
+    first, second = aes3.Recovery(), aes3.Recovery()
+    first.take(bytes(100))
+    assert second.figures["samples"] == 0
+
+
 MATCH = """
 def named(it):
     match it:

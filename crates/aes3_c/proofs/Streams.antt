@@ -1,16 +1,19 @@
 -- A capture that comes in pieces: what its recovery wrote so far, and what is owed of that.
-use Rattle.std.proofs.Common.{◌≡◌, ◌≤◌, ◌<◌, ◌+◌, ◌^◌, ℕ, List, [], ◌++◌, ◌∷◌, Option, Some, None, Result, Ok, Err, IfOk, OnErr}
-use Rattle.std.proofs.Common.{refl, sym, ap, ap₂, subst, ◌∙◌, arith, append-nil, append_assoc, inl, inr}
+use Rattle.std.proofs.Common.{◌≡◌, ◌≤◌, ◌+◌, ℕ, List, [], ◌++◌, Option, Some, None}
+use Rattle.std.proofs.Common.{refl, sym, ap, ap₂, subst, ◌∙◌, arith, append-nil, append_assoc, inl, inr, length, min, take}
+use Rattle.std.proofs.lemmas.Bool.{cases_lt}
+use Rattle.std.proofs.lemmas.List.{length-take, take_all, take-take}
 use Rattle.aes3_level.specs.declared.level.Level.{Level}
-use Rattle.aes3_cell.specs.declared.form.Form.TheVariants.{Packed}
 use Rattle.aes3_capture_recovery.specs.Beginning.{Awaits, BeginsWith, IsLastingBehind, IsLineBehind}
-use Rattle.aes3_capture_recovery.specs.Recovering.{Recovered, Setting}
+use Rattle.aes3_capture_recovery.specs.Levels.{levels_of_samples}
 use Rattle.aes3_capture_recovery.specs.Taking.{Took}
 use Rattle.aes3_capture_recovery.specs.declared.recovery.Recovery.{Recovery}
+use Rattle.aes3_capture_recovery.specs.declared.recovery.parts.RecoveryParts.{RecoveryParts}
+use Rattle.aes3_capture_recovery.specs.declared.levels.Unit.{Unit}
 use Rattle.aes3_capture_recovery.proofs.Taking.{took-all, took-join}
 use Rattle.aes3_c.specs.Capturing.{AreCellsOf, RanOver, packed_by, period_of}
 use Rattle.aes3_c.specs.Owed.{owed_in}
-use Rattle.aes3_c.specs.Streaming.{Drained, EndedMore, EndedOctets, IsEnded, IsNew, IsTaking, TookMore, TookOctets, told_itself}
+use Rattle.aes3_c.specs.Streaming.{Drained, EndedMore, EndedOctets, IsEnded, IsNew, IsTaking, TookMore, TookOctets, TookTooMuch, told_itself}
 use Rattle.aes3_c.specs.declared.streaming.Aes3Recovery.{Aes3Recovery}
 
 -- a sink tells these octets before and behind
@@ -146,3 +149,28 @@ told-more told before first mid old more all now is put none both =
     ap (λ l. l ++ more) (sym is ∙ ap (λ l. before ++ l) (sym put ∙ ap (λ l. first ++ l) none ∙ append-nil first))
     ∙ append_assoc before first more
     ∙ ap (λ l. before ++ l) (sym both)
+
+-- the first two octets of a front of samples are a front of all
+pub few-front : (unit other : Unit) (whole : ℕ) (samples told : List ℕ) (old : RecoveryParts) → unit ≡ other
+    → TookTooMuch told old (levels_of_samples unit (take 2 (take whole samples)))
+    → (few : ℕ) × (few ≤ 2) × TookTooMuch told old (levels_of_samples other (take few samples))
+few-front unit other whole samples told old same t = elim (cases_lt whole 2) [
+  | inl one ↦
+      let len = length-take whole samples in (
+        whole,
+        omega (arith, one),
+        subst (TookTooMuch told old) (ap₂ levels_of_samples same (take_all 2 (take whole samples) (omega (arith, one, len)))) t,
+      )
+  | inr more ↦ (
+    2,
+    omega arith,
+    subst (TookTooMuch told old) (ap₂ levels_of_samples same (take-take 2 whole samples more)) t,
+  )
+]
+
+-- the first two octets of the first ones
+pub two-of-front : (most : ℕ) (samples : List ℕ) → most ≡ min (length samples) 4032 → take 2 (take most samples) ≡ take 2 samples
+two-of-front most samples is = elim (cases_lt most 2) [
+  | inl one ↦ ap (take 2) (take_all most samples (omega (arith, is, one)))
+  | inr more ↦ take-take 2 most samples more
+]

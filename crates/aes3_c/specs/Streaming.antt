@@ -1,5 +1,5 @@
 -- A capture that comes in pieces, and its cells in pieces of memory.
-use Rattle.std.specs.Prelude.{ℕ, List, [], ◌++◌, ◌≡◌, Option, None, Some, take}
+use Rattle.std.specs.Prelude.{ℕ, List, [], ◌++◌, ◌≡◌, ◌<◌, Option, None, Some}
 use Rattle.aes3_level.specs.declared.level.Level.{Level}
 use Rattle.aes3_cell.specs.declared.form.Form.TheVariants.{Packed}
 use Rattle.aes3_capture_recovery.specs.Beginning.{Awaits}
@@ -9,7 +9,7 @@ use Rattle.aes3_capture_recovery.specs.Taking.{Took}
 use Rattle.aes3_capture_recovery.specs.declared.recovery.Recovery.{Recovery}
 use Rattle.aes3_capture_recovery.specs.declared.recovery.parts.RecoveryParts.{RecoveryParts}
 use Rattle.aes3_c.specs.Capturing.{AreCellsOf, RanOver, period_of}
-use Rattle.aes3_c.specs.Owed.{owed_in}
+use Rattle.aes3_c.specs.Owed.{owed_in, stretched}
 use Rattle.aes3_c.specs.declared.owed.Aes3Owed.{Aes3Owed}
 use Rattle.aes3_c.specs.declared.streaming.Aes3Recovery.{Aes3Recovery}
 
@@ -31,10 +31,20 @@ pub record TookSome (told : List ℕ) (old new : RecoveryParts) (owed : Aes3Owed
   pub each : (first : Recovery) → recovery_parts first ≡ old → (now : Recovery) × (recovery_parts now ≡ new)
       × TookOctets first now told (told ++ owed_in owed) levels
 
+-- The same with more than 1,024 stretches of equal octets behind those `told`: more than are kept.
+pub record TookTooMuch (told : List ℕ) (old : RecoveryParts) (levels : List Level) : Type 0 where
+  pub each : (first : Recovery) → recovery_parts first ≡ old → (now : Recovery) × (octets : List ℕ)
+      × TookOctets first now told (told ++ octets) levels × (1024 < (stretched octets).many)
+
 -- the same of the end of the samples
 pub record EndedSome (told : List ℕ) (old new : RecoveryParts) (owed : Aes3Owed) : Type 0 where
   pub each : (first : Recovery) → recovery_parts first ≡ old → (now : Recovery) × (recovery_parts now ≡ new)
       × EndedOctets first now told (told ++ owed_in owed) []
+
+-- the same with more than 1,024 stretches
+pub record EndedTooMuch (told : List ℕ) (old : RecoveryParts) : Type 0 where
+  pub each : (first : Recovery) → recovery_parts first ≡ old → (now : Recovery) × (octets : List ℕ)
+      × EndedOctets first now told (told ++ octets) [] × (1024 < (stretched octets).many)
 
 -- What keeps a recovery put octets that it owed, and nothing else was done.
 pub record Drained (old new : Aes3Recovery) (octets : List ℕ) : Type 0 where

@@ -1,7 +1,7 @@
 //! Octets for which there was no room yet.
 
 ghost use Rattle.std.specs.Prelude.{◌≡◌, ◌≤◌, ◌<◌, ◌++◌, ◌∷◌, [], IfSome, IfNone, IsTrue, drop, false, length, take};
-ghost use Rattle.aes3_c.specs.Owed.{owed_in};
+ghost use Rattle.aes3_c.specs.Owed.{HasFewest, owed_in, stretched};
 
 /// How many stretches of equal octets are kept.
 pub(crate) const STRETCHES: usize = 1024;
@@ -68,6 +68,7 @@ fn no_octets() -> [u8; STRETCHES] {
 /// No octets.
 pub(crate) fn no_owed() -> Aes3Owed
     ensures first { result.first ≡ 0 }
+    ensures fewest { HasFewest result }
     ensures none { owed_in result ≡ [] }
 {
     Aes3Owed {
@@ -91,9 +92,12 @@ pub(crate) fn owe_nothing(owed: &mut Aes3Owed)
 /// Owes one octet more, after all others. Returns false if that needs more than 1,024 stretches.
 pub(crate) fn owe(owed: &mut Aes3Owed, octet: u8) -> bool
     requires first { owed.old.first ≡ 0 }
+    requires fewest { HasFewest owed.old }
     ensures first { owed.new.first ≡ 0 }
+    ensures fewest { HasFewest owed.new }
     ensures owes { IsTrue result → owed_in owed.new ≡ owed_in owed.old ++ octet ∷ [] }
     ensures full { result ≡ false → owed.new ≡ owed.old }
+    ensures many { result ≡ false → 1024 < (stretched (owed_in owed.old ++ octet ∷ [])).many }
 {
     let len = owed.len as usize;
     if len > STRETCHES {
@@ -115,8 +119,11 @@ pub(crate) fn owe(owed: &mut Aes3Owed, octet: u8) -> bool
 /// Owes these octets too, after all others. Returns whether it owes all of them.
 pub(crate) fn owe_all(owed: &mut Aes3Owed, octets: &[u8]) -> bool
     requires first { owed.old.first ≡ 0 }
+    requires fewest { HasFewest owed.old }
     ensures first { owed.new.first ≡ 0 }
+    ensures fewest { HasFewest owed.new }
     ensures owes { IsTrue result → owed_in owed.new ≡ owed_in owed.old ++ octets.now }
+    ensures many { result ≡ false → 1024 < (stretched (owed_in owed.old ++ octets.now)).many }
 {
     for i in 0..octets.len() {
         if !owe(owed, octets[i]) {
@@ -129,9 +136,12 @@ pub(crate) fn owe_all(owed: &mut Aes3Owed, octets: &[u8]) -> bool
 /// Owes these octets too, if all before them are owed. Returns whether it owes all.
 pub(crate) fn owe_rest(owed: &mut Aes3Owed, fits: bool, octets: &[u8]) -> bool
     requires first { owed.old.first ≡ 0 }
+    requires fewest { HasFewest owed.old }
     ensures first { owed.new.first ≡ 0 }
+    ensures fewest { HasFewest owed.new }
     ensures fits { IsTrue result → IsTrue fits }
     ensures owes { IsTrue result → owed_in owed.new ≡ owed_in owed.old ++ octets.now }
+    ensures many { result ≡ false → IsTrue fits → 1024 < (stretched (owed_in owed.old ++ octets.now)).many }
 {
     fits && owe_all(owed, octets)
 }

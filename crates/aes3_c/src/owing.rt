@@ -1,7 +1,7 @@
 //! A sink that keeps what it is given.
 
-ghost use Rattle.std.specs.Prelude.{List, ℕ, IsTrue, ◌≡◌, []};
-ghost use Rattle.aes3_c.specs.Owed.{owed_in};
+ghost use Rattle.std.specs.Prelude.{List, ℕ, IsTrue, ◌≡◌, ◌<◌, [], false};
+ghost use Rattle.aes3_c.specs.Owed.{HasFewest, owed_in, stretched};
 
 use crate::owed::{Aes3Owed, no_owed, owe_rest};
 use aes3_cell::{Fault, Sink};
@@ -28,7 +28,9 @@ pub(crate) struct OwingSink<K: Before> {
     pub given: Log,
     of: PhantomData<K>,
     pub ghost first: { owed.first ≡ 0 },
+    pub ghost fewest: { HasFewest owed },
     pub ghost owes: { IsTrue fits → owed_in owed ≡ given.octets },
+    pub ghost many: { fits ≡ false → 1024 < (stretched given.octets).many },
 }
 
 impl<K: Before> OwingSink<K> {

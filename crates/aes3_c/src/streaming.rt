@@ -1,13 +1,13 @@
 //! The cells of a capture that comes in pieces. The caller keeps the recovery between calls.
 
-ghost use Rattle.std.specs.Prelude.{◌≡◌, ◌≢◌, ◌+◌, ◌<◌, ◌≤◌, ◌*◌, ◌++◌, ◌⊎◌, ℕ, List, [], IsTrue, drop, false, length, take};
+ghost use Rattle.std.specs.Prelude.{◌≡◌, ◌≢◌, ◌+◌, ◌<◌, ◌≤◌, ◌*◌, ◌++◌, ◌⊎◌, ℕ, List, [], IfNone, IfSome, IsTrue, drop, false, length, take};
 ghost use Rattle.aes3_level.specs.declared.level.Level.{Level};
 ghost use Rattle.aes3_capture_recovery.specs.Levels.{bit_of_line, bits_of_sample, levels_of_samples};
 ghost use Rattle.aes3_capture_recovery.specs.Parts.{recovery_parts};
 ghost use Rattle.aes3_capture_recovery.specs.declared.recovery.Recovery.{Recovery};
 ghost use Rattle.aes3_c.specs.Capturing.{AreFigures, unit_of};
 ghost use Rattle.aes3_c.specs.Owed.{owed_in};
-ghost use Rattle.aes3_c.specs.Streaming.{Drained, EndedMore, EndedSome, IsEnded, IsTaking, TookMore, TookSome};
+ghost use Rattle.aes3_c.specs.Streaming.{Drained, EndedMore, EndedSome, EndedTooMuch, IsEnded, IsTaking, TookMore, TookSome, TookTooMuch};
 
 use crate::capture::Aes3Capture;
 use crate::owed::{Aes3Owed, owe_nothing, put_owed};
@@ -40,6 +40,7 @@ fn take_samples<K: Before>(
     requires bit { bit_of_line unit < bits_of_sample unit }
     ensures took { IsTrue result → TookSome K.told parts.old parts.new owed.new (levels_of_samples unit samples.now) }
     ensures none { result ≡ false → (parts.new ≡ parts.old) × (owed.new ≡ owed.old) }
+    ensures many { result ≡ false → TookTooMuch K.told parts.old (levels_of_samples unit samples.now) }
 {
     let mut recovery = Recovery::of_parts(parts);
     let mut sink = OwingSink::<K>::new();
@@ -59,6 +60,7 @@ fn take_samples<K: Before>(
 fn finish_samples<K: Before>(parts: &mut RecoveryParts, owed: &mut Aes3Owed) -> bool
     ensures ended { IsTrue result → EndedSome K.told parts.old parts.new owed.new }
     ensures none { result ≡ false → (parts.new ≡ parts.old) × (owed.new ≡ owed.old) }
+    ensures many { result ≡ false → EndedTooMuch K.told parts.old }
 {
     let mut recovery = Recovery::of_parts(parts);
     let mut sink = OwingSink::<K>::new();
@@ -77,6 +79,33 @@ fn finish_samples<K: Before>(parts: &mut RecoveryParts, owed: &mut Aes3Owed) -> 
 /// first, which needs 33 KB of stack.
 const PIECE: usize = 4032;
 
+/// How many are taken if the cells of a piece are too many: one sample, or two of one octet.
+const FEW: usize = 2;
+
+/// Takes samples, or the first few of them if the octets of the cells of all are too many. Returns how
+/// many octets of samples it took, or `None` if it did nothing.
+fn take_some<K: Before>(
+    parts: &mut RecoveryParts,
+    owed: &mut Aes3Owed,
+    unit: Unit,
+    samples: &[u8],
+) -> Option<usize>
+    requires bit { bit_of_line unit < bits_of_sample unit }
+    ensures some { IfSome result (λ len. (len ≤ length samples.now) × ((len ≡ 0 → length samples.now ≡ 0)
+        × TookSome K.told parts.old parts.new owed.new (levels_of_samples unit (take len samples.now)))) }
+    ensures none { IfNone result ((parts.new ≡ parts.old) × (owed.new ≡ owed.old)) }
+    ensures many { IfNone result (TookTooMuch K.told parts.old (levels_of_samples unit (take 2 samples.now))) }
+{
+    if take_samples::<K>(parts, owed, unit, samples) {
+        return Some(samples.len());
+    }
+    let few = samples.len().min(FEW);
+    if take_samples::<K>(parts, owed, unit, &samples[..few]) {
+        return Some(few);
+    }
+    None
+}
+
 /// Writes what is owed. Then takes samples, and writes their cells. Returns how many octets of
 /// samples it took.
 fn take_in(
@@ -93,6 +122,9 @@ fn take_in(
     ensures took { (Drained recovery.old recovery.new (take put.new cells.new) × (result ≡ 0))
         ⊎ TookMore told recovery.old recovery.new (take put.new cells.new)
         (levels_of_samples unit (take result samples.now)) }
+    ensures moves { result ≡ 0 → 0 < length samples.now → (put.new ≡ length cells.new)
+        ⊎ ((recovery.old.ended ≢ 0)
+        ⊎ TookTooMuch told recovery.old.recovery (levels_of_samples unit (take 2 samples.now))) }
     ensures rest { drop put.new cells.new ≡ drop put.new cells.old }
 {
     let at = put_owed(&mut recovery.owed, cells, 0);
@@ -100,16 +132,15 @@ fn take_in(
     if at == cells.len() || recovery.ended != 0 {
         return 0;
     }
-    let len = samples.len().min(PIECE);
-    let fits = take_samples::<Brand>(
+    let most = samples.len().min(PIECE);
+    let Some(len) = take_some::<Brand>(
         &mut recovery.recovery,
         &mut recovery.owed,
         unit,
-        &samples[..len],
-    );
-    if !fits {
+        &samples[..most],
+    ) else {
         return 0;
-    }
+    };
     *put = put_owed(&mut recovery.owed, cells, at);
     len
 }
@@ -122,6 +153,7 @@ fn finish_in(recovery: &mut Aes3Recovery, cells: &mut [u8], put: &mut usize) -> 
     ensures ended { Drained recovery.old recovery.new (take put.new cells.new)
         ⊎ EndedMore told recovery.old recovery.new (take put.new cells.new) }
     ensures all { IsTrue result → (recovery.new.ended ≢ 0) × (owed_in recovery.new.owed ≡ []) }
+    ensures moves { result ≡ false → (put.new ≡ length cells.new) ⊎ EndedTooMuch told recovery.old.recovery }
     ensures rest { drop put.new cells.new ≡ drop put.new cells.old }
 {
     let at = put_owed(&mut recovery.owed, cells, 0);
@@ -188,6 +220,9 @@ pub extern "C" fn aes3_recovery_take(
     ensures ended { (period : ℕ) (levels : List Level) → IsEnded period levels octets recovery.old
         → IsEnded period levels (octets ++ take put.new cells.new) recovery.new }
     ensures all { IsTrue result → 8 * length samples.now < 8 * taken.new + bits_of_sample (unit_of unit bit) }
+    ensures moves { result ≡ false → (put.new ≡ length cells.new) ⊎ ((0 < taken.new) ⊎ ((recovery.old.ended ≢ 0)
+        ⊎ ((few : ℕ) × (few ≤ 2) × TookTooMuch (octets ++ owed_in recovery.old.owed) recovery.old.recovery
+        (levels_of_samples (unit_of unit bit) (take few samples.now))))) }
     ensures rest { drop put.new cells.new ≡ drop put.new cells.old }
 {
     let unit = unit_of(unit, bit);
@@ -215,6 +250,8 @@ pub extern "C" fn aes3_recovery_finish(
     ensures ended { (period : ℕ) (levels : List Level) → IsEnded period levels octets recovery.old
         → IsEnded period levels (octets ++ take put.new cells.new) recovery.new }
     ensures all { IsTrue result → (recovery.new.ended ≢ 0) × (owed_in recovery.new.owed ≡ []) }
+    ensures moves { result ≡ false → (put.new ≡ length cells.new)
+        ⊎ EndedTooMuch (octets ++ owed_in recovery.old.owed) recovery.old.recovery }
     ensures rest { drop put.new cells.new ≡ drop put.new cells.old }
 {
     let ended = finish_in(recovery, cells, put);

@@ -6,6 +6,8 @@ use core::fmt;
 pub const BLOCK_WORDS: usize = sys::AES3_BLOCK_WORDS;
 /// Cells of a block.
 pub const BLOCK_CELLS: usize = sys::AES3_BLOCK_CELLS;
+/// Octets of the cells of a block.
+pub const BLOCK_OCTETS: usize = sys::AES3_BLOCK_OCTETS;
 
 /// One of the two channels of a line. Its text is its number.
 #[derive(Clone, Copy, Debug, PartialEq, Eq)]
@@ -41,6 +43,7 @@ impl fmt::Display for Channel {
 /// # Ok::<(), aes3::Error>(())
 /// ```
 #[derive(Clone, Copy, Debug, PartialEq, Eq)]
+#[repr(transparent)]
 pub struct Block {
     /// The words, valid or not.
     pub words: [u32; BLOCK_WORDS],

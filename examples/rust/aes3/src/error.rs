@@ -17,7 +17,7 @@ use core::fmt;
 pub enum Error {
     /// Word number `word` of a block is not valid: bits 0 to 3 are not zero, or bit 31 is not the parity of bits 4 to 30.
     BadWord {
-        /// The number of the first such word, counted from 0.
+        /// The number of the first such word, counted from 0 in the block, or in all blocks of a call that takes many.
         word: usize,
     },
     /// The lock has taken 2^43 cells, 16 days of a line at 48 kHz. Make a new one.
@@ -51,7 +51,7 @@ pub enum Error {
 impl fmt::Display for Error {
     fn fmt(&self, to: &mut fmt::Formatter<'_>) -> fmt::Result {
         match self {
-            Error::BadWord { word } => write!(to, "word {word} of the block is not valid"),
+            Error::BadWord { word } => write!(to, "word {word} is not valid"),
             Error::Full => to.write_str("the lock has taken 2^43 cells"),
             Error::NoRoom => to.write_str("there is no room for the cells of the capture"),
             Error::NotACell { at } => write!(to, "byte {at} is not a cell: cell text has 0 and 1"),

@@ -15,12 +15,14 @@
 //! ```
 //!
 //! `Reports` gives the reports of a line that is read from a file or a pipe, [`Account`] the gaps between its whole blocks.
-//! [`Wav`] reads and writes the headers of WAV files.
+//! [`Wav`] reads and writes the headers of WAV files. [`Recovery`] recovers the cells of a capture that comes in pieces, and
+//! [`encode_blocks`] and the like take many blocks at once.
 #![cfg_attr(not(feature = "std"), no_std)]
 #![warn(missing_docs)]
 
 mod account;
 mod block;
+mod blocks;
 mod capture;
 mod error;
 mod lock;
@@ -32,8 +34,12 @@ mod words;
 
 pub use account::{Account, Gap};
 pub use aes3_sys::{aes3_capture as Capture, aes3_consumer as Consumer, aes3_professional as Professional};
-pub use block::{Block, Channel, BLOCK_CELLS, BLOCK_WORDS};
-pub use capture::{cells_of_samples, room_for, Unit};
+pub use block::{Block, Channel, BLOCK_CELLS, BLOCK_OCTETS, BLOCK_WORDS};
+pub use blocks::{
+    blocks_of_samples, blocks_of_subframes, encode_blocks, samples_of_blocks, subframes_of_blocks, SampleForm,
+    SubframeForm,
+};
+pub use capture::{cells_of_samples, room_for, Recovery, Unit};
 pub use error::Error;
 pub use lock::{Lock, Report, Why};
 #[cfg(feature = "std")]

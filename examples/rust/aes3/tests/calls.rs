@@ -3,7 +3,9 @@
 use aes3::{
     Account, Block, Channel, Check, Error, Form, Gap, Lock, Report, Reports, Status, Why, BLOCK_CELLS, BLOCK_WORDS,
 };
+use aes3::{Recovery, SampleForm, SubframeForm, BLOCK_OCTETS};
 use aes3::{Wav, WavBits, WavFault, WavRead};
+use core::num::NonZeroU64;
 use std::io::{self, ErrorKind, Read};
 
 /// A word of a block with its parity.
@@ -211,6 +213,114 @@ fn captures() {
     assert!((0..2 * 24576).all(|i| found_level(i) == level(i)));
     assert_eq!(aes3::cells_of_samples(&samples, aes3::Unit::Pairs(11), None, &mut cells[..9]), Err(Error::NoRoom));
     assert_eq!(aes3::cells_of_samples(&samples, aes3::Unit::Octets(5), None, &mut cells).unwrap().measured, 0);
+}
+
+/// The cells of samples that come in pieces of this size, and what was found.
+fn in_pieces(samples: &[u8], size: usize, unit: aes3::Unit, period: Option<NonZeroU64>) -> (Vec<u8>, aes3::Capture) {
+    let mut cells = Vec::new();
+    let mut recovery = Recovery::new(unit, period);
+    for piece in samples.chunks(size) {
+        recovery.take(piece, |octets| cells.extend_from_slice(octets)).unwrap();
+        recovery.take(&[], |_| panic!("no samples have no cells")).unwrap();
+    }
+    assert_eq!(recovery.figures().octets, cells.len() as u64);
+    let found = recovery.clone().finish(|octets| cells.extend_from_slice(octets)).unwrap();
+    assert!(format!("{recovery:?}").starts_with("Recovery { unit: "));
+    (cells, found)
+}
+
+#[test]
+fn captures_in_pieces() {
+    let (block, _) = block();
+    let words = block.encode(false).unwrap();
+    let level = |i: usize| (words[i / 64 % 384] >> (i % 64) & 1) as u8;
+    let octets: Vec<u8> = (0..6 * BLOCK_CELLS).map(|i| level(i / 5) << 3 | 0x51).collect();
+    let pairs: Vec<u8> = (0..6 * BLOCK_CELLS).flat_map(|i| [0x55, level(i / 5) << 3]).chain([8]).collect();
+    // A long time without a line, whose cells come at once where one is found.
+    let late: Vec<u8> = core::iter::repeat(0x51).take(3_000_000).chain(octets.iter().copied()).collect();
+    for (samples, unit, period) in [
+        (&octets[..], aes3::Unit::Octets(3), None),
+        (&octets, aes3::Unit::Octets(3), NonZeroU64::new(5 << 16)),
+        (&octets, aes3::Unit::Octets(1), None),
+        (&pairs, aes3::Unit::Pairs(11), None),
+        (&late, aes3::Unit::Octets(3), None),
+        (&pairs[..1], aes3::Unit::Pairs(11), None),
+        (&[], aes3::Unit::Pairs(11), None),
+    ] {
+        for size in [1, 2, 3, 4032, 65536, usize::MAX] {
+            let samples = if size < 4032 { &samples[..samples.len().min(20_001)] } else { samples };
+            let mut cells = vec![0; aes3::room_for(samples.len())];
+            let found = aes3::cells_of_samples(samples, unit, period, &mut cells).unwrap();
+            cells.truncate(found.octets as usize);
+            assert_eq!(in_pieces(samples, size, unit, period), (cells, found), "{unit:?} in pieces of {size}");
+        }
+    }
+}
+
+#[test]
+fn many_blocks() {
+    let (block, _) = block();
+    let mut blocks = [block, Block::silence(), block];
+    let cells: Vec<u64> = blocks.iter().flat_map(|it| it.encode(true).unwrap()).collect();
+    let octets: Vec<u8> = cells.iter().flat_map(|word| aes3::octets_of_word(*word)).collect();
+    let mut found = vec![0x5a; 3 * BLOCK_OCTETS + 1];
+    assert_eq!(aes3::encode_blocks(&blocks, true, &mut found), Ok(3));
+    assert_eq!((&found[..3 * BLOCK_OCTETS], found[3 * BLOCK_OCTETS]), (&octets[..], 0x5a));
+    assert_eq!(aes3::encode_blocks(&blocks, false, &mut found[..3 * BLOCK_OCTETS - 1]), Ok(2));
+    assert_eq!(
+        (aes3::encode_blocks(&[], false, &mut found), aes3::encode_blocks(&blocks, false, &mut [])),
+        (Ok(0), Ok(0))
+    );
+
+    let mut read = [Block::silence(); 3];
+    for form in [SubframeForm::Own, SubframeForm::Alsa, SubframeForm::Am824] {
+        let mut octets = [0; 3 * 1536];
+        assert_eq!(aes3::subframes_of_blocks(&blocks, form, &mut octets), Ok(3));
+        assert_eq!(aes3::blocks_of_subframes(&octets, form, &mut read), Ok(3));
+        assert_eq!(read, blocks);
+        assert_eq!(aes3::subframes_of_blocks(&blocks, form, &mut octets[..1535]), Ok(0));
+        assert_eq!(aes3::blocks_of_subframes(&octets[..2 * 1536 + 5], form, &mut read), Ok(2));
+        assert_eq!(aes3::blocks_of_subframes(&octets, form, &mut read[..1]), Ok(1));
+    }
+    let mut own = [0; 1536];
+    aes3::subframes_of_blocks(&[block], SubframeForm::Own, &mut own).unwrap();
+    assert!(own.chunks(4).zip(block.words).all(|(octets, word)| octets == word.to_le_bytes()));
+
+    let samples: Vec<i32> = blocks.iter().flat_map(|it| it.samples().unwrap()).collect();
+    for form in [SampleForm::S32, SampleForm::S24, SampleForm::S24In32, SampleForm::S16] {
+        let mut octets = vec![0; 3 * 384 * form.octets()];
+        assert_eq!(aes3::samples_of_blocks(&blocks, form, &mut octets), Ok(3));
+        for (octets, sample) in octets.chunks(form.octets()).zip(&samples) {
+            let wide = sample.to_le_bytes();
+            match form {
+                SampleForm::S32 => assert_eq!(octets, wide),
+                SampleForm::S24 => assert_eq!(octets, &wide[1..]),
+                SampleForm::S24In32 => assert_eq!(octets, (sample >> 8).to_le_bytes()),
+                SampleForm::S16 => assert_eq!(octets, &wide[2..]),
+            }
+        }
+        assert_eq!(aes3::blocks_of_samples(&octets, form, &mut read), 3);
+        let kept = if form == SampleForm::S16 { !0xffff } else { !0 };
+        assert!(read.iter().flat_map(|it| it.samples().unwrap()).eq(samples.iter().map(|it| it & kept)));
+        assert_eq!(read[0].status(Channel::One), Ok(Status { bytes: [0; 24] }));
+        assert_eq!(aes3::blocks_of_samples(&octets[1..], form, &mut read), 2);
+        assert_eq!(aes3::samples_of_blocks(&blocks[..2], form, &mut octets), Ok(2));
+    }
+
+    // A word that is not valid: what is before its block is put.
+    blocks[1].words[6] = 1;
+    found.fill(0x5a);
+    let wrong = Error::BadWord { word: 390 };
+    assert_eq!(aes3::encode_blocks(&blocks, true, &mut found), Err(wrong));
+    assert_eq!((&found[..BLOCK_OCTETS], found[BLOCK_OCTETS]), (&octets[..BLOCK_OCTETS], 0x5a));
+    assert_eq!(aes3::samples_of_blocks(&blocks, SampleForm::S16, &mut found), Err(wrong));
+    assert_eq!(aes3::subframes_of_blocks(&blocks, SubframeForm::Own, &mut found), Err(wrong));
+    assert_eq!(aes3::encode_blocks(&blocks[..1], true, &mut found), Ok(1));
+    assert_eq!(wrong.to_string(), "word 390 is not valid");
+    let mut alsa = [0; 2 * 1536];
+    aes3::subframes_of_blocks(&[block, block], SubframeForm::Alsa, &mut alsa).unwrap();
+    alsa[1536] ^= 8 | 2; // The code of another preamble.
+    assert_eq!(aes3::blocks_of_subframes(&alsa, SubframeForm::Alsa, &mut read), Err(Error::BadWord { word: 384 }));
 }
 
 /// Reads pieces of this size, each after an interruption, and then ends or fails.
