@@ -23,7 +23,7 @@ import xml.etree.ElementTree
 
 SUBFRAMES = 384
 FIRST = 257  # the first edge, and 256 by which the line is found
-BAR = re.compile(r"(rising|falling), ([+-])(\d+\.\d+) UI: (\d+) edges")
+BAR = re.compile(r"(rising|falling), ([+-]?)(\d+\.\d+) UI: (\d+) edges")
 POINT = re.compile(r"samples (\d+) to (\d+): (\d+\.\d+) samples a cell")
 SILENCE = re.compile(r"no signal: samples (\d+) to (\d+)")
 SIDE = re.compile(r"([\d,]+) (rising|falling): (\d+\.\d+) UI (early|late) on average, (\d+\.\d+) UI rms about that, (\d+\.\d+) UI peak")

@@ -206,7 +206,10 @@ impl Picture {
 
     /// Counts an edge.
     fn count_edge(&mut self) {
-        let run = self.samples.saturating_sub(self.latest).min(u64::from(u32::MAX)) as u32;
+        let run = self
+            .samples
+            .saturating_sub(self.latest)
+            .min(u64::from(u32::MAX)) as u32;
         let period = self.clock.period();
         let place = self.clock.edge(run);
         if self.high {

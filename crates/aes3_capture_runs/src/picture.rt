@@ -98,10 +98,14 @@ fn say_fault<E: Sink>(alloc: Global, name: &str, fault: PictureFault, messages: 
             format!(in alloc; "aes3-cells: no picture was written to {name}: {error}\n")
         }
         PictureFault::Other => {
-            format!(in alloc; "aes3-cells: {name} exists and is no SVG picture, so it was not replaced\n")
+            format!(in alloc;
+                "aes3-cells: {name} exists and is no SVG picture, so it was not replaced\n"
+            )
         }
         PictureFault::Standard => {
-            format!(in alloc; "aes3-cells: --picture wants the name of a file; standard output has the cells\n")
+            format!(in alloc;
+                "aes3-cells: --picture wants the name of a file; standard output has the cells\n"
+            )
         }
         PictureFault::Memory => format!(in alloc; "aes3-cells: memory was refused\n"),
     };
