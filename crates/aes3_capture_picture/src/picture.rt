@@ -91,7 +91,7 @@ impl Picture {
     }
 
     /// Takes the octets of a piece of the capture.
-    pub fn take(&mut self, octets: &[u8]) {
+    pub(crate) fn take(&mut self, octets: &[u8]) {
         let mut chunk = [0; CHUNK];
         chunk[0] = self.kept;
         let mut filled = self.kept_len;
