@@ -4,7 +4,7 @@
 Captures of lines are made here, with each edge displaced by a known distance from a known grid. From these distances the test counts
 the edges in each 64th of a cell, rising and falling apart, and compares means, rms, the greatest distance and each bar. It compares the
 length of a cell over time with that of a line that drifts, and the samples without signal with those that it put in. The picture
-draws places on a clock of its own, not on the grid; so bars may differ by the edges near their borders.
+measures places by a clock of its own, not by the grid; so bars may differ by the edges near their borders.
 
 Then it draws what is no line, and names files that can't be written or may not be replaced: the cells have to be those without a
 picture, and the status 3. CELLS is the program aes3-cells, AES3 is aes3. The last line is `N passed, M failed`, and the status 1 where
@@ -12,6 +12,7 @@ one failed.
 """
 
 import argparse
+import bisect
 import math
 import os
 import random
@@ -23,7 +24,8 @@ import xml.etree.ElementTree
 
 SUBFRAMES = 384
 FIRST = 257  # the first edge, and 256 by which the line is found
-BAR = re.compile(r"(rising|falling), ([+-])(\d+\.\d+) UI: (\d+) edges")
+NEAR, FEW = 0.006, 0.002  # the noise of the picture's clock in cells, and the part of the edges that it may displace farther
+BAR = re.compile(r"(rising|falling), ([+-]?)(\d+\.\d+) UI: (\d+) edges")
 POINT = re.compile(r"samples (\d+) to (\d+): (\d+\.\d+) samples a cell")
 SILENCE = re.compile(r"no signal: samples (\d+) to (\d+)")
 SIDE = re.compile(r"([\d,]+) (rising|falling): (\d+\.\d+) UI (early|late) on average, (\d+\.\d+) UI rms about that, (\d+\.\d+) UI peak")
@@ -119,16 +121,16 @@ def differences(drawn, capture):
         is_width = max(side) - min(side)
         if abs(mean - is_mean) > 0.001 or abs(rms - is_rms) > 0.001 + 0.01 * is_rms or abs(width - is_width) > 0.02:
             yield f"{name}: mean {mean}, rms {rms}, width {width}, not {is_mean:.4f}, {is_rms:.4f}, {is_width:.4f}"
-        bars = [0] * 65
-        for distance in side:
-            bars[math.floor(distance * 64 + 32.5)] += 1
-        # How many edges lie up to each border, which the noise of the clock moves a little.
-        apart, most = 0, 0
-        for bar, other in zip(drawn.bars[name], bars):
-            apart += bar - other
-            most = max(most, abs(apart))
-        if most > 0.02 * len(side):
-            yield f"{name}: {most} of {len(side)} edges are in other bars: {drawn.bars[name]}, not {bars}"
+        # How many edges lie up to each border between bars: of the edges within NEAR of it some may be on its other side.
+        side = sorted(side)
+        upto = 0
+        for number, bar in enumerate(drawn.bars[name]):
+            upto += bar
+            border = (number - 31.5) / 64
+            least, most = bisect.bisect(side, border - NEAR), bisect.bisect(side, border + NEAR)
+            if not least - FEW * len(side) <= upto <= most + FEW * len(side):
+                yield f"{name}: {upto} of {len(side)} edges up to {border:.4f}, not {least} to {most}: {drawn.bars[name]}"
+                break
     both = wanted["rising"] + wanted["falling"]
     if abs(drawn.rms - rms_of(both)) > 0.001 + 0.01 * rms_of(both) or abs(drawn.greatest - max(map(abs, both))) > 0.02:
         yield f"rms {drawn.rms} and at most {drawn.greatest}, not {rms_of(both):.4f} and {max(map(abs, both)):.4f}"
@@ -162,7 +164,9 @@ def main():
             print(f"pictures: {what}:", *wrong[:6], sep="\n    ", file=sys.stderr)
 
     def draw(samples, *words, status=0):
-        """The picture of these samples, and what differs in the run from one without a picture."""
+        """The picture of these samples; judges whether the run differs from one without a picture."""
+        if os.path.exists("drawn.svg"):
+            os.remove("drawn.svg")
         plain = run([program, *words], samples)
         drawing = run([program, "--picture", "drawn.svg", *words], samples)
         judge(
@@ -177,15 +181,21 @@ def main():
         os.chdir(folder)
         cells = cells_of_blocks(aes3, chance, 3)
 
+        def edge_from(number):
+            """The first cell from this one on that begins with an edge."""
+            while cells[number] == cells[number - 1]:
+                number += 1
+            return number
+
         lines = (
             ("sharp edges", {"cell": 8.25}, ()),
             ("jitter", {"cell": 8.25, "rms": 0.3}, ()),
             ("jitter, at four samples a cell", {"cell": 4.07, "rms": 0.12}, ()),
             ("falling edges late", {"cell": 10.3, "rms": 0.2, "late": 2.5}, ()),
             ("rising edges late", {"cell": 10.3, "rms": 0.2, "late": -2.5}, ("--rate", "24M")),
-            ("a line that drifts", {"cell": 6.1, "rms": 0.15, "drift": 0.0008}, ()),
+            ("a line that drifts", {"cell": 6.1, "rms": 0.15, "drift": 0.0002}, ()),
             ("long cells", {"cell": 61.3, "rms": 3}, ()),
-            ("a line that stops twice", {"cell": 5.7, "rms": 0.1, "pauses": {20000: 3000, 51234: 500_000}}, ()),
+            ("a line that stops twice", {"cell": 5.7, "rms": 0.1, "pauses": {edge_from(20_000): 3000, edge_from(51_234): 500_000}}, ()),
         )
         for what, have, words in lines:
             capture = Capture(chance, cells, **have)
@@ -206,7 +216,7 @@ def main():
 
         # What is no line, or too little of one. Nothing is drawn of edges, and the cells are as without a picture.
         few = Capture(chance, cells[:90], cell=8)
-        chosen = random.Random(2)
+        noise = b"".join(bytes([number & 1]) * chance.randrange(2, 10) for number in range(40_000))
         for what, samples, words, status in (
             ("no sample", b"", (), 1),
             ("one sample", b"\x01", (), 1),
@@ -215,18 +225,17 @@ def main():
             ("no signal", b"\x00" * 1_000_000, (), 1),
             ("no signal at the other level", b"\x01" * 1_000_000, ("--rate", "24M", "--at", "48k"), 1),
             ("few edges", bytes(few.samples), (), 1),
-            ("noise", bytes(chosen.randrange(2) for _ in range(300_000)), (), 1),
-            ("noise, with a rate", bytes(chosen.randrange(2) for _ in range(300_000)), ("--rate", "24M", "--at", "48k"), 1),
+            ("noise", noise, (), 1),
+            ("noise, with a rate", noise, ("--rate", "24M", "--at", "48k"), 1),
         ):
             drawn = draw(samples, *words, status=status)
             judge(what, [f"{drawn.title}: {drawn.edges} edges"] * (drawn.edges != 0 or "No AES3 line" not in drawn.title))
 
-        # A noise between two lines, and more stretches without signal than a picture keeps.
+        # Noise between two lines, and more stretches without signal than a picture keeps.
         parts = [Capture(chance, cells[:5000], cell=6.2, rms=0.2) for _ in range(300)]
         silent = b"".join(bytes(part.samples) + bytes(2000) for part in parts)
         drawn = draw(silent, "--rate", "24M")
         judge("300 stretches without signal", [f"{drawn.title}: {len(drawn.silences)}"] * (not 200 <= len(drawn.silences) <= 256))
-        noise = bytes(chosen.randrange(2) for _ in range(200_000))
         line = bytes(Capture(chance, cells, cell=6.2, rms=0.2).samples)
         drawn = draw(line + noise + line)
         judge("noise between lines", [f"{drawn.edges}"] * (drawn.edges < 90_000))

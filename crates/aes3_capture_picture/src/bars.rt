@@ -10,8 +10,11 @@ use std::fmt::Write;
 /// Places and lengths in the picture, in tenths of its unit: where the first bar begins, the width of
 /// a bar and its space, the line from which bars rise and fall, and the length of the longest.
 const LEFT: u64 = 750;
+
 const BAR: u64 = 130;
+
 const MIDDLE: u64 = 2600;
+
 const LONGEST: u64 = 1200;
 
 /// The middle of the bar of edges that are in their places.
@@ -40,6 +43,7 @@ pub(crate) fn add_bars(
         add_bar(text, "falling", bin, falling.bar(bin), MIDDLE, len)?;
     }
     text.push_str("</g>\n")?;
+    add_limits(text)?;
     add_scale(text)
 }
 
@@ -101,12 +105,21 @@ fn bar_len(count: u64, highest: u64) -> u64
 
 /// Appends AES3's tolerance.
 fn add_tolerance(text: &mut String) -> Result<(), AllocError> {
-    let (left, right) = (Tenths(EXPECTED - TOLERANCE), Tenths(EXPECTED + TOLERANCE));
+    let left = Tenths(EXPECTED - TOLERANCE);
     let width = Tenths(2 * TOLERANCE);
     writeln!(
         text,
-        "<rect x=\"{left}\" y=\"132\" width=\"{width}\" height=\"256\" fill=\"#e4f2e4\"><title>AES3: a receiver tolerates jitter of 0.25 UI peak to peak</title></rect>\n<path d=\"M{left} 132V388M{right} 132V388\" stroke=\"#3c8c3c\" stroke-dasharray=\"5 3\"/>\n<text x=\"{}\" y=\"125\" text-anchor=\"middle\" fill=\"#2c6c2c\" font-size=\"12\">AES3 receiver tolerance: 0.25 UI peak to peak</text>",
+        "<rect x=\"{left}\" y=\"132\" width=\"{width}\" height=\"256\" fill=\"#e4f2e4\"><title>AES3: a receiver tolerates jitter of 0.25 UI peak to peak</title></rect>\n<text x=\"{}\" y=\"125\" text-anchor=\"middle\" fill=\"#2c6c2c\" font-size=\"12\">AES3 receiver tolerance: 0.25 UI peak to peak</text>",
         Tenths(EXPECTED)
+    )
+}
+
+/// Appends the limits of AES3's tolerance, over the bars.
+fn add_limits(text: &mut String) -> Result<(), AllocError> {
+    let (left, right) = (Tenths(EXPECTED - TOLERANCE), Tenths(EXPECTED + TOLERANCE));
+    writeln!(
+        text,
+        "<path d=\"M{left} 132V388M{right} 132V388\" stroke=\"#2c6c2c\" stroke-dasharray=\"5 3\"/>"
     )
 }
 
@@ -122,7 +135,9 @@ fn add_grid(text: &mut String, highest: u64) -> Result<(), AllocError> {
         }
         power = power.saturating_mul(10);
     }
-    text.push_str("</g>\n<path d=\"M75 260H920\" stroke=\"#222\"/>\n<text x=\"18\" y=\"260\" text-anchor=\"middle\" transform=\"rotate(-90 18 260)\" font-size=\"12\">edges (logarithmic)</text>\n")
+    text.push_str(
+        "</g>\n<path d=\"M75 260H920\" stroke=\"#222\"/>\n<text x=\"18\" y=\"260\" text-anchor=\"middle\" transform=\"rotate(-90 18 260)\" font-size=\"12\">edges (logarithmic)</text>\n",
+    )
 }
 
 /// Appends the line of a number of edges.

@@ -10,6 +10,7 @@ const FINE: u32 = 16;
 
 /// The shortest and the longest cell, in parts of a sample.
 const SHORTEST: u64 = 1 << 17;
+
 const LONGEST: u64 = 1 << 30;
 
 /// The longest time between two edges that a clock measures, in samples. Without an edge for 64
@@ -21,6 +22,7 @@ pub(crate) const CELL: u64 = 65_536;
 
 /// How many edges the clock averages: at first, and in the end.
 const FEW: u64 = 32;
+
 const MANY: u64 = 256;
 
 /// Follows the edges of a line, rising and falling alike. It averages many more edges than the

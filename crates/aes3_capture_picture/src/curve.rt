@@ -11,8 +11,11 @@ use std::fmt::Write;
 /// Places and lengths in the picture, in tenths of its unit: where time begins, how long it is, the
 /// line of the mean length of a cell, and the greatest distance from it.
 const LEFT: u64 = 750;
+
 const LEN: u64 = 8450;
+
 const MIDDLE: u64 = 5550;
+
 const HEIGHT: u64 = 500;
 
 /// The times of a capture.
@@ -103,13 +106,17 @@ pub(crate) fn add_curve(
             add_points(text, periods, times, scale)?;
         }
     }
-    text.push_str("<rect x=\"75\" y=\"500\" width=\"845\" height=\"110\" fill=\"none\" stroke=\"#222\"/>\n")?;
+    text.push_str(
+        "<rect x=\"75\" y=\"500\" width=\"845\" height=\"110\" fill=\"none\" stroke=\"#222\"/>\n",
+    )?;
     add_times(text, times)
 }
 
 /// Appends the scale of lengths.
 fn add_scale(text: &mut String, scale: Scale) -> Result<(), AllocError> {
-    text.push_str("<g font-size=\"11\" text-anchor=\"end\" fill=\"#555\"><path d=\"M75 505H920M75 555H920M75 605H920\" stroke=\"#bbb\" stroke-width=\"0.5\"/>")?;
+    text.push_str(
+        "<g font-size=\"11\" text-anchor=\"end\" fill=\"#555\"><path d=\"M75 505H920M75 555H920M75 605H920\" stroke=\"#bbb\" stroke-width=\"0.5\"/>",
+    )?;
     let range = Grouped(scale.range);
     write!(
         text,
@@ -181,7 +188,9 @@ pub(crate) fn add_strip(
     before: u64,
     times: Times,
 ) -> Result<(), AllocError> {
-    text.push_str("<rect x=\"75\" y=\"622\" width=\"845\" height=\"16\" fill=\"#f3c766\"/>\n<g fill=\"#8cc68c\">\n")?;
+    text.push_str(
+        "<rect x=\"75\" y=\"622\" width=\"845\" height=\"16\" fill=\"#f3c766\"/>\n<g fill=\"#8cc68c\">\n",
+    )?;
     let span = periods.samples_a_point();
     let mut begun = None;
     for number in 0..=POINTS {
@@ -216,7 +225,10 @@ fn add_part(text: &mut String, times: Times, from: u64, to: u64) -> Result<(), A
     let left = times.at(from);
     let width = Tenths(times.at(to).saturating_sub(left).max(10));
     let left = Tenths(left);
-    write!(text, "<rect x=\"{left}\" y=\"622\" width=\"{width}\" height=\"16\"")
+    write!(
+        text,
+        "<rect x=\"{left}\" y=\"622\" width=\"{width}\" height=\"16\""
+    )
 }
 
 /// Appends a stretch without signal.
@@ -224,10 +236,16 @@ fn add_stretch(text: &mut String, times: Times, stretch: Stretch) -> Result<(), 
     add_part(text, times, stretch.from, stretch.to)?;
     let (from, last) = (stretch.from, stretch.to.saturating_sub(1));
     if stretch.count == 1 {
-        writeln!(text, "><title>no signal: samples {from} to {last}</title></rect>")
+        writeln!(
+            text,
+            "><title>no signal: samples {from} to {last}</title></rect>"
+        )
     } else {
         let count = stretch.count;
-        writeln!(text, "><title>{count} stretches without signal: samples {from} to {last}</title></rect>")
+        writeln!(
+            text,
+            "><title>{count} stretches without signal: samples {from} to {last}</title></rect>"
+        )
     }
 }
 

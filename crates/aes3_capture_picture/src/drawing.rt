@@ -35,18 +35,32 @@ pub(crate) fn drawing(
 /// `AllocError` if there is no memory.
 fn body(alloc: Global, shown: Shown<'_>, rate: Option<u64>) -> Result<String, AllocError> {
     let mut text = String::new(alloc);
-    text.push_str("xmlns=\"http://www.w3.org/2000/svg\" viewBox=\"0 0 960 695\" font-family=\"sans-serif\" font-size=\"13\" fill=\"#222\">\n<rect width=\"960\" height=\"695\" fill=\"#fff\"/>\n")?;
+    text.push_str(
+        "xmlns=\"http://www.w3.org/2000/svg\" viewBox=\"0 0 960 695\" font-family=\"sans-serif\" font-size=\"13\" fill=\"#222\">\n<rect width=\"960\" height=\"695\" fill=\"#fff\"/>\n",
+    )?;
     add_heading(&mut text, shown, rate)?;
     add_bars(&mut text, shown.rising, shown.falling)?;
-    text.push_str("<text x=\"497\" y=\"426\" text-anchor=\"middle\">distance of an edge from its place, in unit intervals (UI, one cell): early to the left, late to the right</text>\n")?;
-    text.push_str("<g font-size=\"11\" fill=\"#555\" text-anchor=\"middle\"><text x=\"497\" y=\"443\">Places are on a clock that follows the line's own jitter up to about 1/2800 of the cell rate (2.2 kHz at 48 kHz), not above.</text><text x=\"497\" y=\"457\">AES3 asks a receiver to tolerate jitter of 0.25 UI peak to peak above 8 kHz, and more below: up to 10 UI under 200 Hz.</text></g>\n")?;
-    text.push_str("<text x=\"75\" y=\"490\" font-weight=\"bold\">Samples a cell, over time</text>\n")?;
+    text.push_str(
+        "<text x=\"497\" y=\"426\" text-anchor=\"middle\">distance of an edge from its place, in unit intervals (UI, one cell): early to the left, late to the right</text>\n",
+    )?;
+    text.push_str(
+        "<g font-size=\"11\" fill=\"#555\" text-anchor=\"middle\"><text x=\"497\" y=\"443\">Places are on a clock that follows the line's own jitter up to about 1/2800 of the cell rate (2.2 kHz at 48 kHz), not above.</text><text x=\"497\" y=\"457\">AES3 asks a receiver to tolerate jitter of 0.25 UI peak to peak above 8 kHz, and more below: up to 10 UI under 200 Hz.</text></g>\n",
+    )?;
+    text.push_str(
+        "<text x=\"75\" y=\"490\" font-weight=\"bold\">Samples a cell, over time</text>\n",
+    )?;
     let times = Times {
         samples: shown.samples,
         rate,
     };
     add_curve(&mut text, shown.periods, times)?;
-    add_strip(&mut text, shown.periods, shown.stretches, shown.before, times)?;
+    add_strip(
+        &mut text,
+        shown.periods,
+        shown.stretches,
+        shown.before,
+        times,
+    )?;
     add_legend(&mut text, shown)?;
     text.push_str("</svg>\n")?;
     Ok(text)
@@ -119,7 +133,9 @@ fn add_direction(
 
 /// Appends what the colours of the strip mean.
 fn add_legend(text: &mut String, shown: Shown<'_>) -> Result<(), AllocError> {
-    text.push_str("<g font-size=\"12\"><rect x=\"75\" y=\"668\" width=\"12\" height=\"12\" fill=\"#8cc68c\"/><text x=\"92\" y=\"679\">line followed</text><rect x=\"200\" y=\"668\" width=\"12\" height=\"12\" fill=\"#f3c766\"/><text x=\"217\" y=\"679\">edges, but no line followed</text><rect x=\"405\" y=\"668\" width=\"12\" height=\"12\" fill=\"#3a3a3a\"/>")?;
+    text.push_str(
+        "<g font-size=\"12\"><rect x=\"75\" y=\"668\" width=\"12\" height=\"12\" fill=\"#8cc68c\"/><text x=\"92\" y=\"679\">line followed</text><rect x=\"200\" y=\"668\" width=\"12\" height=\"12\" fill=\"#f3c766\"/><text x=\"217\" y=\"679\">edges, but no line followed</text><rect x=\"405\" y=\"668\" width=\"12\" height=\"12\" fill=\"#3a3a3a\"/>",
+    )?;
     let dead = Grouped(shown.dead);
     let samples = Grouped(shown.samples);
     writeln!(

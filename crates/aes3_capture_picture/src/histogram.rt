@@ -145,7 +145,9 @@ impl Histogram {
         if self.edges == 0 {
             return 0;
         }
-        EXPECTED.saturating_sub(self.first).max(self.last.saturating_sub(EXPECTED))
+        EXPECTED
+            .saturating_sub(self.first)
+            .max(self.last.saturating_sub(EXPECTED))
     }
 
     /// The root of the mean of the squares of the distances of these and other edges, in

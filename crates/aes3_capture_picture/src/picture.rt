@@ -91,7 +91,7 @@ impl Picture {
     }
 
     /// Takes the octets of a piece of the capture.
-    pub fn take(&mut self, octets: &[u8]) {
+    pub(crate) fn take(&mut self, octets: &[u8]) {
         let mut chunk = [0; CHUNK];
         chunk[0] = self.kept;
         let mut filled = self.kept_len;
@@ -206,7 +206,10 @@ impl Picture {
 
     /// Counts an edge.
     fn count_edge(&mut self) {
-        let run = self.samples.saturating_sub(self.latest).min(u64::from(u32::MAX)) as u32;
+        let run = self
+            .samples
+            .saturating_sub(self.latest)
+            .min(u64::from(u32::MAX)) as u32;
         let period = self.clock.period();
         let place = self.clock.edge(run);
         if self.high {

@@ -26,7 +26,8 @@ impl<S: Source + Drop> Pictured<S> {
     pub fn into_picture(self) -> Picture
         ensures { result ≡ self.picture }
     {
-        self.picture
+        let Pictured { picture, .. } = self;
+        picture
     }
 }
 
