@@ -42,6 +42,12 @@ period_of rate at = option_and_then (λ r. option_and_then (period_in r) at) rat
 abbrev pub FitTogether : Option ℕ → Option ℕ → Type 0
 FitTogether rate at = IfSome rate (λ r. IfSome at (λ a. is_some (period_in r a) ≡ true))
 
+-- no option is given that is about the cells that are written, or about their run
+pub record WritesNoCells (options : Options) : Type 0 where
+  pub packed_out : one_of (codes "packed-out") options ≡ Some (codes "true") → ⊥
+  pub tell : one_of (codes "tell") options ≡ Some (codes "true") → ⊥
+  pub picture : first_of (codes "picture") options ≡ None
+
 -- the options ask for the job, and each of their values is one; those that want `--rate` or a file have it
 pub record AsksFor (options : Options) (job : Job) : Type 0 where
   pub output : IsChosen options (codes "packed-out") form.Packed form.Text job.form
@@ -58,6 +64,7 @@ pub record AsksFor (options : Options) (job : Job) : Type 0 where
   pub tell_wants_rate : first_of (codes "rate") options ≡ None → one_of (codes "tell") options ≡ Some (codes "true") → ⊥
   pub tell : IsChosen options (codes "tell") (rate_by options) None job.tell_each
   pub places : IsChosen options (codes "places") true false job.places
+  pub places_alone : one_of (codes "places") options ≡ Some (codes "true") → WritesNoCells options
   pub places_want_file : file_by options ≡ None → one_of (codes "places") options ≡ Some (codes "true") → ⊥
   pub picture : option_map (λ name. name.now) job.picture ≡ first_of (codes "picture") options
   pub file : option_map (λ name. name.now) job.file ≡ file_by options

@@ -1,5 +1,5 @@
 -- Why words ask for no job, and the text that says so.
-use Rattle.std.specs.Prelude.{List, ◌++◌, ◌≡◌, ◌≢◌, Option, ℕ, Some, None, codes, is_some, true}
+use Rattle.std.specs.Prelude.{List, ◌++◌, ◌≡◌, ◌≢◌, ◌⊎◌, Option, ℕ, Some, None, codes, is_some, true}
 use Rattle.clap.specs.Simple.{matches_of}
 use Rattle.clap.specs.Walk.{Text, first_of, one_of}
 use Rattle.aes3_cli.specs.LineFaults.{IsFaultIn, IsValueFault}
@@ -24,6 +24,7 @@ reason wrong.Unit = codes "--unit is 1 or 2 octets a sample"
 reason wrong.Bit = codes "--bit is 0 to 7, or with --unit 2 to 15"
 reason wrong.AtAlone = codes "--at wants --rate"
 reason wrong.TellAlone = codes "--tell wants --rate"
+reason wrong.PlacesOnly = codes "--places writes no cells: it goes with --rate, --at, --unit and --bit only"
 reason wrong.PlacesAlone = codes "--places wants FILE: it reads the report from standard input"
 reason wrong.Period = codes "a cell has 2.015625 to 8000 samples: --rate over 128 times --at"
 
@@ -50,6 +51,10 @@ IsWrongWith options wrong.AtAlone =
     (first_of (codes "rate") options ≡ None) × (is_some (first_of (codes "at") options) ≡ true)
 IsWrongWith options wrong.TellAlone =
     (first_of (codes "rate") options ≡ None) × (one_of (codes "tell") options ≢ Some (codes "false"))
+IsWrongWith options wrong.PlacesOnly =
+    (one_of (codes "places") options ≢ Some (codes "false"))
+    × ((one_of (codes "packed-out") options ≢ Some (codes "false"))
+    ⊎ ((one_of (codes "tell") options ≢ Some (codes "false")) ⊎ (is_some (first_of (codes "picture") options) ≡ true)))
 IsWrongWith options wrong.PlacesAlone =
     (file_by options ≡ None) × (one_of (codes "places") options ≢ Some (codes "false"))
 IsWrongWith options wrong.Period = AreApart (rate_by options) (at_by options) wrong.Period

@@ -6,7 +6,7 @@ ghost use Rattle.aes3_cli.specs.Options.{file_by, options_of};
 ghost use Rattle.clap.specs.Walk.{first_of, one_of};
 ghost use Rattle.aes3_cell.specs.declared.form.Form.TheVariants as form;
 ghost use Rattle.aes3_capture_recovery.specs.Levels.{bit_of_line, bits_of_sample};
-ghost use Rattle.aes3_capture_runs.specs.Asks.{AsksFor, FitTogether, IsChosen, IsJobOf, IsValueBy};
+ghost use Rattle.aes3_capture_runs.specs.Asks.{AsksFor, FitTogether, IsChosen, IsJobOf, IsValueBy, WritesNoCells};
 ghost use Rattle.aes3_capture_runs.specs.Asks.{at_by, octets_by, period_of, rate_by, value_by};
 ghost use Rattle.aes3_capture_runs.specs.Faults.{AreApart, HasNoValue, IsFaultOf, IsOptionFault, IsWrongWith};
 ghost use Rattle.aes3_capture_runs.specs.Samples.{unit_of, unit_of_job};
@@ -90,6 +90,7 @@ fn job_by<'a>(options: &ArgMatches<'a>) -> Result<Job<'a>, Wrong>
     want_rate(options)?;
     let period = period(rate, at)?;
     let file = file_of_options(options);
+    want_places_alone(options)?;
     let places = places(options, file)?;
     Ok(Job {
         form: form(options),
@@ -120,6 +121,30 @@ fn tell_each(options: &ArgMatches<'_>, rate: Option<u64>) -> Option<u64>
     ensures { IsChosen (options_of options.now) (codes "tell") rate None result }
 {
     if options.get_flag("tell") { rate } else { None }
+}
+
+/// Checks that `--places` is given without an option for cells.
+///
+/// # Errors
+/// `PlacesOnly` if there is such an option.
+fn want_places_alone(options: &ArgMatches<'_>) -> Result<(), Wrong>
+    ensures alone { IfOk result (λ _. one_of (codes "places") (options_of options.now) ≡ Some (codes "true")
+        → WritesNoCells (options_of options.now)) }
+    ensures wrong { IfErr result (IsWrongWith (options_of options.now)) }
+{
+    if !options.get_flag("places") {
+        return Ok(());
+    }
+    if options.get_flag("packed-out") {
+        return Err(Wrong::PlacesOnly);
+    }
+    if options.get_flag("tell") {
+        return Err(Wrong::PlacesOnly);
+    }
+    if options.get_str("picture").is_some() {
+        return Err(Wrong::PlacesOnly);
+    }
+    Ok(())
 }
 
 /// Whether a report is copied: then the capture is in a file.

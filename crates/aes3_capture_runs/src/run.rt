@@ -66,7 +66,7 @@ pub fn run_capture<E: Sink>(
     let output = Clearing::new(StdSink::new(rt.stdout().lock()), told, shown, is_shown);
     let mut sink = BufferedSink::new(rt.alloc(), output)?;
     let status = match job.picture {
-        _ if job.places => {
+        None if job.places => {
             let mut report = StdSource::new(rt.stdin());
             run_places(
                 rt.alloc(),

@@ -23,6 +23,8 @@ pub(crate) enum Wrong {
     AtAlone,
     /// `--tell` is given without `--rate`.
     TellAlone,
+    /// `--places` is given with an option for cells.
+    PlacesOnly,
     /// `--places` is given without a file.
     PlacesAlone,
     /// A cell of this line would have too few or too many samples.
@@ -43,6 +45,9 @@ impl Wrong {
             Wrong::Bit => "--bit is 0 to 7, or with --unit 2 to 15",
             Wrong::AtAlone => "--at wants --rate",
             Wrong::TellAlone => "--tell wants --rate",
+            Wrong::PlacesOnly => {
+                "--places writes no cells: it goes with --rate, --at, --unit and --bit only"
+            }
             Wrong::PlacesAlone => "--places wants FILE: it reads the report from standard input",
             Wrong::Period => "a cell has 2.015625 to 8000 samples: --rate over 128 times --at",
         }

@@ -1,0 +1,19 @@
+use Rattle.std.proofs.Common.{◌∙◌, ap, codes, inl, inr, is_some, refl, sym, true≢false}
+use Rattle.clap.specs.Matches.{found_of}
+use Rattle.clap.specs.Walk.{first_of}
+use Rattle.clap.proofs.WalkLemmas.{one_text-rows}
+use Rattle.aes3_cli.specs.Options.{options_of}
+use Rattle.aes3_capture_runs.proofs.OptionValues.{none-stands, stands}
+use Rattle.aes3_capture_runs.proofs.line.want_places_alone.Goals as goal
+
+pub returns-then-not-get_flag-clause-alone : goal.returns-then-not-get_flag-clause-alone
+returns-then-not-get_flag-clause-alone c = λ on. absurd (true≢false
+    (sym (c.if-not-get_flag.ensures.value (one_text-rows (found_of c.args.options.now) (codes "places") ∙ on))))
+
+pub returns-then-get_flag-clause-wrong : goal.returns-then-get_flag-clause-wrong
+returns-then-get_flag-clause-wrong c = (
+  λ off. true≢false
+      (c.if-not-get_flag.ensures.other (one_text-rows (found_of c.args.options.now) (codes "places") ∙ off)),
+  inl (λ off. true≢false
+      (c.if-get_flag.ensures.other (one_text-rows (found_of c.args.options.now) (codes "packed-out") ∙ off))),
+)
