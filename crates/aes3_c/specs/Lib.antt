@@ -12,3 +12,4 @@ pub mod Accounts
 pub mod Wav
 pub mod Owed
 pub mod Streaming
+pub mod Setting
