@@ -1091,6 +1091,49 @@ static inline const char *aes3_check_text(uint8_t check) {
  */
 uint32_t aes3_status_text(const uint8_t status[24], char text[800]);
 
+/** What aes3_status_set() returns. */
+enum aes3_set {
+    AES3_SET_DONE = 0,    /**< the status has the setting */
+    AES3_SET_UNKNOWN = 1, /**< no field is printed so, and no field of four bytes takes the value */
+    AES3_SET_LEFT = 2     /**< the field is one of the other use, or has no code for it in this status */
+};
+
+/**
+ * What an answer of aes3_status_set() says.
+ *
+ * @param answer  an #aes3_set
+ * @return a constant text without a full stop; of any other number `unknown answer`
+ *
+ * @code
+ * assert(strcmp(aes3_set_text(AES3_SET_LEFT), "this status has no such setting") == 0);
+ * @endcode
+ */
+static inline const char *aes3_set_text(uint8_t answer) {
+    static const char *const texts[] = {"the field is set", "no field is printed so", "this status has no such setting"};
+    return answer <= AES3_SET_LEFT ? texts[answer] : "unknown answer";
+}
+
+/**
+ * Sets a field of a status by its name, as `aes3 rewrite --set` does. Byte 23 keeps its value: for professional use put
+ * aes3_status_check_byte() there after the last setting.
+ *
+ * Names and words are those of `aes3 show` and `aes3 show --names`, also `use=professional` and `use=consumer`. A word length needs
+ * the right aux or greatest before it. The four fields of four bytes are `origin`, `destination`, `local` and `time`.
+ *
+ * @param[in,out] status  the bytes of a status
+ * @param text  `NAME=WORD`; no 0 is needed after it
+ * @param count  how many characters
+ * @return an #aes3_set; if it is not #AES3_SET_DONE, `status` is unchanged
+ *
+ * @code
+ * uint8_t status[24] = {0x04, 0, 0, 0x02, 0x0B}; // consumer use
+ * assert(aes3_status_set(status, "emphasis=50/15", 14) == AES3_SET_DONE && status[0] == 0x0C);
+ * assert(aes3_status_set(status, "emphasis=50/16", 14) == AES3_SET_UNKNOWN);
+ * assert(aes3_status_set(status, "unlocked=yes", 12) == AES3_SET_LEFT); // a field of professional use
+ * @endcode
+ */
+uint8_t aes3_status_set(uint8_t status[24], const char *text, size_t count);
+
 /** @} */
 
 /**

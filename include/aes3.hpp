@@ -239,6 +239,11 @@ inline bool status_of(const aes3_professional &fields, status &to) { return aes3
 inline bool status_of(const aes3_consumer &fields, status &to) { return aes3_status_of_consumer(&fields, to); }
 // Its text as `aes3 show` writes it: answers how many characters.
 inline uint32_t text_of(const status &of, char (&to)[AES3_STATUS_TEXT]) { return aes3_status_text(of, to); }
+// Sets a field by the text `NAME=WORD`, of so many characters or up to its 0, as `aes3 rewrite --set` does.
+inline aes3_set set_field(status &of, const char *text, std::size_t count) {
+    return static_cast<aes3_set>(aes3_status_set(of, text, count));
+}
+inline aes3_set set_field(status &of, const char *text) { return set_field(of, text, std::strlen(text)); }
 inline uint8_t check_byte(const status &of) { return aes3_status_check_byte(of); }
 inline aes3_check check(const status &of) { return static_cast<aes3_check>(aes3_status_check_state(of)); }
 #ifdef __cpp_lib_span
@@ -251,6 +256,10 @@ inline bool status_of(const aes3_consumer &fields, status_span<uint8_t> to) { re
 inline uint32_t text_of(status_span<const uint8_t> of, std::span<char, AES3_STATUS_TEXT> to) {
     return aes3_status_text(of.data(), to.data());
 }
+inline aes3_set set_field(status_span<uint8_t> of, const char *text, std::size_t count) {
+    return static_cast<aes3_set>(aes3_status_set(of.data(), text, count));
+}
+inline aes3_set set_field(status_span<uint8_t> of, const char *text) { return set_field(of, text, std::strlen(text)); }
 inline uint8_t check_byte(status_span<const uint8_t> of) { return aes3_status_check_byte(of.data()); }
 inline aes3_check check(status_span<const uint8_t> of) { return static_cast<aes3_check>(aes3_status_check_state(of.data())); }
 #endif
@@ -302,6 +311,7 @@ inline uint32_t version() { return aes3_version(); }
 inline const char *kind_text(const report &of) { return aes3_kind_text(of.kind); }
 inline const char *why_text(const report &of) { return aes3_why_text(of.why); }
 inline const char *text_of(aes3_check of) { return aes3_check_text(static_cast<uint8_t>(of)); }
+inline const char *text_of(aes3_set of) { return aes3_set_text(static_cast<uint8_t>(of)); }
 inline const char *text_of(aes3_wav_answer of) { return aes3_wav_answer_text(static_cast<uint8_t>(of)); }
 
 // ---- How the lock does it.

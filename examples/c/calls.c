@@ -1,7 +1,12 @@
 /* Each call of aes3.h once, with answers that are known. Status 1 where one is another. */
+#ifndef _GNU_SOURCE
+#define _GNU_SOURCE
+#endif
 #include "aes3.h"
 #include <stdio.h>
 #include <string.h>
+#include <sys/mman.h>
+#include <unistd.h>
 
 static int failed;
 
@@ -62,6 +67,38 @@ static void written_status(void) {
     WANT(aes3_status_text(sent, text) == sizeof wanted - 1 && memcmp(text, wanted, sizeof wanted - 1) == 0);
     WANT(text[sizeof wanted - 1] == '#' && text[sizeof text - 1] == '#');
     WANT(aes3_status_text(other, text) > 0 && memcmp(text, " consumer payload=pcm copyright=not-asserted ", 45) == 0);
+}
+
+/* Fields by their names. Each text ends at a page that can't be read. */
+static void settings(void) {
+    static const struct {
+        const char *text;
+        uint8_t answer;
+    } rows[] = {
+        {"emphasis=50/15", AES3_SET_DONE}, {"rate=44100", AES3_SET_DONE}, {"copyright=asserted", AES3_SET_DONE},
+        {"emphasis=50/16", AES3_SET_UNKNOWN}, {"emphasis", AES3_SET_UNKNOWN}, {"", AES3_SET_UNKNOWN}, {"\xFF=1", AES3_SET_UNKNOWN},
+        {"unlocked=yes", AES3_SET_LEFT}, {"origin=BBC", AES3_SET_LEFT}, {"use=professional", AES3_SET_DONE}, {"rate=44100", AES3_SET_DONE},
+        {"origin=BBC", AES3_SET_DONE}, {"word=24", AES3_SET_LEFT}, {"aux=audio", AES3_SET_DONE}, {"word=24", AES3_SET_DONE},
+        {"time=4294967295", AES3_SET_DONE}, {"time=4294967296", AES3_SET_UNKNOWN}, {"copyright=asserted", AES3_SET_LEFT},
+    };
+    static const uint8_t wanted[AES3_STATUS_BYTES] = {0x49, 0, 0x2C, 0, 0x0B, 0, 'B', 'B', 'C', ' ', 0, 0, 0, 0, 0, 0, 0, 0, 0xFF, 0xFF, 0xFF, 0xFF};
+    const size_t page = (size_t)sysconf(_SC_PAGESIZE);
+    char *const memory = (char *)mmap(NULL, 2 * page, PROT_READ | PROT_WRITE, MAP_PRIVATE | MAP_ANONYMOUS, -1, 0);
+    uint8_t status[AES3_STATUS_BYTES] = {0x04, 0, 0, 0x02, 0x0B}, before[AES3_STATUS_BYTES];
+    WANT(memory != (char *)MAP_FAILED && mprotect(memory + page, page, PROT_NONE) == 0);
+    for (size_t i = 0; i < sizeof rows / sizeof rows[0]; i++) {
+        const size_t len = strlen(rows[i].text);
+        char *const text = memory + page - len;
+        memcpy(text, rows[i].text, len);
+        memcpy(before, status, sizeof status);
+        WANT(aes3_status_set(status, text, len) == rows[i].answer);
+        WANT((memcmp(status, before, sizeof status) == 0) == (rows[i].answer != AES3_SET_DONE));
+        if (i == 2)
+            WANT(status[0] == 0x08 && status[3] == 0);
+    }
+    WANT(memcmp(status, wanted, sizeof status) == 0);
+    WANT(strcmp(aes3_set_text(AES3_SET_DONE), "the field is set") == 0 && strcmp(aes3_set_text(3), "unknown answer") == 0);
+    munmap(memory, 2 * page);
 }
 
 static void statuses(void) {
@@ -537,6 +574,7 @@ int main(void) {
     WANT(aes3_version() == AES3_VERSION_NUMBER);
     texts();
     statuses();
+    settings();
     carried();
     channels();
     sampled();

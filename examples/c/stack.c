@@ -66,6 +66,7 @@ static void read_consumer(void) { aes3_status_consumer(status, &consumer); }
 static void of_professional(void) { aes3_status_of_professional(&professional, status); }
 static void of_consumer(void) { aes3_status_of_consumer(&consumer, status); }
 static void status_text(void) { aes3_status_text(status, text); }
+static void status_set(void) { aes3_status_set(status, "time=1", 6); }
 static void check_byte(void) { status[23] = aes3_status_check_byte(status); }
 static void recover(void) { aes3_capture_cells(line_octets, sizeof line_octets, 1, 0, 0, packed, sizeof packed, &found); }
 static void recovery_init(void) { aes3_recovery_init(&recovery, 0); }
@@ -152,6 +153,7 @@ int main(void) {
     failed |= tell("aes3_status_of_professional", of_professional, 256);
     failed |= tell("aes3_status_of_consumer", of_consumer, 256);
     failed |= tell("aes3_status_text", status_text, 4096);
+    failed |= tell("aes3_status_set", status_set, 16384);
     failed |= tell("aes3_status_check_byte", check_byte, 256);
     failed |= tell("aes3_status_check_state", check_state, 256);
     failed |= tell("aes3_version", version, 256);

@@ -120,6 +120,7 @@ static void judge_spans(const aes3::words &block, const aes3::status &status) {
     std::vector<char> text(AES3_STATUS_TEXT);
     judge("text_of", aes3::text_of(given, std::span(text).first<AES3_STATUS_TEXT>()) > 200 && text[1] == 'p');
     judge("check", aes3::check(given) == AES3_GOOD && aes3::check_byte(given) == other[23]);
+    judge("set_field", aes3::set_field(bits, "local=7") == AES3_SET_DONE && aes3::set_field(bits, "local=-7", 8) == AES3_SET_UNKNOWN);
     std::vector<std::uint64_t> many(2 * AES3_BLOCK_WORDS);
     const std::span line(many);
     judge("encode", aes3::encode(words, false, cells) == AES3_BLOCK_WORDS);
@@ -199,6 +200,9 @@ int main() {
     judge("no consumer", !aes3::fields(found, consumer));
     judge("check", aes3::check(found) == AES3_GOOD);
     judge("text_of a check", std::string(aes3::text_of(aes3::check(found))) == "good");
+    judge("set_field", aes3::set_field(found, "origin=BBC") == AES3_SET_DONE && found[8] == 'C' && found[9] == ' ');
+    judge("set_field of characters", aes3::set_field(found, "origin=BBC", 9) == AES3_SET_DONE && found[8] == ' ');
+    judge("text_of a setting", std::string(aes3::text_of(aes3::set_field(found, "no=1"))) == "no field is printed so");
     judge("text_of an answer", std::string(aes3::text_of(AES3_WAV_NOT_WAVE)) == "this RIFF file is no WAV file");
     aes3::report fault = {};
     fault.kind = AES3_FAULT, fault.why = AES3_UNCLOSED;

@@ -121,6 +121,7 @@ _bits = {
     for sets in (False, True)
 }
 _check_byte = _declare("aes3_status_check_byte", c.c_uint8, _at)
+_status_set = _declare("aes3_status_set", c.c_uint8, _at, _at, c.c_size_t)
 _status_text = _declare("aes3_status_text", c.c_uint32, _at, _at)
 _capture_cells = _declare(
     "aes3_capture_cells", c.c_bool, _at, c.c_size_t, c.c_uint8, c.c_uint8, c.c_uint64, _at, c.c_size_t, _at

@@ -2,7 +2,7 @@
 
 from __future__ import annotations
 
-from typing import TYPE_CHECKING, Dict, Optional
+from typing import TYPE_CHECKING, Dict, Optional, Union
 
 from aes3 import calls
 
@@ -14,6 +14,9 @@ if TYPE_CHECKING:
 _CONSUMER = {44100: 0, 48000: 2, 32000: 3, 22050: 4, 24000: 6, 88200: 8, 768000: 9, 96000: 10, 176400: 12, 192000: 14}
 _BYTE_0 = {44100: 1, 48000: 2, 32000: 3}
 _BYTE_4 = {24000: 1, 96000: 2, 192000: 3, 22050: 9, 88200: 10, 176400: 11}
+
+
+_UNKNOWN, _LEFT = 1, 2  # what aes3_status_set answers of a setting that it does not take
 
 
 def _rate_with(codes: Dict[int, int], code: int) -> Optional[int]:
@@ -66,6 +69,28 @@ class Status:
             octets[4] |= _BYTE_4.get(rate, 0) << 3
         octets[23] = calls.check_byte(octets)
         return cls(octets)
+
+    def replace(self, **fields: Union[str, int]) -> Status:
+        """This status with other fields, as `aes3 rewrite --set` sets them: `status.replace(emphasis="50/15", rate=44100)`.
+
+        Names and words are those of `aes3 show` and `aes3 show --names`, also `use="professional"` and `use="consumer"`. They are set in
+        this order: a word length needs the right `aux` or `greatest` before it. For professional use the check byte is that of the new
+        status.
+        """
+        octets = calls._Status(*self._bytes)
+        for name, word in fields.items():
+            if isinstance(word, bool) or not isinstance(word, (str, int)):
+                raise TypeError(f"the word of a field is a text or a whole number, not {calls._named(word)}")
+            text = f"{name}={word}".encode(errors="surrogatepass")
+            answer = calls._status_set(octets, text, len(text))
+            if answer == _UNKNOWN:
+                raise ValueError(f"no field of channel status is printed as {name}={word}")
+            if answer == _LEFT:
+                use = "professional" if octets[0] & 1 else "consumer"
+                raise ValueError(f"this status for {use} use has no code for {name}={word}")
+        if octets[0] & 1:
+            octets[23] = calls._check_byte(octets)
+        return Status(octets)
 
     @property
     def use(self) -> str:

@@ -49,6 +49,8 @@ def main() -> None:
     assert rates(found) == (44100, 44100) and first_word(reports[0]) == 16 + 2**31
     if status is not None:
         fields: Dict[str, str] = status[0].fields
+        changed_status: aes3.Status = status[0].replace(rate=48000, emphasis="50/15")
+        assert changed_status.rate == 48000
         use: str = status[0].use
         assert fields["rate"] == status[1]["rate"] == "44100" and use == "consumer"
     by_text = aes3.decode("01" * 64, form="text")

@@ -218,6 +218,33 @@ def check_statuses():
     assert repr(first) == f"Status({first})"
 
 
+def check_settings():
+    status = aes3.Status.consumer(48000)
+    other = status.replace(rate=44100, emphasis="50/15", category="2")
+    assert (other.rate, other["emphasis"], other["category"]) == (44100, "50/15", "2") and status == aes3.Status.consumer(48000)
+    assert other.replace(rate="48000", emphasis="none", category=status["category"]) == status and status.replace() == status
+    assert aes3.Status(bytes(24)).replace(rate=48000)["rate"] == "48000"
+    first = aes3.Status.professional(96000)
+    named = first.replace(origin="BBC", destination="A B", local=7, time=2**32 - 1, mode="stereophonic")
+    assert (named["origin"], named["local"], named["time"], named["check"]) == ("BBC.", "7", str(2**32 - 1), "good") and first["check"] == "good"
+    assert named.replace(use="consumer").use == "consumer" and status.replace(use="professional")["check"] == "good"
+    # Each field by what is printed of it, but for what only the library sets.
+    for each in status, other, first, named:
+        for name, word in each.fields.items():
+            if name not in ("rest", "check", "origin", "destination"):
+                assert each.replace(**{name: word}) == each, (name, word)
+    for fields in {"emphasis": "50/16"}, {"rate": 44101}, {"no": "1"}, {"origin": "five5"}, {"origin": ""}, {"rate": "\udcff"}, {"\xfc": "1"}, {"time": 2**32}:
+        is_refused(ValueError, first.replace, **fields)
+    for of, fields in (status, {"unlocked": "yes"}), (first, {"copyright": "asserted"}), (status, {"origin": "BBC"}):
+        is_refused(ValueError, of.replace, **fields)
+    for word in None, 4.5, True, b"48000", ["48000"]:
+        is_refused(TypeError, status.replace, rate=word)
+    # A word has a code under what is set before it.
+    bare = aes3.Status(bytes([1]) + bytes(23))
+    is_refused(ValueError, bare.replace, word="24")
+    assert bare.replace(aux="audio", word="24")["word"] == "24"
+
+
 def sound():
     """A WAV file's octets."""
     file = io.BytesIO()

@@ -13,3 +13,4 @@ pub mod Accounts
 pub mod Wav
 pub mod Owed
 pub mod Streaming
+pub mod Setting

@@ -41,6 +41,8 @@ mod room;
 mod samples;
 /// The samples of many blocks as sound programs have them.
 mod sample_forms;
+/// Fields of channel status by their names.
+mod setting;
 /// Channel status: its use and its check byte.
 mod status;
 /// The cells of captures that come in pieces.

@@ -184,6 +184,13 @@ pub const AES3_ABSENT: u8 = 1;
 /// Byte 23 is not the check byte, and is not zero.
 pub const AES3_BAD: u8 = 2;
 
+/// The status has the setting.
+pub const AES3_SET_DONE: u8 = 0;
+/// No field is printed so.
+pub const AES3_SET_UNKNOWN: u8 = 1;
+/// The status has no such setting.
+pub const AES3_SET_LEFT: u8 = 2;
+
 /// What was found of a line among samples.
 #[repr(C)]
 #[derive(Clone, Copy, Debug, Default, PartialEq, Eq)]
@@ -367,6 +374,8 @@ extern "C" {
     pub fn aes3_status_of_consumer(fields: *const aes3_consumer, status: *mut u8) -> bool;
     /// Puts the text that `aes3 show` writes, without a 0 at the end; returns its length.
     pub fn aes3_status_text(status: *const u8, text: *mut u8) -> u32;
+    /// Sets the field that a text `NAME=WORD` names; returns `AES3_SET_DONE`, `AES3_SET_UNKNOWN` or `AES3_SET_LEFT`.
+    pub fn aes3_status_set(status: *mut u8, text: *const u8, count: usize) -> u8;
     /// The check byte of a professional status, for byte 23.
     pub fn aes3_status_check_byte(status: *const u8) -> u8;
     /// `AES3_GOOD`, `AES3_ABSENT` or `AES3_BAD`.

@@ -34,6 +34,10 @@ pub enum Error {
         /// How many octets the input has.
         len: u64,
     },
+    /// No field of channel status is printed as a setting says.
+    UnknownSetting,
+    /// The field of a setting is one of the other use, or has no code for the word in this status.
+    OtherStatus,
     /// The header of a WAV file is rejected.
     Wav {
         /// The octet that is wrong, counted from 0; of a file that ended, its number of octets.
@@ -58,6 +62,8 @@ impl fmt::Display for Error {
             Error::NotPacked { len } => {
                 write!(to, "the {len} octets do not end as packed cells do, with the number of unused cells")
             }
+            Error::UnknownSetting => to.write_str("no field of channel status is printed so"),
+            Error::OtherStatus => to.write_str("this channel status has no such setting"),
             Error::Wav { at, fault } => write!(to, "octet {at}: {fault}"),
             Error::NoChannel { channel } => write!(to, "the file has no channel {channel}"),
         }

@@ -1,4 +1,4 @@
-use crate::{Consumer, Professional};
+use crate::{Consumer, Error, Professional};
 use aes3_sys as sys;
 use core::fmt;
 
@@ -71,6 +71,36 @@ impl Status {
         let mut fields = Consumer::default();
         // SAFETY: the bytes are 24, and the fields are another place.
         unsafe { sys::aes3_status_consumer(self.bytes.as_ptr(), &mut fields) }.then_some(fields)
+    }
+
+    /// Sets a field by the text `NAME=WORD`, as `aes3 rewrite --set` does. The names and words are those of `aes3 show` and
+    /// `aes3 show --names`. A status for professional use gets its check byte.
+    ///
+    /// ```
+    /// use aes3::{Error, Status};
+    ///
+    /// let mut status = Status { bytes: [0; 24] };
+    /// status.set("emphasis=50/15")?;
+    /// status.set("rate=48000")?;
+    /// assert!(status.to_string().contains(" emphasis=50/15 ") && status.rate() == Some(48_000));
+    /// assert_eq!(status.set("emphasis=50/16"), Err(Error::UnknownSetting));
+    /// assert_eq!(status.set("unlocked=yes"), Err(Error::OtherStatus)); // a field of professional use
+    /// # Ok::<(), Error>(())
+    /// ```
+    ///
+    /// # Errors
+    /// [`Error::UnknownSetting`] and [`Error::OtherStatus`]; the status is then unchanged.
+    pub fn set(&mut self, text: &str) -> Result<(), Error> {
+        // SAFETY: the bytes are 24, and the text is given with its length.
+        match unsafe { sys::aes3_status_set(self.bytes.as_mut_ptr(), text.as_ptr(), text.len()) } {
+            sys::AES3_SET_DONE => (),
+            sys::AES3_SET_LEFT => return Err(Error::OtherStatus),
+            _ => return Err(Error::UnknownSetting),
+        }
+        if self.bytes[0] & 1 == 1 {
+            self.bytes[23] = self.check_byte();
+        }
+        Ok(())
     }
 
     /// The sampling frequency in hertz, if the status names one: the one that `aes3 to-wav` writes into its header.

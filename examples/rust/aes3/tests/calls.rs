@@ -141,6 +141,37 @@ fn status_and_samples() {
 }
 
 #[test]
+fn fields_by_their_names() {
+    let mut status = Status { bytes: [0; 24] };
+    for (text, result) in [
+        ("use=professional", Ok(())),
+        ("emphasis=50/15", Ok(())),
+        ("rate=192000", Ok(())),
+        ("word=24", Err(Error::OtherStatus)),
+        ("aux=audio", Ok(())),
+        ("word=24", Ok(())),
+        ("origin=BBC", Ok(())),
+        ("time=4294967295", Ok(())),
+        ("time=4294967296", Err(Error::UnknownSetting)),
+        ("copyright=asserted", Err(Error::OtherStatus)),
+        ("", Err(Error::UnknownSetting)),
+        ("origin", Err(Error::UnknownSetting)),
+        ("\u{fc}=1", Err(Error::UnknownSetting)),
+    ] {
+        let before = status;
+        assert_eq!(status.set(text), result, "{text}");
+        assert!(result.is_ok() || status == before);
+        assert!(status.check() == Check::Good);
+    }
+    let professional = status.professional().unwrap();
+    assert_eq!((professional.emphasis, professional.aux, professional.word), (3, 4, 5));
+    assert_eq!((professional.origin, professional.time, status.rate()), (*b"BBC ", u32::MAX, Some(192_000)));
+    let mut status = Status { bytes: [0; 24] };
+    status.set("rate=48000").unwrap();
+    assert_eq!(status.bytes, Status::of_consumer(&aes3::Consumer { rate: 2, ..Default::default() }).unwrap().bytes);
+}
+
+#[test]
 fn bits_beside_the_audio() {
     let (block, status) = block();
     let mut other = block;
