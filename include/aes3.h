@@ -1095,7 +1095,7 @@ uint32_t aes3_status_text(const uint8_t status[24], char text[800]);
 enum aes3_set {
     AES3_SET_DONE = 0,    /**< the status has the setting */
     AES3_SET_UNKNOWN = 1, /**< no field is printed so, and no field of four bytes takes the value */
-    AES3_SET_LEFT = 2     /**< the field is one of the other use, or has no code for it in this status */
+    AES3_SET_REFUSED = 2     /**< the field is one of the other use, or has no code for it in this status */
 };
 
 /**
@@ -1105,12 +1105,12 @@ enum aes3_set {
  * @return a constant text without a full stop; of any other number `unknown answer`
  *
  * @code
- * assert(strcmp(aes3_set_text(AES3_SET_LEFT), "this status has no such setting") == 0);
+ * assert(strcmp(aes3_set_text(AES3_SET_REFUSED), "this status has no such setting") == 0);
  * @endcode
  */
 static inline const char *aes3_set_text(uint8_t answer) {
     static const char *const texts[] = {"the field is set", "no field is printed so", "this status has no such setting"};
-    return answer <= AES3_SET_LEFT ? texts[answer] : "unknown answer";
+    return answer <= AES3_SET_REFUSED ? texts[answer] : "unknown answer";
 }
 
 /**
@@ -1129,7 +1129,7 @@ static inline const char *aes3_set_text(uint8_t answer) {
  * uint8_t status[24] = {0x04, 0, 0, 0x02, 0x0B}; // consumer use
  * assert(aes3_status_set(status, "emphasis=50/15", 14) == AES3_SET_DONE && status[0] == 0x0C);
  * assert(aes3_status_set(status, "emphasis=50/16", 14) == AES3_SET_UNKNOWN);
- * assert(aes3_status_set(status, "unlocked=yes", 12) == AES3_SET_LEFT); // a field of professional use
+ * assert(aes3_status_set(status, "unlocked=yes", 12) == AES3_SET_REFUSED); // a field of professional use
  * @endcode
  */
 uint8_t aes3_status_set(uint8_t status[24], const char *text, size_t count);

@@ -77,9 +77,9 @@ static void settings(void) {
     } rows[] = {
         {"emphasis=50/15", AES3_SET_DONE}, {"rate=44100", AES3_SET_DONE}, {"copyright=asserted", AES3_SET_DONE},
         {"emphasis=50/16", AES3_SET_UNKNOWN}, {"emphasis", AES3_SET_UNKNOWN}, {"", AES3_SET_UNKNOWN}, {"\xFF=1", AES3_SET_UNKNOWN},
-        {"unlocked=yes", AES3_SET_LEFT}, {"origin=BBC", AES3_SET_LEFT}, {"use=professional", AES3_SET_DONE}, {"rate=44100", AES3_SET_DONE},
-        {"origin=BBC", AES3_SET_DONE}, {"word=24", AES3_SET_LEFT}, {"aux=audio", AES3_SET_DONE}, {"word=24", AES3_SET_DONE},
-        {"time=4294967295", AES3_SET_DONE}, {"time=4294967296", AES3_SET_UNKNOWN}, {"copyright=asserted", AES3_SET_LEFT},
+        {"unlocked=yes", AES3_SET_REFUSED}, {"origin=BBC", AES3_SET_REFUSED}, {"use=professional", AES3_SET_DONE}, {"rate=44100", AES3_SET_DONE},
+        {"origin=BBC", AES3_SET_DONE}, {"word=24", AES3_SET_REFUSED}, {"aux=audio", AES3_SET_DONE}, {"word=24", AES3_SET_DONE},
+        {"time=4294967295", AES3_SET_DONE}, {"time=4294967296", AES3_SET_UNKNOWN}, {"copyright=asserted", AES3_SET_REFUSED},
     };
     static const uint8_t wanted[AES3_STATUS_BYTES] = {0x49, 0, 0x2C, 0, 0x0B, 0, 'B', 'B', 'C', ' ', 0, 0, 0, 0, 0, 0, 0, 0, 0xFF, 0xFF, 0xFF, 0xFF};
     const size_t page = (size_t)sysconf(_SC_PAGESIZE);

@@ -13,7 +13,7 @@ pub record WasSet (text old new : List ℕ) : Type 0 where
   pub is : new ≡ set_all settings old
 
 -- a status does not take what the text sets
-pub record IsLeft (text status : List ℕ) : Type 0 where
+pub record IsRefused (text status : List ℕ) : Type 0 where
   pub settings : Settings
   pub of_text : AreSettingsOf (text ∷ []) settings
   pub takes : takes_all settings status ≡ false

@@ -3,7 +3,7 @@
 ghost use Rattle.std.specs.Prelude.{◌≡◌, ◌≢◌, ◌≤◌};
 ghost use Rattle.std.specs.Str.{IsUtf8};
 ghost use Rattle.aes3_status_text.specs.Settings.{IsUnknown};
-ghost use Rattle.aes3_c.specs.Setting.{IsLeft, WasSet};
+ghost use Rattle.aes3_c.specs.Setting.{IsRefused, WasSet};
 
 use aes3_status::{set_fields, takes_all};
 use aes3_status_text::settings_of_texts;
@@ -15,7 +15,7 @@ const DONE: u8 = 0;
 const UNKNOWN: u8 = 1;
 
 /// The status does not take the setting.
-const LEFT: u8 = 2;
+const REFUSED: u8 = 2;
 
 /// Sets the field of a channel status that `show` prints as this text, `NAME=WORD`, as `--set` of the
 /// program does. Returns 0, or else why the status is as it was: 1 if no field has this text, 2 if the
@@ -25,8 +25,8 @@ pub extern "C" fn aes3_status_set(status: &mut [u8; 24], text: &[u8]) -> u8
     ensures within { result ≤ 2 }
     ensures done { result ≡ 0 → WasSet text.now status.old status.new }
     ensures unknown { result ≡ 1 → IsUtf8 text.now → IsUnknown text.now }
-    ensures refused { result ≡ 2 → IsLeft text.now status.old }
-    ensures left { result ≢ 0 → status.new ≡ status.old }
+    ensures refused { result ≡ 2 → IsRefused text.now status.old }
+    ensures unchanged { result ≢ 0 → status.new ≡ status.old }
 {
     let Ok(text) = str::from_utf8(text) else {
         return UNKNOWN;
@@ -35,7 +35,7 @@ pub extern "C" fn aes3_status_set(status: &mut [u8; 24], text: &[u8]) -> u8
         return UNKNOWN;
     };
     if !takes_all(status, &settings) {
-        return LEFT;
+        return REFUSED;
     }
     set_fields(status, &settings);
     DONE

@@ -189,7 +189,7 @@ pub const AES3_SET_DONE: u8 = 0;
 /// No field is printed so.
 pub const AES3_SET_UNKNOWN: u8 = 1;
 /// The status has no such setting.
-pub const AES3_SET_LEFT: u8 = 2;
+pub const AES3_SET_REFUSED: u8 = 2;
 
 /// What was found of a line among samples.
 #[repr(C)]
@@ -374,7 +374,7 @@ extern "C" {
     pub fn aes3_status_of_consumer(fields: *const aes3_consumer, status: *mut u8) -> bool;
     /// Puts the text that `aes3 show` writes, without a 0 at the end; returns its length.
     pub fn aes3_status_text(status: *const u8, text: *mut u8) -> u32;
-    /// Sets the field that a text `NAME=WORD` names; returns `AES3_SET_DONE`, `AES3_SET_UNKNOWN` or `AES3_SET_LEFT`.
+    /// Sets the field that a text `NAME=WORD` names; returns `AES3_SET_DONE`, `AES3_SET_UNKNOWN` or `AES3_SET_REFUSED`.
     pub fn aes3_status_set(status: *mut u8, text: *const u8, count: usize) -> u8;
     /// The check byte of a professional status, for byte 23.
     pub fn aes3_status_check_byte(status: *const u8) -> u8;

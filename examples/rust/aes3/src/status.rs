@@ -94,7 +94,7 @@ impl Status {
         // SAFETY: the bytes are 24, and the text is given with its length.
         match unsafe { sys::aes3_status_set(self.bytes.as_mut_ptr(), text.as_ptr(), text.len()) } {
             sys::AES3_SET_DONE => (),
-            sys::AES3_SET_LEFT => return Err(Error::OtherStatus),
+            sys::AES3_SET_REFUSED => return Err(Error::OtherStatus),
             _ => return Err(Error::UnknownSetting),
         }
         if self.bytes[0] & 1 == 1 {
