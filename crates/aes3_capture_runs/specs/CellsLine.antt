@@ -1,5 +1,5 @@
 -- The command line of `aes3-cells`, as a definition of `clap`.
-use Rattle.std.specs.Prelude.{List, [], ◌∷◌, codes, map}
+use Rattle.std.specs.Prelude.{[], ◌∷◌, codes, map}
 use Rattle.clap.specs.Walk.{Rule}
 use Rattle.clap.specs.Simple.{App}
 use Rattle.aes3_cli.specs.CommandLine.{file, flag, packed_out, program_with, text_option}
