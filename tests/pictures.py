@@ -138,11 +138,13 @@ def differences(drawn, capture):
         yield f"no signal in {drawn.silences}, not in {capture.silences}"
 
 
-def period_differences(drawn, capture, parts):
+def period_differences(drawn, capture, least):
     """Points whose length of a cell is farther than so many parts from the mean of the cells in them."""
     if not drawn.points:
         yield "there is no point"
-    for first, last, period in drawn.points:
+    for number, (first, last, period) in enumerate(drawn.points):
+        # The clock begins with the length of a cell that was measured from 256 runs, and settles in the first point.
+        parts = 0.0005 if number == 0 else least
         lengths = [length for place, length in capture.lengths if first <= place <= last]
         if lengths and abs(period / (sum(lengths) / len(lengths)) - 1) > parts:
             yield f"samples {first} to {last}: {period}, not {sum(lengths) / len(lengths)}"
