@@ -1,4 +1,5 @@
-"""Samples of a logic analyser: what the page recovers of them beside `aes3-cells`, and what it says where there is no line."""
+"""Samples of a logic analyser: what the page recovers of them beside `aes3-cells`, how it draws their edges beside `--picture`, and what it
+says where there is no line."""
 
 import os
 import re
@@ -35,6 +36,37 @@ def recovered(path, unit, channel):
     return ran.stdout, ran.stderr.decode()
 
 
+BAR = re.compile(r"(rising|falling), ([+-]?)(\d+\.\d+) UI: (\d+) edges")
+SIDE = re.compile(r"([\d,]+) (rising|falling): (\d+\.\d+) UI (early|late) on average, (\d+\.\d+) UI rms about that")
+EDGES = """(() => ["rising", "falling"].map(name => {
+    const { edges, mean, rms, bars } = page.found.edges[name];
+    return [edges, mean, rms, bars];
+}))()"""
+
+
+def compare_edges(compare, browser, name, path, line, folder):
+    """The edges that the page draws, by the numbers in a picture of the program."""
+    picture = f"{folder}/edges.svg"
+    with open(path, "rb") as file:
+        subprocess.run([CELLS, "--unit", str(line[0]), "--bit", str(line[1]), "--picture", picture], stdin=file, stdout=subprocess.DEVNULL,
+                       stderr=subprocess.DEVNULL)
+    with open(picture, encoding="ascii") as file:
+        text = file.read()
+    bars = {"rising": [0] * 65, "falling": [0] * 65}
+    for side, sign, distance, count in BAR.findall(text):
+        bars[side][32 + round(float(sign + distance) * 64)] += int(count)
+    for (count, side, mean, where, rms), shown in zip(SIDE.findall(text), browser.ask(EDGES)):
+        count = int(count.replace(",", ""))
+        mean = float(mean) * (-1 if where == "early" else 1)
+        compare.same(f"{name}: {side} edges, {count} and {shown[0]}", abs(shown[0] - count) <= 4 + count / 200, True)
+        compare.same(f"{name}: {side}, their mean", abs(shown[1] - mean) < 0.003, True)
+        compare.same(f"{name}: {side}, their rms", abs(shown[2] - float(rms)) < 0.003, True)
+        moved = sum(abs(one - other) for one, other in zip(bars[side], shown[3]))
+        compare.same(f"{name}: {side}, their bars differ by {moved}", moved <= 20 + count / 20, True)
+    compare.same(f"{name}: the edges are drawn", browser.ask("[at('edges').hidden, at('edges').querySelectorAll('rect.rising').length > 0]"),
+                 [False, True])
+
+
 def compare_captures(compare, browser, program, folder):
     """How many captures were compared; None where there is no program to compare with."""
     if not os.access(CELLS, os.X_OK):
@@ -67,6 +99,7 @@ def compare_captures(compare, browser, program, folder):
         compare.same(f"{name}: the packed cells", browser.ask("page.found.cells.file.size"), len(cells))
         blocks = saved(browser, folder, "save-blocks", f"{name}.block")
         compare.same(f"{name}: the block file", blocks == program("decode", cells, "--packed-in"), True)
+        compare_edges(compare, browser, name, path, (unit, channel), folder)
         compare.same(f"{name}: the menus are shown", browser.ask("at('samples').hidden"), False)
         count += 1
     browser.ask("document.body.dataset.state = 'given'; at('channel').value = 1; at('channel').dispatchEvent(new Event('change'))")

@@ -1,6 +1,7 @@
 /* The cells of a capture: samples of a logic analyser, taken as the program `aes3-cells` takes them. */
 
 import { CellFile, PIECE } from "./cells.js";
+import { edgesOf } from "./jitter.js";
 import { plain } from "./words.js";
 
 /* How many octets differ from the one so many before. */
@@ -41,7 +42,7 @@ function figuresText({ period, edges, greatest, squares, dead, deadAt, measured 
 }
 
 /* Reads a file of samples, of `unit` octets each, in whose channel `channel` the line is, and gives its cells as a file of packed ones,
-   and what was found of it. */
+   what was found of it, and where its edges are. */
 export async function recoveredFile(codec, file, { unit, channel }, progress) {
     if (file.size > codec.mostSamples()) {
         throw new Error(`this page takes ${plain(codec.mostSamples())} bytes of samples at most. A longer capture is for the program: `
@@ -56,5 +57,6 @@ export async function recoveredFile(codec, file, { unit, channel }, progress) {
     if (found.measured === 0n) {
         throw new Error(`no line was found in channel ${channel}. Is it another one, or has a sample ${unit === 1 ? "two octets" : "one octet"}?`);
     }
-    return { file: new File([cells], file.name), figures: figuresText(found) };
+    const edges = edgesOf(codec.octets.subarray(0, file.size), { unit, channel }, Number(found.period) / 65536);
+    return { file: new File([cells], file.name), figures: figuresText(found), edges };
 }

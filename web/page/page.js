@@ -11,6 +11,7 @@ import { exampleFile } from "./example.js";
 import { cellsIn, drawLevels } from "./levels.js";
 import { durationOf, rateOf } from "./rate.js";
 import { readAll, wordsAt } from "./reading.js";
+import { drawEdges } from "./picture.js";
 import { lineOf } from "./reports.js";
 import { firstRows, rowElement } from "./rows.js";
 import { isOtherThanPcm } from "./status.js";
@@ -50,9 +51,9 @@ class Page {
         document.body.dataset.state = "reading";
         try {
             const found = await this.turns.alone(`${file.name} is read`, async progress => {
-                const { cells, figures } = await this.cellsOf(file, progress);
+                const { cells, figures, edges } = await this.cellsOf(file, progress);
                 const found = await readAll(this.codec, cells, bytes => progress(bytes, cells.file.size));
-                return { ...found, figures };
+                return { ...found, figures, edges };
             });
             await this.show(found, turn);
         } catch (error) {
@@ -73,7 +74,7 @@ class Page {
         const line = { unit: Number(at("unit").value), channel: Number(at("channel").value) };
         const recovered = await recoveredFile(this.codec, file, line, bytes => progress(bytes, file.size));
         const figures = `samples of a logic analyser, channel ${line.channel}: ${recovered.figures}`;
-        return { cells: await CellFile.open(recovered.file, "packed"), figures };
+        return { cells: await CellFile.open(recovered.file, "packed"), figures, edges: recovered.edges };
     }
 
     async show(found, turn) {
@@ -90,6 +91,7 @@ class Page {
         this.most = MOST_FAULTS;
         this.lines();
         drawStrip(at("strip"), found);
+        drawEdges(at("edges"), found.edges);
         at("cell").max = Math.max(cells.total - 1, 0);
         at("block").max = Math.max(tally.blocks - 1, 0);
         at("no-pcm").hidden = tally.blocks === 0 || !isOtherThanPcm(this.codec, tally.first);
