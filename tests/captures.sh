@@ -347,7 +347,7 @@ fi
 judge "its help" grep -q -e --packed-out help
 tr -d '\134' <"$root/man/aes3-cells.1" >page
 # shellcheck disable=SC2013 # they are words
-for option in $(grep -o -e '--[a-z][a-z-]*' help | sort -u); do
+for option in $(grep -o -E -e '^ *(-[A-Za-z], )?--[a-z][a-z-]*' help | grep -o -e '--[a-z-]*' | sort -u); do
     name=${option#--}
     judge "the manual page lacks $option" grep -q -F -e "$option" page
     for shell in aes3-cells.bash _aes3-cells aes3-cells.fish; do
