@@ -29,6 +29,7 @@
  *
  * - aes3_recovery_take(): 9,520
  * - aes3_recovery_finish(): 7,056
+ * - aes3_status_set(): 6,760
  * - aes3_blocks_of_samples(): 6,248
  * - aes3_capture_cells(): 5,552
  * - aes3_lock_push(): 5,064
@@ -40,7 +41,8 @@
  * - aes3_block_of_samples(): 3,096
  * - aes3_wav_write(): 2,104
  * - aes3_block_status(), aes3_block_validity(), aes3_block_user(): 1,592
- * - aes3_encode_block(), aes3_block_set_status(), aes3_block_set_validity(), aes3_block_set_user(): 1,576
+ * - aes3_block_set_status(), aes3_block_set_validity(), aes3_block_set_user(): 1,592
+ * - aes3_encode_block(): 1,576
  * - aes3_lock_block(), aes3_block_samples(): 1,560
  * - aes3_recovery_init(): 1,320
  * - aes3_status_text(): 1,304

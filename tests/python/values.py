@@ -220,8 +220,8 @@ def check_statuses():
 
 def check_settings():
     status = aes3.Status.consumer(48000)
-    other = status.replace(rate=44100, emphasis="50/15", category="2")
-    assert (other.rate, other["emphasis"], other["category"]) == (44100, "50/15", "2") and status == aes3.Status.consumer(48000)
+    other = status.replace(rate=44100, emphasis="50/15", category="cd")
+    assert (other.rate, other["emphasis"], other["category"]) == (44100, "50/15", "cd") and status == aes3.Status.consumer(48000)
     assert other.replace(rate="48000", emphasis="none", category=status["category"]) == status and status.replace() == status
     assert aes3.Status(bytes(24)).replace(rate=48000)["rate"] == "48000"
     first = aes3.Status.professional(96000)
