@@ -1,6 +1,6 @@
 //! Pairs of a cell and a sample at which the same stretch of the line ends.
 
-ghost use Rattle.std.specs.Prelude.{◌≡◌, ◌+◌, ◌<◌, ◌≤◌, ℕ, List, IfSome, get_or, set};
+ghost use Rattle.std.specs.Prelude.{◌≡◌, ◌+◌, ◌%◌, ◌<◌, ◌≤◌, ◌⊎◌, ℕ, List, IfNone, IfSome, None, get_or, set};
 ghost use Rattle.aes3_capture_places.specs.Marks.{IsFirst, IsLast, IsPlaced, between, no_mark};
 ghost use Rattle.aes3_capture_places.specs.declared.marks.Mark.{Mark};
 
@@ -39,7 +39,8 @@ impl Marks {
 
     /// Keeps a mark in place of the oldest.
     pub fn add(&mut self, mark: Mark)
-        ensures { (at : ℕ) × (at < 4096) × (self.new.kept ≡ set self.old.kept at mark) }
+        ensures kept { self.new.kept ≡ set self.old.kept self.old.next mark }
+        ensures next { self.new.next ≡ (self.old.next + 1) % 4096 }
     {
         self.kept[self.next] = mark;
         self.next = (self.next + 1) % KEPT;
@@ -48,7 +49,8 @@ impl Marks {
     /// The sample of a cell, between the last mark before the cell and the first after it. `None` if
     /// one of them is not kept.
     pub fn sample_of(&self, cell: u64) -> Option<u64>
-        ensures { IfSome result (IsPlaced self.now.kept cell) }
+        ensures place { IfSome result (IsPlaced self.now.kept cell) }
+        ensures none { IfNone result (IsLast self.now.kept 4096 cell None ⊎ IsFirst self.now.kept 4096 cell None) }
     {
         let before = self.last_before(cell)?;
         let after = self.first_after(cell)?;

@@ -1,9 +1,9 @@
 //! A capture whose cells are recovered, to find where they are.
 
-ghost use Rattle.std.specs.Prelude.{◌≡◌, ◌+◌, ◌++◌, ◌<◌, ◌^◌, [], ℕ, List, IfNone, IfSome, Option, length, true};
+ghost use Rattle.std.specs.Prelude.{◌≡◌, ◌+◌, ◌++◌, ◌<◌, ◌^◌, ◌⊎◌, [], ℕ, List, None, IfNone, IfSome, Option, length, true};
 ghost use Rattle.aes3_level.specs.declared.level.Level.{Level};
 ghost use Rattle.aes3_capture_recovery.specs.Levels.{bit_of_line, bits_of_sample, levels_of_samples};
-ghost use Rattle.aes3_capture_places.specs.Marks.{IsPlaced};
+ghost use Rattle.aes3_capture_places.specs.Marks.{IsFirst, IsLast, IsPlaced};
 ghost use Rattle.aes3_capture_places.specs.Placing.{ArePlaced, IsClose, IsMark, IsPlace, KeepsLatest, cells_given};
 
 use crate::marks::{Mark, Marks};
@@ -101,6 +101,7 @@ impl Places {
         ensures place { (known : Option ℕ) (levels : List Level) → ArePlaced known levels self.now
             → IfSome result (IsPlace known levels cell) }
         ensures nearest { IfSome result (IsPlaced self.now.marks.kept cell) }
+        ensures none { IfNone result (IsLast self.now.marks.kept 4096 cell None ⊎ IsFirst self.now.marks.kept 4096 cell None) }
     {
         self.marks.sample_of(cell)
     }

@@ -72,6 +72,8 @@ impl Capture {
         ensures samples_well { IfOk result (λ _. S.failed samples.new ≡ S.failed samples.old) }
         ensures sink_well { IfOk result (λ _. T.failed sink.new ≡ T.failed sink.old) }
         ensures passed { IfOk result (λ _. T.passed sink.new ≡ T.taken sink.new) }
+        ensures err { OnErr result (R.failed report.old + S.failed samples.old + T.failed sink.old
+            < R.failed report.new + S.failed samples.new + T.failed sink.new) }
     {
         let mut name = CellName::new();
         let mut text = [0; TEXT_LEN];
@@ -105,6 +107,7 @@ impl Capture {
         requires sink_room { T.failed sink.old + 1 < 2 ^ 64 }
         ensures samples_well { IfOk result (λ _. S.failed samples.new ≡ S.failed samples.old) }
         ensures sink_well { IfOk result (λ _. T.failed sink.new ≡ T.failed sink.old) }
+        ensures err { OnErr result (S.failed samples.old + T.failed sink.old < S.failed samples.new + T.failed sink.new) }
     {
         let mut from = 0;
         for at in 0..text.len() {
@@ -133,6 +136,7 @@ impl Capture {
         requires sink_room { T.failed sink.old + 1 < 2 ^ 64 }
         ensures samples_well { IfOk result (λ _. S.failed samples.new ≡ S.failed samples.old) }
         ensures sink_well { IfOk result (λ _. T.failed sink.new ≡ T.failed sink.old) }
+        ensures err { OnErr result (S.failed samples.old + T.failed sink.old < S.failed samples.new + T.failed sink.new) }
     {
         let Some(cell) = cell else {
             return Ok(());
@@ -152,7 +156,8 @@ impl Capture {
     /// The sample of a cell, for which the capture is read as far as needed.
     fn find<S: Source>(&mut self, cell: u64, samples: &mut S) -> Result<Option<u64>, Refusal>
         requires { S.failed samples.old + 1 < 2 ^ 64 }
-        ensures { IfOk result (λ _. S.failed samples.new ≡ S.failed samples.old) }
+        ensures well { IfOk result (λ _. S.failed samples.new ≡ S.failed samples.old) }
+        ensures err { OnErr result (S.failed samples.new ≡ S.failed samples.old + 1) }
     {
         'pieces: for _ in 0..u64::MAX {
             if self.ended || !self.places.is_ahead(cell) {
@@ -173,7 +178,8 @@ impl Capture {
     /// Reads a piece of the capture, and takes its whole samples.
     fn read_piece<S: Source>(&mut self, samples: &mut S) -> Result<(), Fault>
         requires { S.failed samples.old + 1 < 2 ^ 64 }
-        ensures { IfOk result (λ _. S.failed samples.new ≡ S.failed samples.old) }
+        ensures well { IfOk result (λ _. S.failed samples.new ≡ S.failed samples.old) }
+        ensures err { OnErr result (S.failed samples.new ≡ S.failed samples.old + 1) }
     {
         let kept = self.kept;
         let len = samples.read(&mut self.piece[kept..])?;
@@ -200,7 +206,8 @@ impl Capture {
 /// Writes octets.
 fn put<T: Sink>(sink: &mut T, octets: &[u8]) -> Result<(), Refusal>
     requires { T.failed sink.old + 1 < 2 ^ 64 }
-    ensures { IfOk result (λ _. T.failed sink.new ≡ T.failed sink.old) }
+    ensures well { IfOk result (λ _. T.failed sink.new ≡ T.failed sink.old) }
+    ensures err { OnErr result (T.failed sink.new ≡ T.failed sink.old + 1) }
 {
     match write_all(sink, octets) {
         Ok(()) => Ok(()),
@@ -216,7 +223,8 @@ fn put_sample<T: Sink>(
     is_json: bool,
 ) -> Result<(), Refusal>
     requires { T.failed sink.old + 1 < 2 ^ 64 }
-    ensures { IfOk result (λ _. T.failed sink.new ≡ T.failed sink.old) }
+    ensures well { IfOk result (λ _. T.failed sink.new ≡ T.failed sink.old) }
+    ensures err { OnErr result (T.failed sink.new ≡ T.failed sink.old + 1) }
 {
     put(
         sink,
@@ -244,7 +252,8 @@ fn put_sample<T: Sink>(
 /// Writes the time of a sample in seconds, with nine places.
 fn put_seconds<T: Sink>(sink: &mut T, sample: u64, rate: u64) -> Result<(), Refusal>
     requires { T.failed sink.old + 1 < 2 ^ 64 }
-    ensures { IfOk result (λ _. T.failed sink.new ≡ T.failed sink.old) }
+    ensures well { IfOk result (λ _. T.failed sink.new ≡ T.failed sink.old) }
+    ensures err { OnErr result (T.failed sink.new ≡ T.failed sink.old + 1) }
 {
     let rate = rate.max(1);
     put(sink, Buffer::new().format(sample / rate).as_bytes())?;
