@@ -190,7 +190,9 @@ def main(program, cells):
         judge("no line feed at the end", status == 0 and got.splitlines() == right)
         judge("an empty report", line.places(b"")[:2] == (0, b""))
         odd = b"x" * 100_000 + b"\n" + b"at at at at\nat 99999999999999999999\ncells 5\nat\n"
-        judge("lines that name no cell", line.places(odd)[:2] == (0, odd))
+        judge("lines that name no cell", line.places(odd)[:2] == (1, odd))
+        status, got, said = line.places(line.text.encode())
+        judge("cells for the report", status == 1 and got == line.text.encode() and "names a cell" in said, said)
         with subprocess.Popen([cells, "--places", line.name], stdin=subprocess.PIPE, stdout=subprocess.PIPE) as slow:
             for octet in report[:300]:
                 slow.stdin.write(bytes([octet]))

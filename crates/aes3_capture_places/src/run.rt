@@ -17,9 +17,11 @@ const PIECE_LEN: usize = 65_536;
 /// How many octets of samples are taken at once. A mark can be made after each.
 const CHUNK: usize = 64;
 
-/// How many lines of a report got the sample of the cell that they name, and how many did not.
+/// How many octets a report had, how many of its lines got the sample of the cell that they name,
+/// and how many did not.
 #[derive(Clone, Copy, Default)]
 pub struct Outcome {
+    pub octets: u64,
     pub found: u64,
     pub missing: u64,
 }
@@ -85,6 +87,7 @@ impl Capture {
             if len == 0 {
                 break;
             }
+            self.outcome.octets = self.outcome.octets.saturating_add(len as u64);
             self.place_piece(&mut name, &text[..len], samples, sink)?;
         }
         let cell = name.end();

@@ -13,7 +13,7 @@ use std::alloc::{AllocError, Global};
 
 /// Copies a report, and adds to each line that names a cell where the cell is in the capture. The
 /// line is in the job's bit, or in the bit that was found. Returns the exit status: 0 if each of
-/// these cells was found, 1 if one was not, 3 if an input, the output or memory failed.
+/// these cells was found, 1 if one was not or no line names one, 3 if an input, the output or memory failed.
 pub fn run_places<R: Source, S: Source, T: Sink, E: Sink>(
     alloc: Global,
     job: &Job<'_>,
@@ -39,7 +39,7 @@ pub fn run_places<R: Source, S: Source, T: Sink, E: Sink>(
 {
     let mut capture = Capture::new(job.period, unit_of_job(job, found), job.rate);
     match capture.place_report(report, samples, sink) {
-        Ok(outcome) if outcome.missing == 0 => DONE,
+        Ok(outcome) if is_done(outcome) => DONE,
         Ok(outcome) => match text_of_missing(alloc, job, look, &capture, outcome) {
             Ok(text) => {
                 say(&text, messages);
@@ -49,6 +49,12 @@ pub fn run_places<R: Source, S: Source, T: Sink, E: Sink>(
         },
         Err(refusal) => say_refusal(refusal, messages),
     }
+}
+
+/// Whether each cell that a report names was found. An empty report names none; another one that
+/// names none is no report.
+fn is_done(outcome: Outcome) -> bool {
+    outcome.missing == 0 && (outcome.found > 0 || outcome.octets == 0)
 }
 
 /// How many of the cells that a report names are in no place of the capture, and why.
@@ -62,6 +68,12 @@ fn text_of_missing(
     capture: &Capture,
     outcome: Outcome,
 ) -> Result<String, AllocError> {
+    if outcome.missing == 0 {
+        return String::from_str(
+            alloc,
+            "aes3-cells: no line of standard input names a cell: it wants a report, as `aes3 check --gaps` prints\n",
+        );
+    }
     let figures = capture.figures();
     if figures.measured == 0 && job.period.is_none() {
         let why = look.why(alloc)?;
