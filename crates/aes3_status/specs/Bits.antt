@@ -1,6 +1,6 @@
 -- The bits of a channel status in order of transmission, and the numbers that they stand for.
 use Rattle.std.specs.Prelude.{ℕ, zero, suc, List, [], ◌∷◌, ◌++◌, Bool, cond, length, take, drop, ◌+◌, ◌*◌, ◌%◌, ◌/◌, ◌==◌}
-use Rattle.aes3_status.specs.declared.place.Place.{Place}
+use Rattle.aes3_status.specs.declared.field.Place.{Place}
 
 -- the lowest bits of a number, the one of weight 1 first
 abbrev pub low_bits : ℕ → ℕ → List Bool

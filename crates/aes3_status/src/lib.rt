@@ -10,14 +10,12 @@ mod change;
 mod check;
 /// The fields for consumer use.
 mod consumer;
-/// The fields that a code can be written to.
+/// The fields that a code can be written to, and their places.
 mod field;
 /// The places of the first status of each kind.
 mod kind_places;
 /// Laws of the check byte and of setting fields.
 pub mod laws;
-/// The place of a field within a byte, and writing a code there.
-mod place;
 /// The fields for professional use.
 mod professional;
 /// Codes for fields, and setting them in a status.

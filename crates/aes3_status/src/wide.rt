@@ -3,7 +3,7 @@
 ghost use Rattle.std.specs.Prelude.{◌≡◌, ◌+◌, ◌≤◌};
 ghost use Rattle.aes3_status.specs.Wide.{set_four, set_wide};
 
-use crate::place::is_for_professional_use;
+use crate::field::is_for_professional_use;
 
 /// A field of professional channel status that is four whole bytes (AES3-2).
 #[derive(Clone, Copy, PartialEq, Eq)]

@@ -1,6 +1,6 @@
 use Rattle.std.proofs.Common.{ap, set}
 use Rattle.aes3_status.specs.Settings.{with_field}
-use Rattle.aes3_status.proofs.place.put_code.Goals as goal
+use Rattle.aes3_status.proofs.field.put_code.Goals as goal
 
 pub returns : goal.returns
 unfolding with_field

@@ -1,6 +1,6 @@
 use Rattle.std.proofs.Common.{ℕ, List, ◌+◌, ◌*◌, get_or, ap, ◌∙◌, sym, arith}
 use Rattle.aes3_status.proofs.BitFields.{four-bytes, take-four}
-use Rattle.aes3_status.proofs.place.u32_at.Goals as goal
+use Rattle.aes3_status.proofs.field.u32_at.Goals as goal
 
 pub returns : goal.returns
 returns c =

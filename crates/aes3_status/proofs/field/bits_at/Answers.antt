@@ -1,6 +1,6 @@
 use Rattle.std.proofs.Common.{◌∙◌, sym, arith, ◌/◌, ◌^◌, get_or, rules}
 use Rattle.aes3_status.proofs.BitFields.{field-in_byte, byte-mask}
-use Rattle.aes3_status.proofs.place.bits_at.Goals as goal
+use Rattle.aes3_status.proofs.field.bits_at.Goals as goal
 
 pub returns : goal.returns
 returns c =
