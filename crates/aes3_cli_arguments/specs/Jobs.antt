@@ -22,8 +22,8 @@ use Rattle.aes3_frame.specs.declared.fill.Fill.{Fill}
 use Rattle.aes3_frame.specs.declared.fill.Fill.TheVariants.{Zero, Hold}
 use Rattle.aes3_frame.specs.declared.status.Channel.{Channel}
 use Rattle.aes3_frame.specs.declared.status.Channel.TheVariants.{First, Second}
-use Rattle.aes3_status.specs.declared.carried.CarriedBits.{CarriedBits}
-use Rattle.aes3_status.specs.declared.carried.CarriedBits.TheVariants.{Validity, User, Status}
+use Rattle.aes3_frame.specs.declared.carried.CarriedBits.{CarriedBits}
+use Rattle.aes3_frame.specs.declared.carried.CarriedBits.TheVariants.{Validity, User, Status}
 use Rattle.aes3_status.specs.declared.change.Change.{Change}
 use Rattle.aes3_status.specs.declared.setting.Settings.{Settings}
 use Rattle.aes3_status.specs.Settings.{set_all}

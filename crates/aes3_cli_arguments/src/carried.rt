@@ -2,14 +2,13 @@
 
 ghost use Rattle.std.specs.Prelude.{◌≡◌, Some, codes};
 ghost use Rattle.aes3_frame.specs.declared.status.Channel.{Channel};
-ghost use Rattle.aes3_status.specs.declared.carried.CarriedBits.{CarriedBits};
+ghost use Rattle.aes3_frame.specs.declared.carried.CarriedBits.{CarriedBits};
 ghost use Rattle.aes3_cli_arguments.specs.Jobs.{AsksToRead, IsNumber, bits_by, bits_in, number_of};
 ghost use Rattle.aes3_cli_arguments.specs.Jobs.{options_of};
 
 use crate::value::number;
 use aes3_cli_jobs::ReadWork;
-use aes3_frame::Channel;
-use aes3_status::CarriedBits;
+use aes3_frame::{CarriedBits, Channel};
 use clap::ArgMatches;
 
 /// What `to-bits` does, with its options.

@@ -10,8 +10,8 @@ use Rattle.aes3_frame.specs.Subframes.{audio_len}
 use Rattle.aes3_frame.specs.Statuses.{bits_at, bits_of_bytes, bytes_in, status_len, status_place, user_of, user_place}
 use Rattle.aes3_frame.specs.Statuses.{validity_of, validity_place, with_bits_at, with_status, with_user, with_validity}
 use Rattle.aes3_block.specs.Laws.{other_channel}
-use Rattle.aes3_status.specs.declared.carried.CarriedBits.{CarriedBits}
-use Rattle.aes3_status.specs.declared.carried.CarriedBits.TheVariants.{Validity, User, Status}
+use Rattle.aes3_frame.specs.declared.carried.CarriedBits.{CarriedBits}
+use Rattle.aes3_frame.specs.declared.carried.CarriedBits.TheVariants.{Validity, User, Status}
 use Rattle.aes3_status.specs.declared.change.Change.{Change}
 use Rattle.aes3_engine.specs.Rewriting.{all_bits, cleared, rewritten, rewritten_blocks, set_user, set_validity}
 use Rattle.aes3_engine.specs.Rewriting.{with_bits_given}

@@ -2,8 +2,8 @@
 use Rattle.std.specs.Prelude.{ℕ, zero, suc, List, [], ◌∷◌, Bool, false, ◌+◌, map, take, drop, slice_index_or, slice_set}
 use Rattle.std.specs.List.{flat_map}
 use Rattle.aes3_bits.specs.Bits.{low_bits, number}
-use Rattle.aes3_frame.specs.declared.carried.Carried.{Carried}
-use Rattle.aes3_frame.specs.declared.carried.Carried.TheVariants.{Validity, User, Status}
+use Rattle.aes3_frame.specs.declared.carried.CarriedBits.{CarriedBits}
+use Rattle.aes3_frame.specs.declared.carried.CarriedBits.TheVariants.{Validity, User, Status}
 use Rattle.aes3_frame.specs.declared.status.Channel.{Channel}
 use Rattle.aes3_frame.specs.declared.status.Channel.TheVariants.{First, Second}
 use Rattle.aes3_frame.specs.Subframes.{audio_len}
@@ -30,7 +30,7 @@ user_place = audio_len + 1
 unfoldable pub status_place : ℕ
 status_place = audio_len + 2
 
-abbrev pub place_of : Carried → ℕ
+abbrev pub place_of : CarriedBits → ℕ
 place_of Validity = validity_place
 place_of User = user_place
 place_of Status = status_place

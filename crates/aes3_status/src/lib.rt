@@ -2,8 +2,6 @@
 //! the check byte (AES3-2, IEC 60958-3).
 #![tactic(auto)]
 
-/// The bits that subframes carry after their audio.
-mod carried;
 /// What the channel status, the validity bits and the user bits of a stream are changed to.
 mod change;
 /// The check byte (CRCC) of professional channel status.
@@ -29,7 +27,6 @@ mod taking_all;
 /// The fields for professional use that have four bytes.
 mod wide;
 
-pub use carried::CarriedBits;
 pub use change::Change;
 pub use check::{Check, check_byte, check_state, with_check};
 pub use consumer::Con;

@@ -9,7 +9,7 @@ mod choices;
 mod consumer;
 /// What follows a line of channel status.
 mod detail;
-/// The fields of a status: their names, and the words that their codes are printed as.
+/// A channel status as it is printed: its use and its fields, and the words of their codes.
 mod fields;
 /// Laws of what is printed of channel status.
 pub mod laws;
@@ -25,8 +25,6 @@ mod names;
 mod professional;
 /// Fields by their names, and codes by the words that `show` prints.
 mod settings;
-/// A whole channel status.
-mod status;
 /// How the lines of events are written.
 mod style;
 /// Settings as typed.
@@ -38,13 +36,12 @@ mod wide;
 
 pub use choices::add_choices;
 pub use detail::Detail;
-pub use fields::{NAME_LEN, WORD_LEN, word_of};
+pub use fields::{NAME_LEN, STATUS_LEN, WORD_LEN, put_status, word_of};
 pub use line::{DIGITS, LINE_LEN, Line};
 pub use lines::Lines;
 pub use listed::{SettingsFault, TEXTS, settings_of_texts};
 pub use names::{name_of, name_of_code};
 pub use settings::{consumer_setting, professional_setting};
-pub use status::{STATUS_LEN, put_status};
 pub use style::{Notation, Style};
 pub use typed::TypedSettings;
 pub use untaken::untaken_remedy;

@@ -2,8 +2,6 @@
 //! IEC 60958-3).
 #![tactic(auto)]
 
-/// The end of a line.
-mod ending;
 /// Events of a watched line, and their lines.
 mod event;
 /// Lines of preambles that are written together.

@@ -6,7 +6,7 @@ ghost use Rattle.aes3_cell.specs.Writes.{Wrote};
 ghost use Rattle.aes3_text_lines.specs.MarkLines.{level_digit, mark_beginning, mark_ending, mark_letter};
 ghost use Rattle.aes3_text_lines.specs.MarkLines.{mark_line};
 
-use crate::ending::{digit_of, end_line};
+use crate::tail::digit_of;
 use aes3_cell::{Fault, Level, Sink};
 use aes3_slot::Mark;
 use aes3_status_text::Line;
@@ -115,7 +115,7 @@ pub fn line_of_mark<T: Sink>(at: u64, mark: Mark, before: Level, sink: &mut T) -
     ensures { Wrote T.taken T.failed sink.old sink.new (mark_line at mark before) result }
 {
     let mut line = text_of_mark(at, mark, before);
-    end_line(&mut line, sink)
+    line.end(sink)
 }
 
 /// The beginning of a preamble's line.

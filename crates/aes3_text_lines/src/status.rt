@@ -5,7 +5,6 @@ ghost use Rattle.aes3_cell.specs.Writes.{Wrote};
 ghost use Rattle.aes3_text_lines.specs.StatusLines.{channel_digit, detail_text, head_text, status_line};
 ghost use Rattle.aes3_text_lines.specs.StatusLines.{status_line_with};
 
-use crate::ending::end_line;
 use crate::names::put_names;
 use crate::tail::Tail;
 use aes3_cell::{Fault, Sink};
@@ -83,7 +82,7 @@ pub fn line_of_status_with<T: Sink>(
     let mut line = head_of(block, channel);
     put_status(&mut line, status);
     line.bytes(text.as_bytes());
-    end_line(&mut line, sink)
+    line.end(sink)
 }
 
 /// Writes the line of the status of `channel` in block number `block`, as one buffer.
