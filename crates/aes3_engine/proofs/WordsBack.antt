@@ -13,7 +13,7 @@ use Rattle.aes3_forms_words.proofs.EachWord.{each-append}
 use Rattle.aes3_forms_words.proofs.ReadBack.{read-back}
 use Rattle.aes3_frame.specs.Blocks.{IsBlock}
 use Rattle.aes3_frame.specs.Files.{block_bytes, file, word_bytes, word_of}
-use Rattle.aes3_frame.proofs.BlockLemmas.{block_slots_384}
+use Rattle.aes3_frame.proofs.BlockLemmas.{block_subframes_384}
 use Rattle.aes3_cell.specs.declared.form.Form.{Form}
 use Rattle.aes3_cell.specs.Written.{written}
 use Rattle.aes3_level.specs.declared.level.Level.{Level}
@@ -72,7 +72,7 @@ block-length b h =
     let l = length-bytes (map word_of b) in
     let m = length-map b word_of in
     let n = h.count in
-    let k = block_slots_384 in
+    let k = block_subframes_384 in
     omega (arith, l, m, n, k)
 
 each-blocks : (f : ℕ → ℕ → ℕ → ℕ → ℕ → List ℕ) (bs : List (List (List Bool))) → All IsBlock bs

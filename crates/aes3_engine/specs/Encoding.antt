@@ -8,7 +8,7 @@ use Rattle.aes3_cell.specs.declared.refusal.RunError.TheVariants.{TooLong, Memor
 use Rattle.aes3_cell.specs.declared.refusal.RunError.TheVariants.{SoundHeader, Inexact}
 use Rattle.aes3_cell.specs.declared.counts.Counts.{Counts}
 use Rattle.aes3_block.specs.declared.file.FileFault.{FileFault}
-use Rattle.aes3_frame.specs.Blocks.{block_slots, block_len, block_cells, stream}
+use Rattle.aes3_frame.specs.Blocks.{block_subframes, block_len, block_cells, stream}
 use Rattle.aes3_frame.specs.Files.{words_of, lawful_words, has_code, has_parity, file_blocks, IsBlockFile}
 use Rattle.aes3_block.specs.Readers.{FileReader, reader_of, byte_fault, block_with, end_answer}
 use Rattle.aes3_block.specs.Refusals.{refusal_of}
@@ -62,7 +62,7 @@ pub record BadParityAt (b : List ℕ) (at : ℕ) : Type 0 where
 -- the bytes end inside a block
 pub record EndsInBlock (b : List ℕ) (left : ℕ) : Type 0 where
   pub lawful : AllLawful b
-  pub count : left ≡ length b % (4 * block_slots)
+  pub count : left ≡ length b % (4 * block_subframes)
   pub some : 0 < left
 
 -- why a run that read the bytes b was refused

@@ -16,9 +16,9 @@ of_channel First (p ∷ ps) = p ∷ of_channel Second ps
 of_channel Second (p ∷ ps) = of_channel First ps
 
 -- the number of a channel's first payload; each of its others stands two behind the one before
-abbrev pub first_slot_of : Channel → ℕ
-first_slot_of First = 0
-first_slot_of Second = 1
+abbrev pub first_subframe_of : Channel → ℕ
+first_subframe_of First = 0
+first_subframe_of Second = 1
 
 -- where V, U and C stand in a payload: behind the audio, in this order
 unfoldable pub validity_place : ℕ

@@ -16,7 +16,7 @@ ghost use Rattle.std.specs.Prelude.{◌≡◌, ◌≤◌, ◌<◌, ◌*◌, Some
 ghost use Rattle.aes3_bits.specs.Bits.{number};
 ghost use Rattle.aes3_frame.specs.Ones.{ones_in};
 ghost use Rattle.aes3_frame.specs.Statuses.{bits_at, bits_of_bytes, bytes_in, place_of, status_len};
-ghost use Rattle.aes3_frame.specs.Statuses.{first_slot_of, validity_of, user_of, with_bits_at};
+ghost use Rattle.aes3_frame.specs.Statuses.{first_subframe_of, validity_of, user_of, with_bits_at};
 ghost use Rattle.aes3_frame.specs.Statuses.{with_validity, with_user, status_of, with_status};
 
 use crate::block::{Block, FRAMES};
@@ -97,7 +97,7 @@ impl Block {
             (bits_of_bytes bytes.now) }
     {
         let place = place_in_payload(bit);
-        let first = first_slot(channel);
+        let first = channel.first_subframe();
         // Byte by byte, so that each bit of a byte has a shift that is known at compile time. The
         // frames are set in order.
         for k in 0..STATUS_LEN {
@@ -129,7 +129,7 @@ impl Block {
         ensures { slice_get (bits_at (place_of bit) self.now channel) i ≡ Some result }
     {
         bit_of_word(
-            self.words()[2 * i + first_slot(channel)],
+            self.words()[2 * i + channel.first_subframe()],
             place_in_payload(bit),
         )
     }
@@ -145,18 +145,6 @@ fn place_in_payload(bit: CarriedBits) -> u32
         CarriedBits::Validity => 24,
         CarriedBits::User => 25,
         CarriedBits::Status => 26,
-    }
-}
-
-/// The first payload of a channel; each later one is two payloads after the one before.
-#[inline(always)]
-fn first_slot(channel: Channel) -> usize
-    ensures slot { result ≡ first_slot_of channel }
-    ensures bound { result < 2 }
-{
-    match channel {
-        Channel::First => 0,
-        Channel::Second => 1,
     }
 }
 

@@ -27,7 +27,7 @@ mod subframe;
 mod word;
 
 pub use aes3_slot::mark_of;
-pub use block::{BLOCK_BYTES, BLOCK_CELLS, Block, SLOTS, zero_words};
+pub use block::{BLOCK_BYTES, BLOCK_CELLS, Block, FRAMES, SUBFRAMES, zero_words};
 pub use carried::{CarriedBits, ones_in};
 pub use cells::fill_block_cells;
 pub use fill::Fill;

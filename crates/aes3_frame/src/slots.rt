@@ -7,7 +7,7 @@ ghost use Rattle.aes3_slot.specs.Slots.{payload_len};
 ghost use Rattle.aes3_slot.specs.ReadWords.{read_word, read_words};
 ghost use Rattle.aes3_frame.specs.Files.{is_lawful, payload_of};
 
-use crate::block::{Block, SLOTS, zero_words};
+use crate::block::{Block, SUBFRAMES, zero_words};
 use crate::word::{PAYLOAD_LIMIT, word_of_payload};
 use aes3_slot::slot_bits;
 
@@ -30,12 +30,12 @@ pub(crate) fn has_odd_ones(cells: u64) -> bool
 impl Block {
     /// The block whose payloads these subframes carry, 64 cells each, the earliest in bit 0.
     /// Preambles and parity bits are ignored.
-    pub fn of_cells(words: &[u64; SLOTS]) -> Block
+    pub fn of_cells(words: &[u64; SUBFRAMES]) -> Block
         ensures { result ≡ map (take payload_len) (read_words words.now) }
     {
         let mut lawful = zero_words();
-        for (slot, cells) in words.iter().enumerate() {
-            lawful[slot] = word_of_cells(*cells);
+        for (subframe, cells) in words.iter().enumerate() {
+            lawful[subframe] = word_of_cells(*cells);
         }
         Block::of_words(lawful)
     }
@@ -43,7 +43,7 @@ impl Block {
 
 /// How many of these subframes, 64 cells each, the earliest in bit 0, have a wrong parity bit. Then
 /// the number of ones in time slots 4 to 31 is odd (IEC 60958-1: even parity).
-pub fn wrong_parities(words: &[u64; SLOTS]) -> u16
+pub fn wrong_parities(words: &[u64; SUBFRAMES]) -> u16
     ensures { result ≡ length (filter odd_ones (read_words words.now)) }
 {
     let mut wrong = 0;

@@ -11,7 +11,7 @@ use crate::subframe::{
     PREAMBLE_CELLS, are_subframes, candidate_in, completed, eight_completed, first_cell, first_of,
     last_behind, last_cell, last_octet, last_of, rest_of, with_cell,
 };
-use aes3_frame::{BLOCK_CELLS, GatheredCells, SLOTS};
+use aes3_frame::{BLOCK_CELLS, GatheredCells, SUBFRAMES};
 use aes3_level::{Cells, Level};
 use aes3_slot::{SUBFRAME_CELLS, begins_subframe, block_preambles, mark_of, wrong_cells};
 use std::marker::Model;
@@ -34,7 +34,7 @@ impl Model for Lock {
     ghost use Rattle.std.specs.Prelude.{◌≡◌, ◌≤◌, length};
     ghost use Rattle.std.specs.Option.{ForSome};
     ghost use Rattle.aes3_level.specs.Words.{low_cells};
-    ghost use Rattle.aes3_frame.specs.Blocks.{block_slots};
+    ghost use Rattle.aes3_frame.specs.Blocks.{block_subframes};
     ghost use Rattle.aes3_lock.specs.Following.{LockState};
 
     ghost Value = { LockState };
@@ -48,7 +48,7 @@ impl Model for Lock {
     } };
 
     ghost invariant = { λ k. (ForSome k.candidate (λ t. t.at ≤ k.seen))
-        × (length k.words ≡ block_slots) };
+        × (length k.words ≡ block_subframes) };
 }
 
 ghost use Rattle.std.specs.Prelude.{◌≡◌, ◌≤◌, List, [], ◌++◌, option_map, option_to_list, ◌<◌, ◌+◌};
@@ -130,7 +130,7 @@ impl Lock {
     /// The cells of the whole subframes of the last candidate, a word each, the earliest cell in
     /// bit 0. After the ending `Whole` or `Marked` they are those of its block, until more cells
     /// are taken.
-    pub fn words(&self) -> &[u64; SLOTS]
+    pub fn words(&self) -> &[u64; SUBFRAMES]
         ensures { result.now ≡ self.now.words }
     {
         self.words.words()
@@ -218,19 +218,19 @@ impl Lock {
         if offset > BLOCK_CELLS - SUBFRAME_CELLS {
             return false;
         }
-        let slot = offset / SUBFRAME_CELLS;
+        let subframe = offset / SUBFRAME_CELLS;
         let len = offset % SUBFRAME_CELLS;
         let cells = completed(self.subframe, len, word);
         let level = last_of(cells);
         let rest = rest_of(word, len);
-        if !begins_subframe(candidate.level, mark_of(slot), cells, 64)
-            || !begins_subframe(level, mark_of(slot + 1), rest, len as u32)
+        if !begins_subframe(candidate.level, mark_of(subframe), cells, 64)
+            || !begins_subframe(level, mark_of(subframe + 1), rest, len as u32)
         {
             return false;
         }
         self.seen += 64;
         self.recent = last_octet(word);
-        self.words.keep(slot as usize, candidate.level, cells);
+        self.words.keep(subframe as usize, candidate.level, cells);
         self.subframe = rest;
         self.candidate = Some(Candidate {
             at: candidate.at,
@@ -259,7 +259,7 @@ impl Lock {
         if offset < SUBFRAME_CELLS || offset > BLOCK_CELLS - 8 * SUBFRAME_CELLS {
             return 0;
         }
-        let slot = offset / SUBFRAME_CELLS;
+        let subframe = offset / SUBFRAME_CELLS;
         let len = offset % SUBFRAME_CELLS;
         let room = ((BLOCK_CELLS - offset) / SUBFRAME_CELLS) as usize;
         let mut behind = self.subframe;
@@ -270,13 +270,13 @@ impl Lock {
             let subframes = eight_completed(behind, len, eight);
             let rest = rest_of(eight[7], len);
             // After each eight subframes the preambles are the same, so they are found once.
-            if !are_subframes(candidate.level, slot, &subframes)
-                || !begins_subframe(candidate.level, mark_of(slot + 8), rest, len as u32)
+            if !are_subframes(candidate.level, subframe, &subframes)
+                || !begins_subframe(candidate.level, mark_of(subframe + 8), rest, len as u32)
             {
                 break;
             }
             self.words
-                .keep_eight(slot as usize + taken, candidate.level, &subframes);
+                .keep_eight(subframe as usize + taken, candidate.level, &subframes);
             self.recent = last_octet(eight[7]);
             behind = rest;
             taken += 8;
@@ -437,10 +437,10 @@ impl Lock {
             let ending = self.stop(first_cell(word));
             return Pushed::one(ending);
         }
-        let slot = offset / SUBFRAME_CELLS;
+        let subframe = offset / SUBFRAME_CELLS;
         let begun = offset % SUBFRAME_CELLS;
         let cells = completed(self.subframe, begun, word);
-        let wrong = wrong_cells(candidate.level, mark_of(slot), cells) >> begun;
+        let wrong = wrong_cells(candidate.level, mark_of(subframe), cells) >> begun;
         let right = wrong.trailing_zeros();
         let taken = len.min((SUBFRAME_CELLS - begun) as u32);
         if right < taken {
@@ -452,7 +452,7 @@ impl Lock {
             self.subframe = first_of(cells, end);
             return Pushed::quiet(taken);
         }
-        self.words.keep(slot as usize, candidate.level, cells);
+        self.words.keep(subframe as usize, candidate.level, cells);
         self.subframe = 0;
         self.candidate = Some(Candidate {
             at: candidate.at,

@@ -183,17 +183,17 @@ pub(crate) fn eight_completed(begun: u64, len: u64, words: &[u64; 8]) -> [u64; 8
 }
 
 /// Whether these are subframes after the level `before` that end at it again, as they do if their
-/// parity is right. Their preambles are those of a block's subframes from `slot` on.
-pub(crate) fn are_subframes(before: Level, slot: u64, cells: &[u64; 8]) -> bool
-    requires some { 0 < slot }
-    requires room { slot < 384 }
+/// parity is right. Their preambles are those of a block's subframes from `subframe` on.
+pub(crate) fn are_subframes(before: Level, subframe: u64, cells: &[u64; 8]) -> bool
+    requires some { 0 < subframe }
+    requires room { subframe < 384 }
     ensures fronts { result ≡ true → (i : ℕ) → i < 8
-        → IsFrontOf before (mark_at (slot + i)) (take 64 (word_cells (get_or cells.now i 0))) }
+        → IsFrontOf before (mark_at (subframe + i)) (take 64 (word_cells (get_or cells.now i 0))) }
     ensures levels { result ≡ true → (i : ℕ) → i < 8
         → at (word_cells (get_or cells.now i 0)) 63 ≡ before }
     ensures right { result ≡ true → (i : ℕ) → i < 8
-        → IsRight before (mark_at (slot + i)) (get_or cells.now i 0) }
+        → IsRight before (mark_at (subframe + i)) (get_or cells.now i 0) }
 {
     let cells = u64x8::from_array(*cells);
-    wrong_cells_of_eight(before, mark_of(slot), mark_of(slot + 1), cells).reduce_or() == 0
+    wrong_cells_of_eight(before, mark_of(subframe), mark_of(subframe + 1), cells).reduce_or() == 0
 }

@@ -7,7 +7,7 @@ use Rattle.std.specs.Option.{ForSome}
 use Rattle.std.specs.Prelude.{if◌then◌else◌}
 use Rattle.std.proofs.lemmas.Bool.{and_parts, ltb-true}
 use Rattle.std.proofs.lemmas.List.{drop_at, length-append, length-map}
-use Rattle.aes3_frame.specs.Blocks.{IsBlock, block_slots}
+use Rattle.aes3_frame.specs.Blocks.{IsBlock, block_subframes}
 use Rattle.aes3_frame.specs.Samples.{block_samples, sample_of, samples}
 use Rattle.aes3_frame.proofs.FileLaws.{length-bytes}
 use Rattle.aes3_forms_samples.specs.declared.format.SampleFormat.TheVariants.{S16, S24}
@@ -62,7 +62,7 @@ frame-some ThirtyTwo rate = omega arith
 
 -- the samples of blocks are pairs
 block-pairs : (b : List (List Bool)) → IsBlock b → length (block_samples b) ≡ 192 * 8
-unfolding block_samples block_slots
+unfolding block_samples block_subframes
 block-pairs b h =
     let l = length-bytes (map sample_of b) in
     let m = length-map b sample_of in

@@ -13,12 +13,13 @@ ghost use Rattle.aes3_wave_runs.specs.Frames.{IsForm, parts_of};
 ghost use Rattle.aes3_wave_runs.specs.States.{state_of};
 ghost use Rattle.aes3_wave_runs.specs.Wave.{frames_most, taken_len};
 
-use crate::frames::{BLOCK_FRAMES, PAIR_LEN, block_of, form_of, put_each};
+use crate::frames::{PAIR_LEN, block_of, form_of, put_each};
 use crate::state::{FRAME_MOST, WaveInput};
 use aes3_cell::{RunError, Sink};
 use aes3_engine::SampleInput;
 use aes3_forms_samples::{BLOCK_BYTES, SampleFormat};
 use aes3_forms_words::Words;
+use aes3_frame::FRAMES;
 use aes3_input::{Input, feed_fronts};
 use aes3_status::Change;
 use aes3_wave::{Channels, WaveFormat};
@@ -88,10 +89,10 @@ impl WaveInput {
     fn frames_due(&self, octets: &[u8]) -> usize
         requires { frame_len self.now.format ≤ length octets.now }
         ensures some { 0 < result }
-        ensures few { result ≤ BLOCK_FRAMES }
+        ensures few { result ≤ FRAMES }
         ensures frames { result * frame_len self.now.format ≤ length octets.now }
     {
-        let due = BLOCK_FRAMES - self.samples.begun_len() / PAIR_LEN;
+        let due = FRAMES - self.samples.begun_len() / PAIR_LEN;
         (octets.len() / self.format.frame_len()).min(due)
     }
 
@@ -161,7 +162,7 @@ impl WaveInput {
         block: &[u8; BLOCK_BYTES],
     ) -> Result<usize, RunError>
         requires some { 0 < count }
-        requires few { count ≤ BLOCK_FRAMES }
+        requires few { count ≤ FRAMES }
         requires frames { count * frame_len self.old.format ≤ length octets.now }
         requires block { take (PAIR_LEN * count) (widened form (take (block_len form) block.now))
             ≡ parts_of (two_samples self.old.format self.old.channels)
