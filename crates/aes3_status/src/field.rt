@@ -70,6 +70,15 @@ pub(crate) struct Place {
 }
 
 impl Place {
+    /// `count` bits of byte `byte`, from bit `first` on.
+    fn new(byte: usize, first: u32, count: u32) -> Self
+        ensures byte { result.byte ≡ byte }
+        ensures first { result.first ≡ first }
+        ensures count { result.count ≡ count }
+    {
+        Place { byte, first, count }
+    }
+
     /// The number at this place.
     pub(crate) fn number(self, bytes: &[u8; 24]) -> u8
         requires within { self.byte < 24 }
@@ -140,14 +149,6 @@ pub(crate) fn put_code(bytes: &mut [u8; 24], place: Place, code: u8)
     bytes[place.byte] = replaced(bytes[place.byte], place.first, place.count, code);
 }
 
-fn place(byte: usize, first: u32, count: u32) -> Place
-    ensures byte { result.byte ≡ byte }
-    ensures first { result.first ≡ first }
-    ensures count { result.count ≡ count }
-{
-    Place { byte, first, count }
-}
-
 impl ProField {
     /// The place of the field (AES3-2).
     pub(crate) fn place(self) -> Place
@@ -157,21 +158,21 @@ impl ProField {
         ensures inside { result.first + result.count ≤ 8 }
     {
         match self {
-            ProField::Payload => place(0, 1, 1),
-            ProField::Emphasis => place(0, 2, 3),
-            ProField::Unlocked => place(0, 5, 1),
-            ProField::Rate => place(0, 6, 2),
-            ProField::Mode => place(1, 0, 4),
-            ProField::User => place(1, 4, 4),
-            ProField::Aux => place(2, 0, 3),
-            ProField::Word => place(2, 3, 3),
-            ProField::B2high => place(2, 6, 2),
-            ProField::B3 => place(3, 0, 8),
-            ProField::B4 => place(4, 0, 8),
-            ProField::B5 => place(5, 0, 8),
-            ProField::Unreliable => place(22, 4, 4),
-            ProField::B22low => place(22, 0, 4),
-            ProField::Frequency => place(4, 3, 4),
+            ProField::Payload => Place::new(0, 1, 1),
+            ProField::Emphasis => Place::new(0, 2, 3),
+            ProField::Unlocked => Place::new(0, 5, 1),
+            ProField::Rate => Place::new(0, 6, 2),
+            ProField::Mode => Place::new(1, 0, 4),
+            ProField::User => Place::new(1, 4, 4),
+            ProField::Aux => Place::new(2, 0, 3),
+            ProField::Word => Place::new(2, 3, 3),
+            ProField::B2high => Place::new(2, 6, 2),
+            ProField::B3 => Place::new(3, 0, 8),
+            ProField::B4 => Place::new(4, 0, 8),
+            ProField::B5 => Place::new(5, 0, 8),
+            ProField::Unreliable => Place::new(22, 4, 4),
+            ProField::B22low => Place::new(22, 0, 4),
+            ProField::Frequency => Place::new(4, 3, 4),
         }
     }
 
@@ -192,20 +193,20 @@ impl ConField {
         ensures inside { result.first + result.count ≤ 8 }
     {
         match self {
-            ConField::Payload => place(0, 1, 1),
-            ConField::Copyright => place(0, 2, 1),
-            ConField::Emphasis => place(0, 3, 3),
-            ConField::Mode => place(0, 6, 2),
-            ConField::Category => place(1, 0, 7),
-            ConField::Generation => place(1, 7, 1),
-            ConField::Source => place(2, 0, 4),
-            ConField::Number => place(2, 4, 4),
-            ConField::Rate => place(3, 0, 4),
-            ConField::Accuracy => place(3, 4, 2),
-            ConField::B3high => place(3, 6, 2),
-            ConField::Greatest => place(4, 0, 1),
-            ConField::Word => place(4, 1, 3),
-            ConField::Original => place(4, 4, 4),
+            ConField::Payload => Place::new(0, 1, 1),
+            ConField::Copyright => Place::new(0, 2, 1),
+            ConField::Emphasis => Place::new(0, 3, 3),
+            ConField::Mode => Place::new(0, 6, 2),
+            ConField::Category => Place::new(1, 0, 7),
+            ConField::Generation => Place::new(1, 7, 1),
+            ConField::Source => Place::new(2, 0, 4),
+            ConField::Number => Place::new(2, 4, 4),
+            ConField::Rate => Place::new(3, 0, 4),
+            ConField::Accuracy => Place::new(3, 4, 2),
+            ConField::B3high => Place::new(3, 6, 2),
+            ConField::Greatest => Place::new(4, 0, 1),
+            ConField::Word => Place::new(4, 1, 3),
+            ConField::Original => Place::new(4, 4, 4),
         }
     }
 
@@ -225,7 +226,7 @@ impl Field {
         ensures inside { result.first + result.count ≤ 8 }
     {
         match self {
-            Field::Use => place(0, 0, 1),
+            Field::Use => Place::new(0, 0, 1),
             Field::Professional(field) => field.place(),
             Field::Consumer(field) => field.place(),
         }
