@@ -81,8 +81,8 @@ unconfirmed() {
     "$program" $options >out 2>said_why
     [ $? = 1 ] && [ "$(cat said_why)" = "aes3-cells: $(tr -d '\n' <out | wc -c) cells were written by --rate and --at, and no measurement confirmed them: $1" ]
 }
-too_few="too few edges came to check them, which takes 129 up to the end, or 257 up to a dead stretch"
-other_line="no line of this rate was found in this bit: try another --bit, --unit 2 for sixteen channels, or another --at"
+too_few="there were too few edges: 129 are needed up to the end, or 257 up to a stretch without signal"
+other_line="no AES3 line of this rate was found in this bit: try another --bit, --unit 2 for sixteen channels, or another --at"
 wrong_words() { "$program" "$@" </dev/null >out 2>said_why; [ $? = 2 ] && [ ! -s out ] && [ -s said_why ]; }
 
 # A second of 48 kHz at 24 MHz: up to a sample either way; 0.3 rms; falling edges late. Then 192 kHz and 96 kHz at 100 MHz.
@@ -166,7 +166,7 @@ else
     leave_out "a source that fails within a block" "/proc/self/mem can't be opened"
 fi
 if [ -w /dev/full ]; then
-    judge "a sink that fails within a block" eval '! "$program" <one >/dev/full 2>told && [ "$(cat told)" = "aes3-cells: the output failed" ]'
+    judge "a sink that fails within a block" eval '! "$program" <one >/dev/full 2>told && [ "$(cat told)" = "aes3-cells: the output can'"'"'t be written" ]'
 else
     leave_out "a sink that fails within a block" "there is no /dev/full"
 fi
@@ -190,7 +190,7 @@ place=$(sed -n 's/.*the latest from sample \([0-9]*\),.*/\1/p' told | uniq)
 judge "the place of a dead stretch, $place, is $(wc -c <one)" [ "$(($(wc -c <one) - place))" -ge 0 -a "$(($(wc -c <one) - place))" -le 64 ]
 { head -c 1000000 /dev/zero; cat one; } >capture
 judge "no line yet" told_in_time '0 dead stretches, measured 1 times' 4 6
-judge "no line yet is said" [ "$(grep -c -x 'aes3-cells: 0 cells, no line yet' told)" = 2 ]
+judge "no line yet is said" [ "$(grep -c -x 'aes3-cells: 0 cells, no AES3 line yet' told)" = 2 ]
 "$python" -c 'import sys
 sys.stdout.buffer.write(b"".join(bytes((0, sample)) for sample in sys.stdin.buffer.read()))' <one >wide
 judge "no octet is lost where it tells" sh -c "{ dd bs=7 count=1001; dd bs=4099; } <wide 2>/dev/null | '$program' --unit 2 --bit 8 --rate 5001 --tell 2>told | cmp - text && [ \$(wc -l <told) -gt 100 ]"
@@ -270,7 +270,7 @@ judge "a cell of 8010 samples" refused <capture
 edges 300 2
 judge "a cell of 2 samples" refused <capture
 "$program" --rate 0 </dev/null 2>said_why
-judge "what is wrong with --rate 0" grep -q -e "^aes3-cells: --rate is a frequency in Hz from 1 on" said_why
+judge "what is wrong with --rate 0" grep -q -e "^aes3-cells: --rate takes a frequency in Hz, 1 or more" said_why
 told=$(head -c 3906250 /dev/zero | "$program" --rate 24000000 --at 48000 2>told | tr -d '\n' | wc -c)
 judge "$told cells of a dead line in the time of 1000000" [ "$told" -ge 999999 -a "$told" -le 1000001 ]
 for words in "--tell" "--tell --rate 0" "--bit 8" "--unit 3" "--unit 2 --bit 16" "--at 48000" "--rate 0" "--rate 0 --at 48000" "--rate 48000 --at 0" "--rate 48000 --at 48000" \
@@ -293,7 +293,7 @@ judge "- is standard input" eval '"$program" - <one 2>told | cmp - text'
 # unread FILE REASON
 unread() {
     "$program" "$1" >out 2>said_why
-    [ $? = 3 ] && [ ! -s out ] && [ "$(cat said_why)" = "aes3-cells: the input failed
+    [ $? = 3 ] && [ ! -s out ] && [ "$(cat said_why)" = "aes3-cells: the input can't be read
 aes3-cells: $1: $2" ]
 }
 judge "no such file" unread "$work/none" "No such file or directory (os error 2)"
@@ -306,11 +306,11 @@ one, clocked = open("one", "rb").read(), random.Random(2)
 capture = [(sample & 1) << 6 | (at >> 2 & 1) << 1 | clocked.getrandbits(1) << 2 | (at // 5 & 1) << 3 for at, sample in enumerate(one)]
 open("capture", "wb").write(bytes(capture))
 open("wide", "wb").write(b"".join(bytes((sample & 15, sample >> 6 << 2)) for sample in capture))'
-judge "the bit is found" eval '"$program" capture 2>told | cmp - text && [ "$(head -n 1 told)" = "aes3-cells: the line is in bit 6" ]'
-judge "the bit of sixteen is found" eval '"$program" --unit 2 wide 2>told | cmp - text && [ "$(head -n 1 told)" = "aes3-cells: the line is in bit 10" ]'
+judge "the bit is found" eval '"$program" capture 2>told | cmp - text && [ "$(head -n 1 told)" = "aes3-cells: the AES3 line is in bit 6" ]'
+judge "the bit of sixteen is found" eval '"$program" --unit 2 wide 2>told | cmp - text && [ "$(head -n 1 told)" = "aes3-cells: the AES3 line is in bit 10" ]'
 judge "the bit that is asked for" eval '"$program" --bit 6 capture 2>told | cmp - text && [ "$(wc -l <told)" = 1 ]'
 { head -c 900000 /dev/zero; cat capture; } >late
-judge "the bit of a line that begins late" eval '"$program" late 2>told >cells && [ "$(head -n 1 told)" = "aes3-cells: the line is in bit 6" ]'
+judge "the bit of a line that begins late" eval '"$program" late 2>told >cells && [ "$(head -n 1 told)" = "aes3-cells: the AES3 line is in bit 6" ]'
 judge "pieces of any size where the bit is searched" eval '{ dd bs=7 count=1000; dd bs=4099; } <capture 2>/dev/null | "$program" 2>told | cmp - text'
 judge "cells of each piece before the next comes, where the bit is searched" "$python" "$here/live.py" --measured 20000 "$program" capture text
 
@@ -318,11 +318,11 @@ judge "cells of each piece before the next comes, where the bit is searched" "$p
 # doubted SAID COUNT: a sentence with these words stands so often behind the figures of `capture`.
 doubted() { "$program" <capture 2>told >cells && [ "$(grep -c "$1" told)" = "$2" ]; }
 "$python" "$here/line.py" 4.069010416 capture blocks=20 rms=0.2 sent=sent
-judge "a line with little jitter" doubted "makes wrong cells\|likely to be wrong" 0
+judge "a line with little jitter" doubted "at 0.5 cells are wrong\|likely to be wrong" 0
 "$python" "$here/line.py" 4.069010416 capture blocks=20 rms=0.3 sent=sent
-judge "edges 0.4 of a cell from their places" doubted "makes wrong cells" 1
+judge "edges 0.4 of a cell from their places" doubted "at 0.5 cells are wrong" 1
 "$python" "$here/line.py" 4.069010416 capture blocks=20 rms=0.6 sent=sent
-judge "a line with much jitter" doubted "makes wrong cells\|likely to be wrong" 1
+judge "a line with much jitter" doubted "at 0.5 cells are wrong\|likely to be wrong" 1
 
 # At a terminal it tells how much of a file it has read. The cells are not read for two seconds, and the next piece of the file comes behind them.
 if command -v script >/dev/null; then

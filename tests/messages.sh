@@ -93,7 +93,7 @@ printf '\0' >none.packed
 
 text="these are cells as text"
 packed="these look like packed cells"
-no_cell="no cell came: does the program run that writes the cells?"
+no_cell="no cell came: is the program running that writes the cells?"
 # hints STATUS TEXT WORD..
 hints() {
     judge "$*" told "$1" "$2
@@ -108,11 +108,11 @@ aes3: $packed: try \`--packed-in --lsb-first\`" check line.lsb
 hints 3 "aes3: refused 10 at $(($(wc -c <line.txt) - 1))
 aes3: $text: leave \`--packed-in\` out" check --packed-in line.txt
 hints 3 "aes3: refused 10 at $(($(wc -c <line.raw) - 1))
-aes3: these cells have no last octet that counts: try \`--raw-in\`" normal --packed-in line.raw
+aes3: these cells lack the last octet, which counts unused cells: try \`--raw-in\`" normal --packed-in line.raw
 hints 0 "aes3: $text: leave \`--raw-in\` out" scan --raw-in line.txt
 hints 0 "aes3: the cells look packed with the first in the lowest bit: try \`--lsb-first\`" show --packed-in line.lsb
 hints 3 "aes3: refused 1 at 0
-aes3: a block file begins so: \`aes3 encode\` makes cells of it" check "$speech"
+aes3: this looks like a block file: \`aes3 encode\` makes cells of it" check "$speech"
 head -c 24576 line.txt >line.8
 hints 0 "aes3: $text: \`aes3 to-pcm\` makes samples of them" from-pcm line.8
 hints 0 "aes3: $no_cell" watch empty
@@ -223,9 +223,9 @@ judge "no refusal" sh -c '"$1" from-pcm music.16.s16 >out 2>err && [ -s out ]' -
 if [ -x "$cells" ]; then
     usage="aes3-cells [OPTIONS] [FILE] > CELLS"
     words "error: unexpected argument '-o' found" "$usage" "$cells" -o
-    words "aes3-cells: --unit is 1 or 2 octets a sample" "$usage" "$cells" --unit 3
-    words "aes3-cells: --rate is a frequency in Hz from 1 on, as 24000000, 24M, 24000k or 44.1k" "$usage" "$cells" --rate x
-    words "aes3-cells: --at wants --rate" "$usage" "$cells" --at 48k
+    words "aes3-cells: --unit takes 1 or 2, the octets of a sample" "$usage" "$cells" --unit 3
+    words "aes3-cells: --rate takes a frequency in Hz, 1 or more, as 24000000, 24M, 24000k or 44.1k" "$usage" "$cells" --rate x
+    words "aes3-cells: --at needs --rate" "$usage" "$cells" --at 48k
     judge "aes3-cells: cells as text" told 1 "aes3-cells: these are cells as text already: \`aes3 check FILE\` reads them
 " "$cells" line.txt
     judge "aes3-cells: packed cells" told 1 "aes3-cells: these are packed cells already: \`aes3 check --packed-in FILE\` reads them

@@ -192,7 +192,7 @@ def main(program, cells):
         odd = b"x" * 100_000 + b"\n" + b"at at at at\nat 99999999999999999999\ncells 5\nat\n"
         judge("lines that name no cell", line.places(odd)[:2] == (1, odd))
         status, got, said = line.places(line.text.encode())
-        judge("cells for the report", status == 1 and got == line.text.encode() and "names a cell" in said, said)
+        judge("cells for the report", status == 1 and got == line.text.encode() and "names no cell" in said, said)
         with subprocess.Popen([cells, "--places", line.name], stdin=subprocess.PIPE, stdout=subprocess.PIPE) as slow:
             for octet in report[:300]:
                 slow.stdin.write(bytes([octet]))
@@ -203,7 +203,7 @@ def main(program, cells):
 
         # Mistakes.
         status, got, said = line.places(b"whole at 900000000 before 0\n")
-        judge("a place behind the capture", status == 1 and got == b"whole at 900000000 before 0\n" and "1 line" in said, said)
+        judge("a place behind the capture", status == 1 and got == b"whole at 900000000 before 0\n" and "1 report line" in said, said)
         judge("no file", run([cells, "--places"], report)[0] == 2)
         judge("standard input for the capture", run([cells, "--places", "-"], report)[0] == 2)
         for name, samples in (("no sample", b""), ("no signal", b"\0" * 100_000), ("noise", random.Random(1).randbytes(300_000))):

@@ -166,7 +166,7 @@ done
 for text in 64 64: :drop 0:drop 64:lose 64:drop:1; do
     wrong "error: invalid value '$text' for '--every <N:KIND>': $kind" --every "$text"
 done
-many="error: more than 64 errors, of which --check-byte is two: run aes3-spoil twice, or use --every"
+many="error: more than 64 errors (--check-byte counts as two): run aes3-spoil twice, or use --every"
 # shellcheck disable=SC2046 # they are words
 wrong "$many" $(seq 65 | sed 's/^/--cell /')
 # shellcheck disable=SC2046

@@ -212,13 +212,13 @@ at_terminal() {
 if command -v script > /dev/null; then
     "$program" encode --packed-out < "$zero" > "$folder/packed"
     at_terminal "a sentence at a terminal" "aes3: refused 1 at 49920
-aes3: byte 49920 is neither cell nor separator (line 769, column 1): are these packed cells (\`--packed-in\`), or a block file (\`encode\`)?" \
+aes3: byte 49920 is neither cell nor separator (line 769, column 1): packed cells need \`--packed-in\`; a block file is for \`aes3 encode\`" \
         "$program normal < '$folder/refused' > '$folder/output'"
     at_terminal "no hint where the output is no terminal" "aes3: refused 3 at 0
 aes3: bits 0 to 3 of word 0 are not zero: these are cells as text: \`aes3 decode\` makes a block file of them" \
         "$program encode --packed-out < '$folder/refused' | cat"
     at_terminal "a block file as cells" "aes3: refused 1 at 0
-aes3: byte 0 is neither cell nor separator (line 1, column 1): a block file begins so: \`aes3 encode\` makes cells of it" \
+aes3: byte 0 is neither cell nor separator (line 1, column 1): this looks like a block file: \`aes3 encode\` makes cells of it" \
         "$program check < '$zero'"
     at_terminal "packed cells as text" "aes3: refused 1 at 0
 aes3: byte 0 is neither cell nor separator (line 1, column 1): these look like packed cells: try \`--packed-in\`" \
@@ -227,7 +227,7 @@ aes3: byte 0 is neither cell nor separator (line 1, column 1): these look like p
 aes3: the packed cells end wrongly at octet 0: the input is empty" \
         "$program check --packed-in < /dev/null"
     at_terminal "the name of a file that can't be read" "aes3: refused 5
-aes3: the input can't be read (no-such-file): is there such a file, may you read it, and is it no folder?
+aes3: the input can't be read (no-such-file): check that the file is there, that you may read it, and that it is no folder
 aes3: no-such-file: No such file or directory (os error 2)" \
         "$program check no-such-file"
     at_terminal "nothing of a terminal where a file is read" "" "$program check /dev/null"
@@ -240,7 +240,7 @@ aes3: byte 0 is neither cell nor separator (line 1, column 1): these look like s
         "$program check < '$folder/samples'"
     printf 'PK\3\4' > "$folder/session"
     at_terminal "a session of sigrok" "aes3: refused 1 at 0
-aes3: byte 0 is neither cell nor separator (line 1, column 1): a session of sigrok begins so: \`sigrok-cli -i FILE -O binary | aes3-cells\` makes cells of it" \
+aes3: byte 0 is neither cell nor separator (line 1, column 1): this looks like a session of sigrok: \`sigrok-cli -i FILE -O binary | aes3-cells\` makes cells of it" \
         "$program check < '$folder/session'"
     printf 'RIFF1234WAVEfmt ' > "$folder/wave"
     at_terminal "a WAV file as samples" "aes3: refused 12 at 0
@@ -267,7 +267,7 @@ aes3: byte 0 is neither cell nor separator (line 1, column 1): this is a WAV fil
     at_terminal "nothing of it where the input is no file" "" "cat '$speech' | $program encode | $waiting"
     { cat "$speech" && printf x; } > "$folder/longer"
     at_terminal "it makes room for a refusal" "aes3: 68 %, 0 MB/s, 170 blocks$erase${erase}aes3: refused 2 at 1
-aes3: the input ends 1 bytes into a block or a frame: cut the file to a multiple of 1,536 bytes, samples to whole frames, or fill them up" \
+aes3: the input ends 1 bytes into a block or a frame: cut or pad a block file to a multiple of 1,536 bytes, samples to whole frames" \
         "$program encode < '$folder/longer' | $waiting"
     "$program" encode < "$speech" 2> "$folder/errors" | { sleep 2; cat > /dev/null; }
     status=0

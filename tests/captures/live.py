@@ -26,7 +26,7 @@ def cells_of(octets):
 def judged(status, wanted_status, said, cells, wanted, count):
     """What is wrong with the end, if anything is."""
     front = len(os.path.commonprefix([cells, wanted]))
-    if status != wanted_status or (status and not said.startswith("aes3-cells: the input failed\n")):
+    if status != wanted_status or (status and not said.startswith("aes3-cells: the input can't be read\n")):
         return f"status {status}: {said}"
     if len(cells) - front > OPEN or front < int(count / SAMPLES_A_CELL) - OPEN:
         return f"{len(cells)} cells came of {count} octets, of which {front} are right"

@@ -18,15 +18,15 @@ usage = codes "aes3-cells [OPTIONS] [FILE] > CELLS"
 
 -- what is said of a wrong value, without the program's name
 abbrev pub reason : Wrong → Text
-reason wrong.Rate = codes "--rate is a frequency in Hz from 1 on, as 24000000, 24M, 24000k or 44.1k"
-reason wrong.At = codes "--at is a frequency in Hz from 1 on, as 24000000, 24M, 24000k or 44.1k"
-reason wrong.Unit = codes "--unit is 1 or 2 octets a sample"
-reason wrong.Bit = codes "--bit is 0 to 7, or with --unit 2 to 15"
-reason wrong.AtAlone = codes "--at wants --rate"
-reason wrong.TellAlone = codes "--tell wants --rate"
-reason wrong.PlacesOnly = codes "--places writes no cells: it goes with --rate, --at, --unit and --bit only"
-reason wrong.PlacesAlone = codes "--places wants FILE: it reads the report from standard input"
-reason wrong.Period = codes "a cell has 2.015625 to 8000 samples: --rate over 128 times --at"
+reason wrong.Rate = codes "--rate takes a frequency in Hz, 1 or more, as 24000000, 24M, 24000k or 44.1k"
+reason wrong.At = codes "--at takes a frequency in Hz, 1 or more, as 24000000, 24M, 24000k or 44.1k"
+reason wrong.Unit = codes "--unit takes 1 or 2, the octets of a sample"
+reason wrong.Bit = codes "--bit takes 0 to 7, or with --unit 2 0 to 15"
+reason wrong.AtAlone = codes "--at needs --rate"
+reason wrong.TellAlone = codes "--tell needs --rate"
+reason wrong.PlacesOnly = codes "--places writes no cells: use it only with --rate, --at, --unit and --bit"
+reason wrong.PlacesAlone = codes "--places needs FILE: it reads the report from standard input"
+reason wrong.Period = codes "a cell has to have 2.015625 to 8000 samples: --rate / (128 * --at)"
 
 -- the whole text
 abbrev pub wrong_text : Wrong → Text

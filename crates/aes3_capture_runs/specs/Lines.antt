@@ -73,7 +73,7 @@ pub record IsFoundLine (figures : Figures) (rate : Option ℕ) (text : List ℕ)
 
 -- the line of what was found so far, which says so where no line was
 abbrev pub no_line_yet_text : Figures → List ℕ
-no_line_yet_text figures = cells_text figures ++ codes ", no line yet\n"
+no_line_yet_text figures = cells_text figures ++ codes ", no AES3 line yet\n"
 
 abbrev pub IsFiguresLine : Figures → Option ℕ → List ℕ → Type 0
 IsFiguresLine figures rate text =
@@ -88,13 +88,13 @@ was_lost figures = nat_lt 2 figures.measured && nat_lt (figures.cells / figures.
 -- nothing
 abbrev pub lost_text : ℕ → List ℕ
 lost_text measured =
-    codes "aes3-cells: the line was lost and measured anew " ++ decimal measured
-    ++ codes " times: these cells are likely to be wrong; is it an AES3 line, and sampled often enough?\n"
+    codes "aes3-cells: the line was lost and measured again " ++ decimal measured
+    ++ codes " times, so cells are likely to be wrong: check that it is an AES3 line, and take more samples a second\n"
 
 abbrev pub distance_text : ℕ → List ℕ
 distance_text distance =
     codes "aes3-cells: an edge was " ++ thousandths distance
-    ++ codes " of a cell from its place, and 0.5 makes wrong cells: take more samples a second\n"
+    ++ codes " of a cell from its expected place, and at 0.5 cells are wrong: take more samples a second\n"
 
 abbrev pub doubt_text : Figures → List ℕ
 doubt_text figures =
@@ -111,7 +111,7 @@ pub record IsFoundText (figures : Figures) (rate : Option ℕ) (text : List ℕ)
 
 -- the line of the bit in which a line was found
 abbrev pub bit_text : ℕ → List ℕ
-bit_text bit = codes "aes3-cells: the line is in bit " ++ decimal bit ++ codes "\n"
+bit_text bit = codes "aes3-cells: the AES3 line is in bit " ++ decimal bit ++ codes "\n"
 
 -- nothing is said of the lowest bit, and where none was found
 abbrev pub bit_line : Option ℕ → List ℕ
@@ -123,13 +123,13 @@ bit_line (Some bit) = if bit == 0 then [] else bit_text bit
 abbrev pub reason_text : Figures → List ℕ
 reason_text figures =
     if figures.misses == 0
-    then codes "too few edges came to check them, which takes 129 up to the end, or 257 up to a dead stretch"
+    then codes "there were too few edges: 129 are needed up to the end, or 257 up to a stretch without signal"
     else codes
-    "no line of this rate was found in this bit: try another --bit, --unit 2 for sixteen channels, or another --at"
+    "no AES3 line of this rate was found in this bit: try another --bit, --unit 2 for sixteen channels, or another --at"
 
 abbrev pub no_line_text : Figures → Option ℕ → List ℕ → List ℕ
 no_line_text figures None why =
-    codes "aes3-cells: no line was found, " ++ why
+    codes "aes3-cells: no AES3 line was found, " ++ why
     ++ codes ": try another --bit, --unit 2 for sixteen channels, or --rate with --at\n"
 no_line_text figures (Some period) why =
     cells_text figures ++ codes " were written by --rate and --at, and no measurement confirmed them: "

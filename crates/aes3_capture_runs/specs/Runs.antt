@@ -69,8 +69,8 @@ abbrev pub memory_text : List ℕ
 memory_text = codes "aes3-cells: memory was refused\n"
 
 abbrev pub refusal_text : Refusal → List ℕ
-refusal_text Read = codes "aes3-cells: the input failed\n"
-refusal_text Write = codes "aes3-cells: the output failed\n"
+refusal_text Read = codes "aes3-cells: the input can't be read\n"
+refusal_text Write = codes "aes3-cells: the output can't be written\n"
 
 -- the figures of a recovery
 pub record AreFigures (figures : Figures) (now : Recovery) : Type 0 where

@@ -54,7 +54,7 @@ impl Define for Argument {
                     alloc,
                     "at",
                     "HZ",
-                    "The line's sampling frequency; needs --rate",
+                    "The sampling frequency of the AES3 line; needs --rate",
                 )
             }
             Argument::Unit => {
@@ -65,20 +65,25 @@ impl Define for Argument {
                     "Octets a sample, 1 or 2; 1 if not given",
                 )
             }
-            Argument::Bit => text_option(alloc, "bit", "BIT", "The line's bit in a sample"),
+            Argument::Bit => text_option(
+                alloc,
+                "bit",
+                "BIT",
+                "The bit of a sample that is the AES3 line",
+            ),
             Argument::PackedOut => flag(alloc, "packed-out", "Write packed cells, eight an octet"),
             Argument::Tell => {
                 flag(
                     alloc,
                     "tell",
-                    "Print once a second what was found; needs --rate",
+                    "Print once a second of the capture what was found; needs --rate",
                 )
             }
             Argument::Places => {
                 flag(
                     alloc,
                     "places",
-                    "Copy a report of aes3, and add the sample of each cell that it names",
+                    "Copy a report of aes3, and add the sample at which each cell in it begins",
                 )
             }
             Argument::Picture => {
@@ -86,7 +91,7 @@ impl Define for Argument {
                     alloc,
                     "picture",
                     "FILE",
-                    "Draw the jitter of the line's edges into an SVG file",
+                    "Draw the jitter of the edges into an SVG file",
                 )
             }
             Argument::File => Arg::new(alloc, "FILE").help(

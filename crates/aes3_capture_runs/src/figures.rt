@@ -155,7 +155,7 @@ fn no_line_yet(alloc: Global, figures: &Figures) -> Result<String, AllocError>
 {
     let mut text = String::new(alloc);
     add_cells(&mut text, figures)?;
-    text.push_str(", no line yet\n")?;
+    text.push_str(", no AES3 line yet\n")?;
     Ok(text)
 }
 
@@ -206,7 +206,7 @@ pub fn no_line_text(
     let mut text = String::new(alloc);
     match period {
         None => {
-            text.push_str("aes3-cells: no line was found, ")?;
+            text.push_str("aes3-cells: no AES3 line was found, ")?;
             text.push_str(why)?;
             text.push_str(
                 ": try another --bit, --unit 2 for sixteen channels, or --rate with --at\n",
@@ -227,9 +227,9 @@ fn reason_of<'a>(figures: &Figures) -> &'a str
     ensures { result.now ≡ reason_text figures.now }
 {
     if figures.misses == 0 {
-        "too few edges came to check them, which takes 129 up to the end, or 257 up to a dead stretch"
+        "there were too few edges: 129 are needed up to the end, or 257 up to a stretch without signal"
     } else {
-        "no line of this rate was found in this bit: try another --bit, --unit 2 for sixteen channels, or another --at"
+        "no AES3 line of this rate was found in this bit: try another --bit, --unit 2 for sixteen channels, or another --at"
     }
 }
 
@@ -251,10 +251,10 @@ fn was_lost(figures: &Figures) -> bool
 fn add_lost(text: &mut String, measured: u64) -> Result<(), AllocError>
     ensures { IfOk result (λ _. text.new.bytes.items ≡ text.old.bytes.items ++ lost_text measured) }
 {
-    text.push_str("aes3-cells: the line was lost and measured anew ")?;
+    text.push_str("aes3-cells: the line was lost and measured again ")?;
     add_number(text, measured)?;
     text.push_str(
-        " times: these cells are likely to be wrong; is it an AES3 line, and sampled often enough?\n",
+        " times, so cells are likely to be wrong: check that it is an AES3 line, and take more samples a second\n",
     )
 }
 
@@ -265,7 +265,7 @@ fn add_distance(text: &mut String, distance: u64) -> Result<(), AllocError>
     text.push_str("aes3-cells: an edge was ")?;
     add_thousandths(text, distance)?;
     text.push_str(
-        " of a cell from its place, and 0.5 makes wrong cells: take more samples a second\n",
+        " of a cell from its expected place, and at 0.5 cells are wrong: take more samples a second\n",
     )
 }
 

@@ -6,31 +6,33 @@ use aes3_cli::help::Texts;
 pub const PROGRAM: Texts<'static> = Texts {
     about: "The cells of an AES3 / IEC 60958 line, from the samples of a capture",
     usage: "aes3-cells [OPTIONS] [FILE] > CELLS",
-    more: "Reads the samples of a logic analyser or of a pin. Writes the cells of the line in one of
-their bits, as `aes3` reads them. A sample has one octet, or two, the lower one first. A
-cell is half a time slot of the line: one level, 0 or 1.
+    more: "Reads the samples of a logic analyser or of a pin. One bit of a sample is the AES3 line.
+Writes the cells of this line, as `aes3` reads them. A cell is half a time slot: one
+level, 0 or 1. A sample has one octet, or with --unit 2 two octets, the lower one first.
 
 Without --bit it takes the lowest bit that has an AES3 line in the first 1,048,576
 octets. If no bit has one, it takes bit 0. A cell has 2.015625 to 8000 samples. The
-program measures how many, and measures again after each stretch without a line. With
---rate and --at a cell has --rate / (128 * --at) samples. HZ is a number such as
+program measures how many, and measures again after each stretch without an AES3 line.
+With --rate and --at a cell has --rate / (128 * --at) samples. HZ is a number such as
 24000000, 24M, 24000k or 44.1k.
 
-At the end, one line on standard error says what was found:
-  - how many samples a cell has, and with --rate the line's sampling frequency
-  - how far the edges are from their places, in cells
+At the end, standard error has an output line about what was found:
+  - how many samples a cell has, and with --rate the AES3 line's sampling frequency
+  - how far the edges are from their expected places, in cells
   - how many stretches had no signal, and the sample where the last of them begins
-With --tell the line also comes every --rate samples, and when the signal stops. A
-further line warns if cells are likely to be wrong.
+With --tell this output line also comes after every --rate samples, and when the signal
+stops. Another output line warns if cells are likely to be wrong.
 
 With --places it writes no cells. It copies a report of `aes3` from standard input to
-standard output, and adds to each line that names a cell the sample of FILE that the
-cell begins at, ` sample N`, and with --rate its time, ` seconds S`. Example:
+standard output. To each report line that names a cell it adds ` sample N`: the cell
+begins at sample N of FILE. With --rate it also adds ` seconds S`, the time of that
+sample. Example:
   aes3 check --gaps line.txt | aes3-cells --rate 24M --places capture.bin
 
-With --picture a picture in SVG shows how far rising and falling edges are from their
-places, with AES3's jitter tolerance, the length of a cell over time, and where there
-was no signal. If it can't be written, the cells are written all the same.
+With --picture an SVG picture shows how far rising and falling edges are from their
+expected places, with AES3's jitter tolerance. It also shows the length of a cell over
+time, and where there was no signal. If the picture can't be written, the cells are
+written all the same.
 
 A file of another kind is rejected by its first bytes: a sound file, VCD, CSV, a session
 of sigrok, a compressed file, a program, or cells. `man aes3-cells` has a command for
@@ -38,9 +40,10 @@ each kind of capture file.
 
 Exit status:
   0  done
-  1  no line was found, or the input is not a capture. With --rate and --at the cells
-     are written even if no line was found. With --places: a cell was not found
+  1  no AES3 line was found, or the input is not a capture. With --rate and --at the
+     cells are written even if no AES3 line was found. With --places: a cell was not
+     found
   2  usage error; standard error says why
-  3  the input, the output or the picture failed
+  3  the input can't be read, or the output or the picture can't be written
 ",
 };

@@ -53,7 +53,7 @@ impl Look {
         match (self.edges, self.toggling, self.other_unit) {
             (_, _, Some(other)) => {
                 let octets = if self.unit.len() == 1 { 2 } else { 1 };
-                format!(in alloc; "with --unit {octets} a line is in bit {other}")
+                format!(in alloc; "with --unit {octets} an AES3 line is in bit {other}")
             }
             (0, None, _) => format!(in alloc; "no bit toggles in the first {samples} samples"),
             (0, Some(toggling), _) => {
@@ -63,12 +63,12 @@ impl Look {
             }
             (edges, _, _) if samples / edges < FEWEST_SAMPLES_AN_EDGE => {
                 format!(in alloc;
-                    "bit {bit} toggles {edges} times in {samples} samples, too often for a line"
+                    "bit {bit} toggles {edges} times in {samples} samples, too often for an AES3 line"
                 )
             }
             (edges, _, _) => {
                 format!(in alloc;
-                    "bit {bit} toggles {edges} times in the first {samples} samples, but as no line does"
+                    "bit {bit} toggles {edges} times in the first {samples} samples, but not as an AES3 line does"
                 )
             }
         }

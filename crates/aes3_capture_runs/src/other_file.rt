@@ -16,9 +16,9 @@ pub fn advice_on_other(first: &[u8], unit: Unit) -> Option<&'static str> {
             "this is a value change dump: `transitions.py --signal NAME FILE | aes3-cells` makes cells of it, with the script that `man aes3-cells` names",
         ),
         FileKind::Session => Some(
-            "a session of sigrok begins so: `sigrok-cli -i FILE -O binary | aes3-cells` makes cells of it",
+            "this looks like a session of sigrok: `sigrok-cli -i FILE -O binary | aes3-cells` makes cells of it",
         ),
-        FileKind::Compressed => Some("this file is compressed: take it apart first"),
+        FileKind::Compressed => Some("this file is compressed: unpack it first"),
         FileKind::Executable => Some("this is a program"),
         FileKind::CellText if first.contains(&b'\n') => {
             Some("these are cells as text already: `aes3 check FILE` reads them")

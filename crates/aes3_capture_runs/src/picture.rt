@@ -104,7 +104,7 @@ fn say_fault<E: Sink>(alloc: Global, name: &str, fault: PictureFault, messages: 
         }
         PictureFault::Standard => {
             format!(in alloc;
-                "aes3-cells: --picture wants the name of a file; standard output has the cells\n"
+                "aes3-cells: --picture needs the name of a file; standard output has the cells\n"
             )
         }
         PictureFault::Memory => format!(in alloc; "aes3-cells: memory was refused\n"),

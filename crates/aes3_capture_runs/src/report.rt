@@ -71,7 +71,7 @@ fn text_of_missing(
     if outcome.missing == 0 {
         return String::from_str(
             alloc,
-            "aes3-cells: no line of standard input names a cell: it wants a report, as `aes3 check --gaps` prints\n",
+            "aes3-cells: standard input names no cell: give it a report, such as `aes3 check --gaps` prints\n",
         );
     }
     let figures = capture.figures();
@@ -80,7 +80,7 @@ fn text_of_missing(
         return no_line_text(alloc, &figures, job.period, &why);
     }
     format!(in alloc;
-        "aes3-cells: {} lines name a cell that is not in the capture: is it the one that the report is of, with the same options?\n",
+        "aes3-cells: {} report lines name a cell that is not in the capture: give the capture and the options that the report was made from\n",
         outcome.missing
     )
 }

@@ -159,8 +159,8 @@ pub(crate) fn say_refusal<E: Sink>(refusal: Refusal, messages: &mut E) -> u8
     ensures up { E.failed messages.old ≤ E.failed messages.new }
 {
     match refusal {
-        Refusal::Read => say("aes3-cells: the input failed\n", messages),
-        Refusal::Write => say("aes3-cells: the output failed\n", messages),
+        Refusal::Read => say("aes3-cells: the input can't be read\n", messages),
+        Refusal::Write => say("aes3-cells: the output can't be written\n", messages),
     }
     REFUSED
 }
@@ -176,7 +176,7 @@ fn put_bit<T: Sink>(bit: u8, sink: &mut T) -> Result<(), Fault>
     ensures count { IfOk result (λ _. T.failed sink.new ≡ T.failed sink.old) }
     ensures err { OnErr result (T.failed sink.new ≡ T.failed sink.old + 1) }
 {
-    write_all(sink, b"aes3-cells: the line is in bit ")?;
+    write_all(sink, b"aes3-cells: the AES3 line is in bit ")?;
     write_all(sink, Buffer::new().format(bit).as_bytes())?;
     put_text("\n", sink)
 }

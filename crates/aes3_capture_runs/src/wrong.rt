@@ -38,18 +38,19 @@ impl Wrong {
     {
         match self {
             Wrong::Rate => {
-                "--rate is a frequency in Hz from 1 on, as 24000000, 24M, 24000k or 44.1k"
+                "--rate takes a frequency in Hz, 1 or more, as 24000000, 24M, 24000k or 44.1k"
             }
-            Wrong::At => "--at is a frequency in Hz from 1 on, as 24000000, 24M, 24000k or 44.1k",
-            Wrong::Unit => "--unit is 1 or 2 octets a sample",
-            Wrong::Bit => "--bit is 0 to 7, or with --unit 2 to 15",
-            Wrong::AtAlone => "--at wants --rate",
-            Wrong::TellAlone => "--tell wants --rate",
+            Wrong::At =>
+                "--at takes a frequency in Hz, 1 or more, as 24000000, 24M, 24000k or 44.1k",
+            Wrong::Unit => "--unit takes 1 or 2, the octets of a sample",
+            Wrong::Bit => "--bit takes 0 to 7, or with --unit 2 0 to 15",
+            Wrong::AtAlone => "--at needs --rate",
+            Wrong::TellAlone => "--tell needs --rate",
             Wrong::PlacesOnly => {
-                "--places writes no cells: it goes with --rate, --at, --unit and --bit only"
+                "--places writes no cells: use it only with --rate, --at, --unit and --bit"
             }
-            Wrong::PlacesAlone => "--places wants FILE: it reads the report from standard input",
-            Wrong::Period => "a cell has 2.015625 to 8000 samples: --rate over 128 times --at",
+            Wrong::PlacesAlone => "--places needs FILE: it reads the report from standard input",
+            Wrong::Period => "a cell has to have 2.015625 to 8000 samples: --rate / (128 * --at)",
         }
     }
 }

@@ -35,23 +35,23 @@ IsExplanation texts (fault.Refused error) = error ≡ Memory
 -- what to do about the refusal of this number
 abbrev pub advice_of : ℕ → Text
 advice_of n =
-    if n == 1 then codes "are these packed cells (`--packed-in`), or a block file (`encode`)?"
-    else if n == 2 then codes "cut the file to a multiple of 1,536 bytes, samples to whole frames, or fill them up"
-    else if n == 3 then codes "are these ALSA's words (`--words alsa`)? else clear them"
-    else if n == 4 then codes "is the file big-endian, or are samples not in bits 4 to 27?"
-    else if n == 5 then codes "a folder, a closed input, a broken disk?"
-    else if n == 6 then codes "a full disk, or a reader that ended early, as `head` does: then it means nothing"
-    else if n == 7 then codes "go on with a new run"
+    if n == 1 then codes "packed cells need `--packed-in`; a block file is for `aes3 encode`"
+    else if n == 2 then codes "cut or pad a block file to a multiple of 1,536 bytes, samples to whole frames"
+    else if n == 3 then codes "ALSA's words need `--words alsa`; in other words set these bits to 0"
+    else if n == 4 then codes "write the lowest byte of each word first, and the sample in bits 4 to 27"
+    else if n == 5 then codes "is it a folder, is it closed, or is the disk broken?"
+    else if n == 6 then codes "make room on the disk; nothing is wrong if the reader of the output ended early, as `head` does"
+    else if n == 7 then codes "start a new run for the rest"
     else if n == 8 then codes "it needs 2 MB"
     else if n == 9 then codes "`--status1` and `--status2` take 24 bytes, two digits each"
     else if n == 10 then codes
-    "the last octet counts the unused cells before it, 0 to 7, and these are 0: `printf '\\0' >> FILE` adds it where there are none"
-    else if n == 11 then codes "leave `--exact` out to drop them, or make samples of 24 bits first (`sox IN -b 24 OUT`)"
+    "the last octet counts the unused cells before it, 0 to 7, and these are 0; if it is missing, use `--raw-in`"
+    else if n == 11 then codes "leave out `--exact` to drop these bits, or make samples of 24 bits first (`sox IN -b 24 OUT`)"
     else if n == 12 then codes
-    "`aes3 from-wav` reads a WAV file; of another `sox FILE -t s32 -c 2 - | aes3 from-pcm` takes the samples"
+    "`aes3 from-wav` reads a WAV file; `sox FILE -t s32 -c 2 - | aes3 from-pcm` reads others"
     else if n == 13 then codes
-    "leave `--exact` out to drop them, or set first what gives the setting its code (`greatest=24` before `word=24`)"
+    "leave out `--exact` to drop the bits or the setting, or set first what the setting needs (`greatest=24` before `word=24`)"
     else if n == 14 then codes
-    "`sox FILE -b 24 -e signed NEW.wav` writes a WAV file that can be read, of most that can't"
-    else if n == 15 then codes "`--channels` takes two of its channels, from 1 on, as `--channels 1,1`"
+    "`sox FILE -b 24 -e signed NEW.wav` converts most WAV files to one that can be read"
+    else if n == 15 then codes "name two of its channels, counted from 1, as `--channels 1,1`"
     else []

@@ -804,7 +804,7 @@ misuse_line UnknownWords =
     codes "error: invalid value for '--words <own|alsa|am824>': it is 'own', 'alsa' or 'am824'"
 misuse_line UnknownPreset =
     codes "error: invalid value for '--preset <consumer|professional>': it is 'consumer' or 'professional'"
-misuse_line UnknownRate = codes "error: invalid value for '--rate <HZ>': a status tells 22050, 24000, 32000, 44100, 48000, 88200, 96000, 176400, 192000 or 768000, also as 48k"
+misuse_line UnknownRate = codes "error: invalid value for '--rate <HZ>': a status has a code for 22050, 24000, 32000, 44100, 48000, 88200, 96000, 176400, 192000 or 768000, also as 48k"
 misuse_line UnknownDepth = codes "error: invalid value for '--bits <16|24|32>': it is '16', '24' or '32'"
 misuse_line UnknownUse =
     codes "error: invalid value for '--use <consumer|professional>': it is 'consumer' or 'professional'"

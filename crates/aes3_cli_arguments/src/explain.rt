@@ -30,27 +30,27 @@ pub fn advice(number: u8) -> &'static str
     ensures { result.now ≡ advice_of number }
 {
     match number {
-        1 => "are these packed cells (`--packed-in`), or a block file (`encode`)?",
-        2 => "cut the file to a multiple of 1,536 bytes, samples to whole frames, or fill them up",
-        3 => "are these ALSA's words (`--words alsa`)? else clear them",
-        4 => "is the file big-endian, or are samples not in bits 4 to 27?",
-        5 => "a folder, a closed input, a broken disk?",
-        6 => "a full disk, or a reader that ended early, as `head` does: then it means nothing",
-        7 => "go on with a new run",
+        1 => "packed cells need `--packed-in`; a block file is for `aes3 encode`",
+        2 => "cut or pad a block file to a multiple of 1,536 bytes, samples to whole frames",
+        3 => "ALSA's words need `--words alsa`; in other words set these bits to 0",
+        4 => "write the lowest byte of each word first, and the sample in bits 4 to 27",
+        5 => "is it a folder, is it closed, or is the disk broken?",
+        6 =>
+            "make room on the disk; nothing is wrong if the reader of the output ended early, as `head` does",
+        7 => "start a new run for the rest",
         8 => "it needs 2 MB",
         9 => "`--status1` and `--status2` take 24 bytes, two digits each",
         10 =>
-            "the last octet counts the unused cells before it, 0 to 7, and these are 0: `printf '\\0' >> FILE` adds it where there are none",
+            "the last octet counts the unused cells before it, 0 to 7, and these are 0; if it is missing, use `--raw-in`",
         11 =>
-            "leave `--exact` out to drop them, or make samples of 24 bits first (`sox IN -b 24 OUT`)",
+            "leave out `--exact` to drop these bits, or make samples of 24 bits first (`sox IN -b 24 OUT`)",
         12 =>
-            "`aes3 from-wav` reads a WAV file; of another `sox FILE -t s32 -c 2 - | aes3 from-pcm` takes the samples",
+            "`aes3 from-wav` reads a WAV file; `sox FILE -t s32 -c 2 - | aes3 from-pcm` reads others",
         13 => {
-            "leave `--exact` out to drop them, or set first what gives the setting its code (`greatest=24` before `word=24`)"
+            "leave out `--exact` to drop the bits or the setting, or set first what the setting needs (`greatest=24` before `word=24`)"
         }
-        14 =>
-            "`sox FILE -b 24 -e signed NEW.wav` writes a WAV file that can be read, of most that can't",
-        15 => "`--channels` takes two of its channels, from 1 on, as `--channels 1,1`",
+        14 => "`sox FILE -b 24 -e signed NEW.wav` converts most WAV files to one that can be read",
+        15 => "name two of its channels, counted from 1, as `--channels 1,1`",
         _ => "",
     }
 }
@@ -71,12 +71,12 @@ fn wrong(number: u8) -> &'static str {
         10 => "packed cells end wrongly, at octet PLACE",
         11 =>
             "with `--exact`, the sample word that begins at byte PLACE has bits below the highest 24",
-        12 => "the input of `from-pcm` is a sound file, and not samples alone",
+        12 => "the input of `from-pcm` is a sound file and not bare samples",
         13 => {
-            "with `--exact`, the block that begins at cell PLACE would lose bits of its samples, or leaves out a setting"
+            "with `--exact`, the block that begins at cell PLACE would lose bits of its samples, or can't take a setting"
         }
         14 => "the header of a WAV file is wrong at octet PLACE, or its samples are not PCM",
-        15 => "the WAV file has PLACE channels, and not one that `--channels` names",
+        15 => "the WAV file has only PLACE channels, and `--channels` names another",
         _ => "",
     }
 }

@@ -262,7 +262,7 @@ fn misuse_line(misuse: Misuse) -> &'static str
             "error: invalid value for '--preset <consumer|professional>': it is 'consumer' or 'professional'"
         }
         Misuse::UnknownRate => {
-            "error: invalid value for '--rate <HZ>': a status tells 22050, 24000, 32000, 44100, 48000, 88200, 96000, 176400, 192000 or 768000, also as 48k"
+            "error: invalid value for '--rate <HZ>': a status has a code for 22050, 24000, 32000, 44100, 48000, 88200, 96000, 176400, 192000 or 768000, also as 48k"
         }
         Misuse::UnknownDepth => {
             "error: invalid value for '--bits <16|24|32>': it is '16', '24' or '32'"

@@ -14,11 +14,11 @@ use Rattle.aes3_cli_jobs.specs.declared.job.Job.{Job}
 -- what is told before a job where standard input, or output, is a terminal or isn't
 abbrev pub reads_hint : Bool → List ℕ
 reads_hint terminal = if terminal
-    then codes "aes3: reads from the terminal up to Ctrl-D; a file by < FILE" ++ 10 ∷ [] else []
+    then codes "aes3: reading from the terminal until Ctrl-D; to read a file, use < FILE" ++ 10 ∷ [] else []
 
 abbrev pub writes_hint : Bool → Job → List ℕ
 writes_hint terminal job = if terminal && writes_packed job
-    then codes "aes3: writes packed cells to the terminal; to a file by > FILE" ++ 10 ∷ [] else []
+    then codes "aes3: writing packed cells to the terminal; to write a file, use > FILE" ++ 10 ∷ [] else []
 
 abbrev pub greeting : Terminals → Job → List ℕ
 greeting terminals job = reads_hint terminals.input ++ writes_hint terminals.output job
@@ -37,24 +37,24 @@ told_texts = codes "this is a WAV file: `aes3 from-wav` makes a block file of it
     ∷ codes
     "this is a value change dump: `transitions.py --signal NAME FILE | aes3-cells` makes cells of it, with the script that `man aes3-cells` names"
     ∷ codes "this is a program"
-    ∷ codes "a session of sigrok begins so: `sigrok-cli -i FILE -O binary | aes3-cells` makes cells of it"
+    ∷ codes "this looks like a session of sigrok: `sigrok-cli -i FILE -O binary | aes3-cells` makes cells of it"
     ∷ codes "these look like samples of a logic analyser: `aes3-cells < FILE` makes cells of them"
-    ∷ codes "this file is compressed: take it apart first"
-    ∷ codes "a block file begins so: `aes3 encode` makes cells of it"
+    ∷ codes "this file is compressed: unpack it first"
+    ∷ codes "this looks like a block file: `aes3 encode` makes cells of it"
     ∷ codes "these look like packed cells: try `--packed-in`"
     ∷ codes "these look like packed cells: try `--packed-in --lsb-first`"
     ∷ codes "these look like packed cells: `aes3 decode --packed-in` makes a block file of them"
-    ∷ codes "these cells have no last octet that counts: try `--raw-in`"
+    ∷ codes "these cells lack the last octet, which counts unused cells: try `--raw-in`"
     ∷ codes "these look like samples of 16 bits: try `--pcm s16`"
     ∷ codes "these look like samples of 24 bits in 3 bytes: try `--pcm s24`"
     ∷ codes "these look like samples of 24 bits in 4 bytes: try `--pcm s24in32`"
     ∷ codes "these look like samples of 32 bits: leave `--pcm` out"
     ∷ codes "the file is cut short: fetch or write it again"
-    ∷ codes "are these samples alone? `aes3 from-pcm` takes them"
+    ∷ codes "if these are samples without a header, `aes3 from-pcm` reads them"
     ∷ codes "the input is empty"
     ∷ codes "these are cells as text: leave `--packed-in` out"
     ∷ codes "these are cells as text: `aes3 decode` makes a block file of them"
-    ∷ codes "is there such a file, may you read it, and is it no folder?" ∷ []
+    ∷ codes "check that the file is there, that you may read it, and that it is no folder" ∷ []
 
 abbrev pub is_told : List ℕ → Bool
 is_told text = list_any (bytes_eq text) told_texts

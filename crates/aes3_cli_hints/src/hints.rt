@@ -272,7 +272,7 @@ impl<T: Sink + Drop> Hints<T> {
 }
 
 /// What to do if a file can't be read.
-const UNREAD: &str = "is there such a file, may you read it, and is it no folder?";
+const UNREAD: &str = "check that the file is there, that you may read it, and that it is no folder";
 
 /// What was wrong, and where; `None` if there is no memory.
 fn refused_text(alloc: Global, error: Refusal, place: Option<Place<'_>>) -> Option<String> {
@@ -402,7 +402,7 @@ fn reads_hint(is_terminal: bool) -> &'static str
     ensures { result.now ≡ reads_hint is_terminal }
 {
     if is_terminal {
-        "aes3: reads from the terminal up to Ctrl-D; a file by < FILE\n"
+        "aes3: reading from the terminal until Ctrl-D; to read a file, use < FILE\n"
     } else {
         ""
     }
@@ -413,7 +413,7 @@ fn writes_hint(is_terminal: bool, job: &Job) -> &'static str
     ensures { result.now ≡ writes_hint is_terminal job.now }
 {
     if is_terminal && job.writes_packed() {
-        "aes3: writes packed cells to the terminal; to a file by > FILE\n"
+        "aes3: writing packed cells to the terminal; to write a file, use > FILE\n"
     } else {
         ""
     }

@@ -89,7 +89,9 @@ fn advice_on_no_wave(looks: FileKind) -> Option<&'static str>
         FileKind::CellText => {
             Some("these are cells as text: `aes3 decode` makes a block file of them")
         }
-        FileKind::Octets => Some("are these samples alone? `aes3 from-pcm` takes them"),
+        FileKind::Octets => Some(
+            "if these are samples without a header, `aes3 from-pcm` reads them",
+        ),
         _ => advice_on_other(RunError::SoundHeader, looks),
     }
 }
@@ -154,7 +156,7 @@ fn advice_on_octets(error: RunError, first: &[u8]) -> Option<&'static str>
         }
         RunError::BadCell { .. } => Some("these look like packed cells: try `--packed-in`"),
         RunError::BadPadding { .. } if are_packed(first) => {
-            Some("these cells have no last octet that counts: try `--raw-in`")
+            Some("these cells lack the last octet, which counts unused cells: try `--raw-in`")
         }
         RunError::BadCode { .. } | RunError::BadParity { .. } if are_packed(first) => Some(
             "these look like packed cells: `aes3 decode --packed-in` makes a block file of them",
@@ -183,16 +185,16 @@ fn advice_on_other(error: RunError, looks: FileKind) -> Option<&'static str>
         ),
         (_, FileKind::Executable) => Some("this is a program"),
         (_, FileKind::Session) => Some(
-            "a session of sigrok begins so: `sigrok-cli -i FILE -O binary | aes3-cells` makes cells of it",
+            "this looks like a session of sigrok: `sigrok-cli -i FILE -O binary | aes3-cells` makes cells of it",
         ),
         (_, FileKind::Samples) if !is_of_samples => {
             Some(
                 "these look like samples of a logic analyser: `aes3-cells < FILE` makes cells of them",
             )
         }
-        (_, FileKind::Compressed) => Some("this file is compressed: take it apart first"),
+        (_, FileKind::Compressed) => Some("this file is compressed: unpack it first"),
         (_, FileKind::BlockFile) if is_of_text => {
-            Some("a block file begins so: `aes3 encode` makes cells of it")
+            Some("this looks like a block file: `aes3 encode` makes cells of it")
         }
         (RunError::BadPadding { .. }, FileKind::Empty) => Some("the input is empty"),
         (RunError::BadPadding { .. }, FileKind::CellText) => {
@@ -219,7 +221,7 @@ pub(crate) fn advice_on_taken(
             input,
             work: ReadWork::Watch { .. } | ReadWork::WatchSums { .. },
         } if has_no_cell(*input, words, head) => {
-            Some("no cell came: does the program run that writes the cells?")
+            Some("no cell came: is the program running that writes the cells?")
         }
         Job::FromPcm { format, .. } => match looks {
             FileKind::CellText => {

@@ -46,7 +46,7 @@ value_line text name value needed =
 -- there are more errors than 64
 abbrev pub many_line : Text
 many_line = codes
-    "error: more than 64 errors, of which --check-byte is two: run aes3-spoil twice, or use --every"
+    "error: more than 64 errors (--check-byte counts as two): run aes3-spoil twice, or use --every"
 
 -- the line that says what is wrong, and the whole text
 abbrev pub wrong_line : Wrong → Text

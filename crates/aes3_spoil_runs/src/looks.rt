@@ -20,7 +20,7 @@ fn advice_by_looks(form: Form, first: &[u8]) -> Option<&'static str> {
             Some("these are cells as text: leave `--packed-in` out")
         }
         (Form::Text, FileKind::BlockFile) => {
-            Some("a block file begins so: `aes3 encode` makes cells of it")
+            Some("this looks like a block file: `aes3 encode` makes cells of it")
         }
         (Form::Text, FileKind::Samples) => Some(
             "these look like samples of a logic analyser: `aes3-cells FILE` makes cells of them",

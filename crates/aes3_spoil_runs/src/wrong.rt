@@ -68,7 +68,7 @@ fn wrong_line(alloc: Global, wrong: Wrong<'_>) -> Result<String, AllocError>
         ),
         Wrong::TooMany => String::from_str(
             alloc,
-            "error: more than 64 errors, of which --check-byte is two: run aes3-spoil twice, or use --every",
+            "error: more than 64 errors (--check-byte counts as two): run aes3-spoil twice, or use --every",
         ),
     }
 }
