@@ -18,15 +18,13 @@ mod reader;
 mod samples;
 /// The octets of a file that are its samples.
 mod span;
-/// What the reader keeps.
-mod state;
 /// Writing the header.
 mod written;
 
 pub use chunk::WaveHeader;
 pub use error::{Cause, HeaderError};
 pub use format::{Container, WaveFormat, Width};
+pub use reader::HeaderReader;
 pub use samples::{Channels, Mono};
 pub use span::SampleSpan;
-pub use state::HeaderReader;
 pub use written::{Depth, HeaderOctets, header_of};

@@ -13,8 +13,6 @@ mod header;
 pub mod laws;
 /// The options of the runs, and their results.
 mod options;
-/// What an input of frames keeps.
-mod state;
 /// The channel status for a format of samples.
 mod status;
 /// The octets after the header as an input.
