@@ -11,7 +11,7 @@ ghost use Rattle.aes3_capture_recovery.specs.Endings.{level_if};
 ghost use Rattle.aes3_capture_recovery.specs.Measuring.{IsAskedFor};
 
 use crate::distances::{Distances, distances_of, spread_behind};
-use crate::edges::{Edges, Piece, are_same};
+use crate::levels::{Edges, Piece, are_same};
 use crate::line_follower::LineFollower;
 use crate::measure::{RUNS, bounds_around, follower_of_runs};
 use crate::places::{BEGIN, Places, WORDS};
