@@ -17,7 +17,7 @@ pub fn put_refusal<T: Sink>(error: RunError, sink: &mut T) -> Result<(), Fault>
     requires room { T.failed sink.old + 1 < 2 ^ 64 }
     ensures { Wrote T.taken T.failed sink.old sink.new (refusal_line error) result }
 {
-    Line::of_refusal("aes3-spoil", error.number(), error.place()).hand_on(sink)
+    Line::of_refusal("aes3-spoil", error.number(), error.place()).write_to(sink)
 }
 
 /// Writes the line of an error to `messages`, flushes them, and returns the exit status. Faults of

@@ -28,5 +28,5 @@ pub(crate) fn end_line<T: Sink>(line: &mut Line, sink: &mut T) -> Result<(), Fau
     ensures { Wrote T.taken T.failed sink.old sink.new (line.old ++ 10 ∷ []) result }
 {
     line.text("\n");
-    line.hand_on(sink)
+    line.write_to(sink)
 }
