@@ -34,7 +34,7 @@ pub fn run_places<R: Source, S: Source, T: Sink, E: Sink>(
         × (S.failed samples.new ≡ S.failed samples.old)
         × (T.failed sink.new ≡ T.failed sink.old) × (T.passed sink.new ≡ T.taken sink.new) }
     ensures messages { E.failed messages.new ≤ E.failed messages.old + 1 }
-    ensures left { E.passed messages.old ≡ E.taken messages.old
+    ensures messages_passed_on { E.passed messages.old ≡ E.taken messages.old
         → E.failed messages.new ≡ E.failed messages.old → E.passed messages.new ≡ E.taken messages.new }
 {
     let mut capture = Capture::new(job.period, unit_of_job(job, found), job.rate);

@@ -28,7 +28,7 @@ pub fn refuse<E: Sink>(error: RunError, messages: &mut E) -> u8
     ensures line { E.failed messages.new ≡ E.failed messages.old
         → Grew (E.taken messages.old) (E.taken messages.new) (refusal_line error) }
     ensures messages { E.failed messages.new ≤ E.failed messages.old + 1 }
-    ensures left { E.failed messages.new ≡ E.failed messages.old
+    ensures messages_passed_on { E.failed messages.new ≡ E.failed messages.old
         → E.passed messages.new ≡ E.taken messages.new }
 {
     if put_refusal(error, messages).is_ok() {
