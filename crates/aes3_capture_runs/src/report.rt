@@ -76,8 +76,8 @@ fn text_of_missing(
     }
     let figures = capture.figures();
     if figures.measured == 0 && job.period.is_none() {
-        let why = look.why(alloc)?;
-        return no_line_text(alloc, &figures, job.period, &why);
+        let reason = look.reason(alloc)?;
+        return no_line_text(alloc, &figures, job.period, &reason);
     }
     format!(in alloc;
         "aes3-cells: {} lines name a cell that is not in the capture: is it the one that the report is of, with the same options?\n",

@@ -296,8 +296,8 @@ fn text_of_no_line(
 ) -> Result<String, AllocError>
     ensures { IfOk result (λ text. (why : List ℕ) × (text.bytes.items ≡ no_line_text figures.now period why)) }
 {
-    let why = look.why(alloc)?;
-    no_line_text(alloc, figures, period, &why)
+    let reason = look.reason(alloc)?;
+    no_line_text(alloc, figures, period, &reason)
 }
 
 /// Says what was found in all, or that no line was found, and returns the exit status.
