@@ -12,8 +12,5 @@ mod report;
 /// The run from a report to the same report with the samples.
 mod run;
 
-pub use marks::{KEPT, Mark, Marks};
-pub use octet_count::OctetCount;
 pub use places::Places;
-pub use report::CellName;
 pub use run::{Capture, Outcome};

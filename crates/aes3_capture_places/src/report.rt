@@ -10,7 +10,7 @@ const LONGEST: usize = 24;
 /// The reports of `aes3` name a cell as `at P`, `cell C`, ` at=P` or `"at":P`. If a line names two,
 /// the last counts: the fault in a block, not the block's beginning.
 #[derive(Drop)]
-pub struct CellName {
+pub(crate) struct CellName {
     word: [u8; LONGEST],
     /// How long the word is, up to one more than fit.
     len: usize,
@@ -22,7 +22,7 @@ pub struct CellName {
 
 impl CellName {
     /// A line before its first octet.
-    pub fn new() -> Self {
+    pub(crate) fn new() -> Self {
         CellName {
             word: [0; LONGEST],
             len: 0,
@@ -32,7 +32,7 @@ impl CellName {
     }
 
     /// Takes the next octet of the line.
-    pub fn take(&mut self, octet: u8) {
+    pub(crate) fn take(&mut self, octet: u8) {
         if !is_of_word(octet) {
             self.end_word();
             return;
@@ -44,7 +44,7 @@ impl CellName {
     }
 
     /// Ends the line, and begins the next. Returns the cell that it names.
-    pub fn end(&mut self) -> Option<u64> {
+    pub(crate) fn end(&mut self) -> Option<u64> {
         self.end_word();
         self.is_number = false;
         let cell = self.cell;

@@ -4,9 +4,7 @@
 
 /// How far edges are from their expected positions.
 mod distances;
-/// The edges of a line among the levels of its samples.
-mod edges;
-/// The levels of a line among samples of several lines.
+/// The levels of a line among samples of several lines, and the edges among them.
 mod levels;
 /// A line followed from an edge on, from the levels of its samples to its cells.
 mod line_follower;
@@ -21,8 +19,7 @@ mod recovery;
 /// The run from samples to cells.
 mod run;
 
-pub use edges::{Edges, Piece};
-pub use levels::{Unit, levels_of};
+pub use levels::{Edges, Piece, Unit, levels_of};
 pub use line_follower::{LineFollower, LineParts};
 pub use measure::{LONGEST_PERIOD, SHORTEST_PERIOD, follower_of_runs};
 pub use queue::{CellQueue, QueueParts, bits_of_cells, put_last};

@@ -47,7 +47,7 @@ impl Look {
     ///
     /// # Errors
     /// `AllocError` if there is no memory.
-    pub fn why(&self, alloc: Global) -> Result<String, AllocError> {
+    pub fn reason(&self, alloc: Global) -> Result<String, AllocError> {
         let bit = bit_of(self.unit);
         let samples = self.samples;
         match (self.edges, self.toggling, self.other_unit) {

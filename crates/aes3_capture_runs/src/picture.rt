@@ -64,7 +64,7 @@ fn draw<E: Sink>(
     job: &Job<'_>,
     name: &str,
     picture: Picture,
-    file: PictureFile<'_>,
+    file: PictureFile,
     status: u8,
     messages: &mut E,
 ) -> u8

@@ -34,7 +34,7 @@ pub fn run_places<R: Source, S: Source, T: Sink, E: Sink>(
         × (S.failed samples.new ≡ S.failed samples.old)
         × (T.failed sink.new ≡ T.failed sink.old) × (T.passed sink.new ≡ T.taken sink.new) }
     ensures messages { E.failed messages.new ≤ E.failed messages.old + 1 }
-    ensures left { E.passed messages.old ≡ E.taken messages.old
+    ensures messages_passed_on { E.passed messages.old ≡ E.taken messages.old
         → E.failed messages.new ≡ E.failed messages.old → E.passed messages.new ≡ E.taken messages.new }
 {
     let mut capture = Capture::new(job.period, unit_of_job(job, found), job.rate);
@@ -76,8 +76,8 @@ fn text_of_missing(
     }
     let figures = capture.figures();
     if figures.measured == 0 && job.period.is_none() {
-        let why = look.why(alloc)?;
-        return no_line_text(alloc, &figures, job.period, &why);
+        let reason = look.reason(alloc)?;
+        return no_line_text(alloc, &figures, job.period, &reason);
     }
     format!(in alloc;
         "aes3-cells: {} report lines name a cell that is not in the capture: give the capture and the options that the report was made from\n",

@@ -124,10 +124,10 @@ pub fn say<E: Sink>(text: &str, messages: &mut E)
     requires { E.failed messages.old + 1 < 2 ^ 64 }
     ensures text { E.failed messages.new ≡ E.failed messages.old
         → Grew (E.taken messages.old) (E.taken messages.new) text.now }
-    ensures left { E.failed messages.new ≡ E.failed messages.old
+    ensures messages_passed_on { E.failed messages.new ≡ E.failed messages.old
         → E.passed messages.new ≡ E.taken messages.new }
     ensures failed { E.failed messages.new ≤ E.failed messages.old + 1 }
-    ensures up { E.failed messages.old ≤ E.failed messages.new }
+    ensures no_fewer_failures { E.failed messages.old ≤ E.failed messages.new }
 {
     let _ = put_text(text, messages);
 }
@@ -138,10 +138,10 @@ pub(crate) fn say_memory<E: Sink>(messages: &mut E) -> u8
     ensures status { result ≡ 3 }
     ensures text { E.failed messages.new ≡ E.failed messages.old
         → Grew (E.taken messages.old) (E.taken messages.new) memory_text }
-    ensures left { E.failed messages.new ≡ E.failed messages.old
+    ensures messages_passed_on { E.failed messages.new ≡ E.failed messages.old
         → E.passed messages.new ≡ E.taken messages.new }
     ensures failed { E.failed messages.new ≤ E.failed messages.old + 1 }
-    ensures up { E.failed messages.old ≤ E.failed messages.new }
+    ensures no_fewer_failures { E.failed messages.old ≤ E.failed messages.new }
 {
     say("aes3-cells: memory was refused\n", messages);
     REFUSED
@@ -153,10 +153,10 @@ pub(crate) fn say_refusal<E: Sink>(refusal: Refusal, messages: &mut E) -> u8
     ensures status { result ≡ 3 }
     ensures text { E.failed messages.new ≡ E.failed messages.old
         → Grew (E.taken messages.old) (E.taken messages.new) (refusal_text refusal) }
-    ensures left { E.failed messages.new ≡ E.failed messages.old
+    ensures messages_passed_on { E.failed messages.new ≡ E.failed messages.old
         → E.passed messages.new ≡ E.taken messages.new }
     ensures failed { E.failed messages.new ≤ E.failed messages.old + 1 }
-    ensures up { E.failed messages.old ≤ E.failed messages.new }
+    ensures no_fewer_failures { E.failed messages.old ≤ E.failed messages.new }
 {
     match refusal {
         Refusal::Read => say("aes3-cells: the input can't be read\n", messages),
@@ -186,10 +186,10 @@ fn say_bit<E: Sink>(found: Option<u8>, messages: &mut E)
     requires { E.failed messages.old + 1 < 2 ^ 64 }
     ensures text { E.failed messages.new ≡ E.failed messages.old
         → Grew (E.taken messages.old) (E.taken messages.new) (bit_line found) }
-    ensures left { E.passed messages.old ≡ E.taken messages.old
+    ensures messages_passed_on { E.passed messages.old ≡ E.taken messages.old
         → E.failed messages.new ≡ E.failed messages.old → E.passed messages.new ≡ E.taken messages.new }
     ensures failed { E.failed messages.new ≤ E.failed messages.old + 1 }
-    ensures up { E.failed messages.old ≤ E.failed messages.new }
+    ensures no_fewer_failures { E.failed messages.old ≤ E.failed messages.new }
 {
     let Some(bit) = found else {
         return;
@@ -214,10 +214,10 @@ fn say_figures<E: Sink>(
         × Grew (E.taken messages.old) (E.taken messages.new) line) }
     ensures line { IsTrue result → (line : List ℕ) × IsFiguresLine figures.now rate line
         × Grew (E.taken messages.old) (E.taken messages.new) line }
-    ensures left { E.passed messages.old ≡ E.taken messages.old
+    ensures messages_passed_on { E.passed messages.old ≡ E.taken messages.old
         → E.failed messages.new ≡ E.failed messages.old → E.passed messages.new ≡ E.taken messages.new }
     ensures failed { E.failed messages.new ≤ E.failed messages.old + 1 }
-    ensures up { E.failed messages.old ≤ E.failed messages.new }
+    ensures no_fewer_failures { E.failed messages.old ≤ E.failed messages.new }
 {
     match figures_line(alloc, figures, rate) {
         Ok(text) => put_text(&text, messages).is_ok(),
@@ -254,10 +254,10 @@ fn recover_telling<S: Source, T: Sink, E: Sink>(
         → T.passed sink.old ≡ T.taken sink.old → T.passed sink.new ≡ T.taken sink.new }
     ensures text { E.failed messages.new ≡ E.failed messages.old
         → LinesTold job.now.rate job.now.tell_each (E.taken messages.old) (E.taken messages.new) }
-    ensures left { E.passed messages.old ≡ E.taken messages.old
+    ensures messages_passed_on { E.passed messages.old ≡ E.taken messages.old
         → E.failed messages.new ≡ E.failed messages.old → E.passed messages.new ≡ E.taken messages.new }
     ensures failed { E.failed messages.new ≤ E.failed messages.old + 1 }
-    ensures up { E.failed messages.old ≤ E.failed messages.new }
+    ensures no_fewer_failures { E.failed messages.old ≤ E.failed messages.new }
 {
     let mut until = job.tell_each;
     'tells: for _ in 0..u64::MAX {
@@ -296,8 +296,8 @@ fn text_of_no_line(
 ) -> Result<String, AllocError>
     ensures { IfOk result (λ text. (why : List ℕ) × (text.bytes.items ≡ no_line_text figures.now period why)) }
 {
-    let why = look.why(alloc)?;
-    no_line_text(alloc, figures, period, &why)
+    let reason = look.reason(alloc)?;
+    no_line_text(alloc, figures, period, &reason)
 }
 
 /// Says what was found in all, or that no line was found, and returns the exit status.
@@ -311,10 +311,10 @@ fn say_end<E: Sink>(
     requires { E.failed messages.old + 1 < 2 ^ 64 }
     ensures said { EndSaid IsNothing job.now recovery.now
         (movement_of E.taken E.failed messages.old messages.new) result }
-    ensures left { E.failed messages.new ≡ E.failed messages.old
+    ensures messages_passed_on { E.failed messages.new ≡ E.failed messages.old
         → E.passed messages.new ≡ E.taken messages.new }
     ensures failed { E.failed messages.new ≤ E.failed messages.old + 1 }
-    ensures up { E.failed messages.old ≤ E.failed messages.new }
+    ensures no_fewer_failures { E.failed messages.old ≤ E.failed messages.new }
 {
     let figures = recovery.figures();
     if figures.measured == 0 {
@@ -364,7 +364,7 @@ pub fn run_job<S: Source, T: Sink, E: Sink>(
     ensures passed_on { T.passed sink.old ≡ T.taken sink.old → T.failed sink.new ≡ T.failed sink.old
         → T.passed sink.new ≡ T.taken sink.new }
     ensures messages { E.failed messages.new ≤ E.failed messages.old + 3 }
-    ensures left { E.failed messages.new ≡ E.failed messages.old
+    ensures messages_passed_on { E.failed messages.new ≡ E.failed messages.old
         → E.passed messages.new ≡ E.taken messages.new }
 {
     let unit = unit_of_job(job, found);
@@ -387,7 +387,7 @@ pub fn report_fault<T: Sink, E: Sink>(fault: LineFault, sink: &mut T, messages: 
     ensures passed_on { T.passed sink.old ≡ T.taken sink.old → T.failed sink.new ≡ T.failed sink.old
         → T.passed sink.new ≡ T.taken sink.new }
     ensures failed { E.failed messages.new ≤ E.failed messages.old + 1 }
-    ensures left { E.passed messages.old ≡ E.taken messages.old
+    ensures messages_passed_on { E.passed messages.old ≡ E.taken messages.old
         → E.failed messages.new ≡ E.failed messages.old → E.passed messages.new ≡ E.taken messages.new }
 {
     match fault {
@@ -409,7 +409,7 @@ pub fn report_unread<E: Sink>(fault: Unread, messages: &mut E) -> u8
     ensures said { UnreadSaid fault
         (movement_of E.taken E.failed messages.old messages.new) result }
     ensures failed { E.failed messages.new ≤ E.failed messages.old + 1 }
-    ensures left { E.failed messages.new ≡ E.failed messages.old
+    ensures messages_passed_on { E.failed messages.new ≡ E.failed messages.old
         → E.passed messages.new ≡ E.taken messages.new }
 {
     match fault {

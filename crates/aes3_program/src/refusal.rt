@@ -19,7 +19,7 @@ pub fn put_refusal<T: Sink>(error: Refusal, sink: &mut T) -> Result<(), Fault>
     requires room { T.failed sink.old + 1 < 2 ^ 64 }
     ensures { Wrote T.taken T.failed sink.old sink.new (refusal_line error) result }
 {
-    Line::of_refusal("aes3", error.number(), error.place()).hand_on(sink)
+    Line::of_refusal("aes3", error.number(), error.place()).write_to(sink)
 }
 
 /// Reports an error on `errors`, flushes them, and then informs the observer. Faults of `errors`

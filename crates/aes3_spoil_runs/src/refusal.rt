@@ -17,7 +17,7 @@ pub fn put_refusal<T: Sink>(error: RunError, sink: &mut T) -> Result<(), Fault>
     requires room { T.failed sink.old + 1 < 2 ^ 64 }
     ensures { Wrote T.taken T.failed sink.old sink.new (refusal_line error) result }
 {
-    Line::of_refusal("aes3-spoil", error.number(), error.place()).hand_on(sink)
+    Line::of_refusal("aes3-spoil", error.number(), error.place()).write_to(sink)
 }
 
 /// Writes the line of an error to `messages`, flushes them, and returns the exit status. Faults of
@@ -28,7 +28,7 @@ pub fn refuse<E: Sink>(error: RunError, messages: &mut E) -> u8
     ensures line { E.failed messages.new ≡ E.failed messages.old
         → Grew (E.taken messages.old) (E.taken messages.new) (refusal_line error) }
     ensures messages { E.failed messages.new ≤ E.failed messages.old + 1 }
-    ensures left { E.failed messages.new ≡ E.failed messages.old
+    ensures messages_passed_on { E.failed messages.new ≡ E.failed messages.old
         → E.passed messages.new ≡ E.taken messages.new }
 {
     if put_refusal(error, messages).is_ok() {

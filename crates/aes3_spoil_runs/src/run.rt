@@ -76,7 +76,7 @@ pub fn run_job<S: Source, T: Sink, E: Sink>(
     ensures passed_on { T.failed sink.new ≡ T.failed sink.old
         → T.passed sink.new ≡ T.taken sink.new }
     ensures messages { E.failed messages.new ≤ E.failed messages.old + 1 }
-    ensures left { E.passed messages.old ≡ E.taken messages.old
+    ensures messages_passed_on { E.passed messages.old ≡ E.taken messages.old
         → E.failed messages.new ≡ E.failed messages.old → E.passed messages.new ≡ E.taken messages.new }
 {
     match spoil(source, sink, MAX_BYTES, job.input, job.output, &job.errors) {
@@ -96,7 +96,7 @@ fn report_fault<T: Sink, E: Sink>(fault: LineFault, sink: &mut T, messages: &mut
     ensures passed_on { T.passed sink.old ≡ T.taken sink.old → T.failed sink.new ≡ T.failed sink.old
         → T.passed sink.new ≡ T.taken sink.new }
     ensures messages { E.failed messages.new ≤ E.failed messages.old + 1 }
-    ensures left { E.passed messages.old ≡ E.taken messages.old
+    ensures messages_passed_on { E.passed messages.old ≡ E.taken messages.old
         → E.failed messages.new ≡ E.failed messages.old → E.passed messages.new ≡ E.taken messages.new }
 {
     match fault {
@@ -131,7 +131,7 @@ pub fn run_line<S: Source, T: Sink, E: Sink>(
     ensures passed_on { T.passed sink.old ≡ T.taken sink.old → T.failed sink.new ≡ T.failed sink.old
         → T.passed sink.new ≡ T.taken sink.new }
     ensures messages { E.failed messages.new ≤ E.failed messages.old + 1 }
-    ensures left { E.passed messages.old ≡ E.taken messages.old
+    ensures messages_passed_on { E.passed messages.old ≡ E.taken messages.old
         → E.failed messages.new ≡ E.failed messages.old → E.passed messages.new ≡ E.taken messages.new }
 {
     match line {
@@ -146,7 +146,7 @@ pub fn report_unread<E: Sink>(fault: Unread, messages: &mut E) -> u8
     ensures reported { UnreadReported fault
         (movement_of E.taken E.failed messages.old messages.new) result }
     ensures messages { E.failed messages.new ≤ E.failed messages.old + 1 }
-    ensures left { E.failed messages.new ≡ E.failed messages.old
+    ensures messages_passed_on { E.failed messages.new ≡ E.failed messages.old
         → E.passed messages.new ≡ E.taken messages.new }
 {
     match fault {

@@ -124,7 +124,7 @@ impl Line {
     ///
     /// # Errors
     /// The sink's fault; then it has taken a front of the line.
-    pub fn hand_on<T: Sink>(&self, sink: &mut T) -> Result<(), Fault>
+    pub fn write_to<T: Sink>(&self, sink: &mut T) -> Result<(), Fault>
         requires room { T.failed sink.old + 1 < 2 ^ 64 }
         ensures { Wrote T.taken T.failed sink.old sink.new self.now result }
     {
@@ -141,6 +141,6 @@ impl Line {
         ensures { Wrote T.taken T.failed sink.old sink.new (self.old ++ 10 ∷ []) result }
     {
         self.text("\n");
-        self.hand_on(sink)
+        self.write_to(sink)
     }
 }

@@ -87,7 +87,7 @@ impl GatheredLines {
     ///
     /// # Errors
     /// The sink's fault; then it has taken a front of the lines.
-    pub fn hand_on<T: Sink>(&mut self, sink: &mut T) -> Result<(), Fault>
+    pub fn write_to<T: Sink>(&mut self, sink: &mut T) -> Result<(), Fault>
         requires room { T.failed sink.old + 1 < 2 ^ 64 }
         ensures wrote { Wrote T.taken T.failed sink.old sink.new self.old result }
         ensures none { IfOk result (λ _. self.new ≡ []) }

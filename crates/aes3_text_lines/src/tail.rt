@@ -112,7 +112,7 @@ impl Tail {
     /// # Errors
     /// The sink's fault; then it has taken a front of the line.
     #[inline]
-    pub fn hand_on<T: Sink>(&self, sink: &mut T) -> Result<(), Fault>
+    pub fn write_to<T: Sink>(&self, sink: &mut T) -> Result<(), Fault>
         requires room { T.failed sink.old + 1 < 2 ^ 64 }
         ensures { Wrote T.taken T.failed sink.old sink.new self.now result }
     {

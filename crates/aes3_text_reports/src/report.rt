@@ -113,7 +113,7 @@ fn line_of_ending<T: Sink>(ending: Ending, sink: &mut T) -> Result<(), Fault>
 {
     let mut line = Tail::new();
     put_ending(&mut line, ending);
-    line.hand_on(sink)
+    line.write_to(sink)
 }
 
 /// Writes the line of a report as one buffer.
@@ -126,7 +126,7 @@ pub fn line_of_report<T: Sink>(report: &Report, sink: &mut T) -> Result<(), Faul
 {
     let mut line = Tail::new();
     put_report(&mut line, report);
-    line.hand_on(sink)
+    line.write_to(sink)
 }
 
 /// Writes the line of the report of an ending, if it gets one.

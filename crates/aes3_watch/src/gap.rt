@@ -21,5 +21,5 @@ pub fn line_of_gap<T: Sink>(at: u64, cells: u64, sink: &mut T) -> Result<(), Fau
     line.text(b" cells ");
     line.number(at);
     line.text(b"gap at ");
-    line.hand_on(sink)
+    line.write_to(sink)
 }

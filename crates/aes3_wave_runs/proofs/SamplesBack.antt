@@ -22,7 +22,7 @@ use Rattle.aes3_wave.specs.Written.{written_format}
 use Rattle.aes3_wave.proofs.ReadBack.{written-read}
 use Rattle.aes3_wave_runs.specs.Frames.{all_parts, parts_of}
 use Rattle.aes3_wave_runs.specs.Laws.{SamplesComeBack}
-use Rattle.aes3_wave_runs.specs.Status.{consumer_rates, or_else, professional_frequencies, professional_rates, rate_in, rate_named}
+use Rattle.aes3_wave_runs.specs.Status.{consumer_rates, or_else, professional_frequencies, professional_rates, rate_in, rate_of_status}
 use Rattle.aes3_wave_runs.specs.ToWav.{format_of, header_for, named_by, rate_for}
 use Rattle.aes3_wave_runs.proofs.Parts.{all-whole, left-whole}
 use Rattle.aes3_wave_runs.proofs.WrittenFrames.{none-there, pair_of, sixteen, thirty-two, twenty-four}
@@ -100,7 +100,7 @@ either-few : (a b : Option ℕ) → ForSome a (λ n. n < 2 ^ 32) → ForSome b (
 either-few (Some x) b p q = p
 either-few None b p q = q
 
-named-few : (status : List ℕ) → ForSome (rate_named status) (λ n. n < 2 ^ 32)
+named-few : (status : List ℕ) → ForSome (rate_of_status status) (λ n. n < 2 ^ 32)
 named-few status =
     go (is_professional status)
     (either-few (rate_in professional_rates (pro.rate status)) (rate_in professional_frequencies (pro.frequency status))

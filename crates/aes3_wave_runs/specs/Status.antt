@@ -141,12 +141,12 @@ rate_of_frequency code = rate_in professional_frequencies code
 abbrev pub rate_of_professional : ℕ → ℕ → Option ℕ
 rate_of_professional code frequency = or_else (rate_in professional_rates code) (rate_of_frequency frequency)
 
-abbrev pub rate_named : List ℕ → Option ℕ
-rate_named status =
+abbrev pub rate_of_status : List ℕ → Option ℕ
+rate_of_status status =
     if is_professional status then rate_of_professional (pro.rate status) (pro.frequency status)
     else rate_of_consumer (con.rate status)
 
 -- the sampling frequency that a status says is the one that it names
 abbrev pub RateIsNamed : Type 0
 RateIsNamed = (f : WaveFormat) (kind : StatusUse) → lacks_rate kind f.rate ≡ false
-    → rate_named (status_for kind f) ≡ Some f.rate
+    → rate_of_status (status_for kind f) ≡ Some f.rate

@@ -25,6 +25,6 @@ mod wave_writing;
 pub use error::WaveError;
 pub use header::read_header;
 pub use options::{Converted, ExactWave, FilledWave, WaveOptions, WaveWritten};
-pub use status::{StatusUse, Unsaid, rate_named, status_of, unsaid_of};
+pub use status::{MissingCodes, StatusUse, missing_codes, rate_of_status, status_of};
 pub use wave_reading::from_wav;
 pub use wave_writing::{to_exact_wav, to_filled_wav, to_valid_wav, to_wav};

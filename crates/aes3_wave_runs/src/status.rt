@@ -5,7 +5,7 @@ ghost use Rattle.aes3_status.specs.Bits.{status_bits};
 ghost use Rattle.aes3_status.specs.Check.{CheckHolds};
 ghost use Rattle.aes3_wave_runs.specs.Status.{Says, consumer_rate, consumer_status, greatest_code};
 ghost use Rattle.aes3_wave_runs.specs.Status.{lacks_rate, lacks_width, professional_frequency};
-ghost use Rattle.aes3_wave_runs.specs.Status.{professional_rate, professional_status, rate_named};
+ghost use Rattle.aes3_wave_runs.specs.Status.{professional_rate, professional_status, rate_of_status};
 ghost use Rattle.aes3_wave_runs.specs.Status.{rate_of_consumer, rate_of_frequency};
 ghost use Rattle.aes3_wave_runs.specs.Status.{rate_of_professional, status_for, word_code};
 
@@ -23,7 +23,7 @@ pub enum StatusUse {
 
 /// What a channel status can't say of a format.
 #[derive(Clone, Copy, PartialEq, Eq)]
-pub struct Unsaid {
+pub struct MissingCodes {
     /// Its sampling frequency, which has no code.
     pub rate: bool,
     /// Its width: 8 bits have no code, and of 32 bits only 24 are left.
@@ -136,7 +136,7 @@ fn professional_status(format: &WaveFormat) -> [u8; 24]
 /// and their length. For consumer use it also says that no copyright is asserted. For professional
 /// use it says that there are two channels and no emphasis, and it has a check byte.
 ///
-/// What it can't say is not indicated: see [`unsaid_of`].
+/// What it can't say is not indicated: see [`missing_codes`].
 pub fn status_of(format: &WaveFormat, status_use: StatusUse) -> [u8; 24]
     ensures status { result ≡ status_for status_use format.now }
     ensures says { Says status_use format.now result }
@@ -172,11 +172,11 @@ fn lacks_width(width: Width) -> bool
 }
 
 /// What the status of [`status_of`] doesn't say of a format.
-pub fn unsaid_of(format: &WaveFormat, status_use: StatusUse) -> Unsaid
+pub fn missing_codes(format: &WaveFormat, status_use: StatusUse) -> MissingCodes
     ensures rate { result.rate ≡ lacks_rate status_use format.now.rate }
     ensures width { result.width ≡ lacks_width format.now.width }
 {
-    Unsaid {
+    MissingCodes {
         rate: lacks_rate(format.rate, status_use),
         width: lacks_width(format.width),
     }
@@ -230,8 +230,8 @@ fn rate_of_professional(code: u8, frequency: u8) -> Option<u32>
 }
 
 /// The sampling frequency that a channel status names, in hertz; `None` if it names no frequency.
-pub fn rate_named(status: &[u8; 24]) -> Option<u32>
-    ensures { result ≡ rate_named status.now }
+pub fn rate_of_status(status: &[u8; 24]) -> Option<u32>
+    ensures { result ≡ rate_of_status status.now }
 {
     match Status::read(status) {
         Status::Professional(status) => rate_of_professional(status.rate(), status.frequency()),

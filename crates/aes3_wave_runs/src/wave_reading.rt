@@ -130,7 +130,7 @@ fn change_for(options: &WaveOptions, format: WaveFormat) -> Change
 
 /// Writes a block file of the samples of a WAV file: two channels of each frame, as
 /// `from_pcm_words` does with samples of 32 bits whose other bits are 0. The channel status says
-/// the sampling frequency and the width, except for what [`crate::unsaid_of`] returns. What comes
+/// the sampling frequency and the width, except for what [`crate::missing_codes`] returns. What comes
 /// after the samples is ignored. Each block is written as soon as its samples have come.
 ///
 /// # Errors

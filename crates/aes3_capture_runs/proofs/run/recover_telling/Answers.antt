@@ -8,7 +8,7 @@ tells-init g c = record {
   sink = refl;
   messages = refl;
   passed = λ h. h;
-  left = λ h. h;
+  messages_passed_on = λ h. h;
   asked = λ h. h;
   text = told-none refl;
   read = ran-none c.args.unit (g.S.Source.given c.args.source.now) (g.S.Source.has_ended c.args.source.now)
@@ -44,7 +44,7 @@ tells-preserved g c =
       sink = paused.sink_count ∙ v.sink;
       messages = quiet ∙ v.messages;
       passed = λ h. paused.passed;
-      left = λ h. c.say_figures.ensures.left (v.left h) quiet;
+      messages_passed_on = λ h. c.say_figures.ensures.messages_passed_on (v.messages_passed_on h) quiet;
       asked = λ none. c.next_telling-until.ensures.none (v.asked none);
       text = told-more c.figures-figures.result told.0
           (λ none. paused-apart (sym c.in-Ok-Paused.field-0-is ∙ paused.to_the_end (v.asked none))) told.1 v.text told.2;

@@ -10,7 +10,7 @@ invariant-tells g l = record {
   sink : g.T.Sink.failed l.sink ≡ g.T.Sink.failed l.fn.sink;
   messages : g.E.Sink.failed l.messages ≡ g.E.Sink.failed l.fn.messages;
   passed : g.T.Sink.passed l.fn.sink ≡ g.T.Sink.taken l.fn.sink → g.T.Sink.passed l.sink ≡ g.T.Sink.taken l.sink;
-  left : g.E.Sink.passed l.fn.messages ≡ g.E.Sink.taken l.fn.messages
+  messages_passed_on : g.E.Sink.passed l.fn.messages ≡ g.E.Sink.taken l.fn.messages
       → g.E.Sink.passed l.messages ≡ g.E.Sink.taken l.messages;
   asked : l.fn.job.tell_each ≡ None → l.until ≡ None;
   text : LinesTold l.fn.job.rate l.fn.job.tell_each (g.E.Sink.taken l.fn.messages) (g.E.Sink.taken l.messages);

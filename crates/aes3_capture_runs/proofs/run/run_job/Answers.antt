@@ -18,9 +18,9 @@ returns-in-Ok-clause-ran g c =
       recovered = λ begun. c.new-recovery.ensures.recovered (setting_of job begun) refl (search rules);
       awaits = λ none begun. c.new-recovery.ensures.awaits (setting_of job begun) refl (search rules) none;
     } in
-    let up1 = c.say_bit.ensures.up in
-    let up2 = run.ensures.up in
-    let up3 = c.say_end.ensures.up in
+    let up1 = c.say_bit.ensures.no_fewer_failures in
+    let up2 = run.ensures.no_fewer_failures in
+    let up3 = c.say_end.ensures.no_fewer_failures in
     let grown : g.E.Sink.failed c.say_end.new.messages ≡ g.E.Sink.failed c.args.messages.now
     → (g.E.Sink.failed c.say_end.new.messages ≡ g.E.Sink.failed run.new.messages)
     × SaidUpTo job c.args.found (g.E.Sink.taken c.args.messages.now) (g.E.Sink.taken run.new.messages) = λ quiet. (
@@ -55,9 +55,9 @@ returns-in-Err-clause-ran g c =
       recovered = λ begun. c.new-recovery.ensures.recovered (setting_of job begun) refl (search rules);
       awaits = λ none begun. c.new-recovery.ensures.awaits (setting_of job begun) refl (search rules) none;
     } in
-    let up1 = c.say_bit.ensures.up in
-    let up2 = run.ensures.up in
-    let up3 = c.say_refusal.ensures.up in
+    let up1 = c.say_bit.ensures.no_fewer_failures in
+    let up2 = run.ensures.no_fewer_failures in
+    let up3 = c.say_refusal.ensures.no_fewer_failures in
     let grown : g.E.Sink.failed c.say_refusal.new.messages ≡ g.E.Sink.failed c.args.messages.now
     → (g.E.Sink.failed c.say_refusal.new.messages ≡ g.E.Sink.failed run.new.messages)
     × SaidUpTo job c.args.found (g.E.Sink.taken c.args.messages.now) (g.E.Sink.taken run.new.messages) = λ quiet. (

@@ -18,4 +18,4 @@ returns g c =
     let named = said ∙ ap (λ z. codes " cells " ++ z) counted in
     let placed = c.number-2.ensures.digits ∙ ap (λ z. at ++ z) named in
     let all = c.text-3.ensures.text ∙ ap (λ z. codes "gap at " ++ z) placed in
-    wrote-is (all ∙ joined (codes "gap at ") at (codes " cells ") cells (10 ∷ [])) c.hand_on.ensures
+    wrote-is (all ∙ joined (codes "gap at ") at (codes " cells ") cells (10 ∷ [])) c.write_to.ensures

@@ -1,7 +1,7 @@
 use Rattle.std.proofs.Common.{arith}
 use Rattle.aes3_capture_recovery.specs.Endings.{level_if}
 use Rattle.aes3_capture_recovery.proofs.StillWords.{words-same}
-use Rattle.aes3_capture_recovery.proofs.edges.are_same.Goals as goal
+use Rattle.aes3_capture_recovery.proofs.levels.are_same.Goals as goal
 
 pub loop-i-preserved : goal.loop-i-preserved
 loop-i-preserved c =

@@ -1,6 +1,6 @@
 use Rattle.aes3_capture_recovery.proofs.SameLevels.{low-same, low-next, high-same, high-next}
 use Rattle.std.proofs.Common.{arith}
-use Rattle.aes3_capture_recovery.proofs.edges.same_levels.Goals as goal
+use Rattle.aes3_capture_recovery.proofs.levels.same_levels.Goals as goal
 
 pub returns-then-high-clause-same : goal.returns-then-high-clause-same
 returns-then-high-clause-same c = λ n h.

@@ -3,7 +3,7 @@ use Rattle.aes3_level.specs.declared.level.Level.{Level}
 use Rattle.aes3_level.specs.Words.{low_cells}
 use Rattle.aes3_capture_recovery.specs.Endings.{level_if}
 use Rattle.aes3_capture_recovery.proofs.SameLevels.{split-levels, split-count, level-not}
-use Rattle.aes3_capture_recovery.proofs.edges.Edges.next_edge.Goals as goal
+use Rattle.aes3_capture_recovery.proofs.levels.Edges.next_edge.Goals as goal
 
 pub returns-clause-edge : goal.returns-clause-edge
 returns-clause-edge c =

@@ -3,7 +3,7 @@ use Rattle.aes3_level.specs.Words.{low_cells}
 use Rattle.aes3_level.proofs.WordCells.{take-low_cells}
 use Rattle.aes3_input.specs.Forms.{octet_front}
 use Rattle.aes3_input.proofs.Handing.{cells-ran-is}
-use Rattle.aes3_input.proofs.packed_input.hand_on.Goals as goal
+use Rattle.aes3_input.proofs.packed_input.take_octet_cells.Goals as goal
 
 pub returns : goal.returns
 unfolding octet_front
