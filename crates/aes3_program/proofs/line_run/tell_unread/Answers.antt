@@ -5,7 +5,7 @@ use Rattle.aes3_program.specs.Lines.{not_utf8_text}
 use Rattle.aes3_program.specs.WordRuns.{UnreadTold}
 use Rattle.aes3_cli.specs.declared.unread.Unread.{Unread}
 use Rattle.aes3_cli.specs.declared.unread.Unread.TheVariants.{NotUtf8, Memory}
-use Rattle.aes3_program.proofs.run.tell_unread.Goals as goal
+use Rattle.aes3_program.proofs.line_run.tell_unread.Goals as goal
 
 pub returns-in-NotUtf8-clause-told : goal.returns-in-NotUtf8-clause-told
 returns-in-NotUtf8-clause-told g c

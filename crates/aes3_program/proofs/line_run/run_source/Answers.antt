@@ -2,7 +2,7 @@ use Rattle.std.proofs.Common.{ap, subst, sym, IsTrue}
 use Rattle.aes3_program.specs.OctetRuns.{PackedRan, SourceRan}
 use Rattle.aes3_program.specs.Streams.{streams_of}
 use Rattle.aes3_program.proofs.RawRuns.{raw-ran, source-raw}
-use Rattle.aes3_program.proofs.octets.run_source.Goals as goal
+use Rattle.aes3_program.proofs.line_run.run_source.Goals as goal
 
 pub returns-then-octets-clause-ran : goal.returns-then-octets-clause-ran
 returns-then-octets-clause-ran g c =

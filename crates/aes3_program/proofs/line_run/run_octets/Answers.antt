@@ -1,6 +1,6 @@
 use Rattle.std.proofs.Common.{◌≡◌, ◌∙◌, ap, subst, sym}
 use Rattle.aes3_cell_octets.proofs.Ends.{same-reversed}
-use Rattle.aes3_program.proofs.octets.run_octets.Goals as goal
+use Rattle.aes3_program.proofs.line_run.run_octets.Goals as goal
 
 pub returns-then-writes_packed-clause-passed_on : goal.returns-then-writes_packed-clause-passed_on
 returns-then-writes_packed-clause-passed_on g c = λ h.

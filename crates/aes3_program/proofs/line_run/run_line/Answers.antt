@@ -3,7 +3,7 @@ use Rattle.aes3_cell.proofs.Growing.{grew-none}
 use Rattle.aes3_program.specs.Streams.{moved, streams_of}
 use Rattle.aes3_program.proofs.ErrorsToldLemmas.{fault_told, line_told}
 use Rattle.aes3_program.proofs.WordLemmas.{words_aside, words_ran}
-use Rattle.aes3_program.proofs.run.run_line.Goals as goal
+use Rattle.aes3_program.proofs.line_run.run_line.Goals as goal
 
 pub returns-in-Ok-clause-told : goal.returns-in-Ok-clause-told
 returns-in-Ok-clause-told g c =
