@@ -16,7 +16,7 @@ use Rattle.aes3_cell.specs.Packed.{octets_needed, octets_of}
 use Rattle.aes3_cell.proofs.PackedCells.{length-first_octets}
 use Rattle.aes3_cell.proofs.WrittenForms.{bytes-append, bytes-nothing}
 use Rattle.aes3_block.proofs.StreamBytes.{stream-bytes}
-use Rattle.aes3_forms_samples.specs.declared.format.SampleFormat.{SampleFormat}
+use Rattle.aes3_forms_samples.specs.declared.sample_format.SampleFormat.{SampleFormat}
 use Rattle.aes3_forms_samples.specs.Formats.{block_len, widened}
 use Rattle.aes3_frame.specs.Blocks.{block_subframes, stream}
 use Rattle.aes3_frame.specs.Files.{blocks_in, payload_of, words_of}

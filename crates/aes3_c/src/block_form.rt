@@ -11,7 +11,9 @@ ghost use Rattle.aes3_frame.specs.Files.{block_bytes};
 ghost use Rattle.aes3_frame.specs.Samples.{block_samples};
 ghost use Rattle.aes3_c.specs.Blocks.{form_len, octets_in, sample_form, words_form};
 
-use aes3_block::{BLOCK_BYTES, Block, SUBFRAMES, bytes_of_block, fill_block_cells, samples_of_block};
+use aes3_block::{
+    BLOCK_BYTES, Block, SUBFRAMES, bytes_of_block, fill_block_cells, samples_of_block,
+};
 use aes3_cell::{Level, octets_of_word};
 use aes3_forms_samples::SampleFormat;
 use aes3_forms_words::{Words, write_words};

@@ -8,7 +8,7 @@ ghost use Rattle.aes3_level.specs.Words.{level_of, low_cells, word_cells};
 ghost use Rattle.aes3_capture_recovery.specs.Endings.{level_if};
 ghost use Rattle.aes3_capture_recovery.specs.Levels.{AreLevels, AreWords, IsWord, bits_of_sample};
 
-use crate::places::WORDS;
+use crate::edge_places::WORDS;
 use aes3_level::even_bits;
 use std::simd::prelude::*;
 

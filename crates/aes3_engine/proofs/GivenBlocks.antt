@@ -24,7 +24,7 @@ use Rattle.aes3_lock_runs.proofs.Reports.{decided-more, reports-more}
 use Rattle.aes3_lock_runs.specs.Reporting.{decided_by, decided_at_end}
 use Rattle.aes3_input.specs.Taking.{behind, before_end, with_end}
 use Rattle.aes3_input.proofs.Items.{before-is, before-join}
-use Rattle.aes3_forms_samples.specs.declared.format.SampleFormat.{SampleFormat}
+use Rattle.aes3_forms_samples.specs.declared.sample_format.SampleFormat.{SampleFormat}
 use Rattle.aes3_forms_samples.specs.Formats.{narrowed}
 use Rattle.aes3_forms_samples.proofs.Formats.{narrowed-join, narrowed-none}
 use Rattle.aes3_engine.specs.Filling.{Placed, placed, mended_from, given, is_marked, marked_given, filled}

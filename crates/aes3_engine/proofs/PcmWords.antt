@@ -10,8 +10,8 @@ use Rattle.aes3_frame.specs.Files.{bytes_number, words_of}
 use Rattle.aes3_frame.specs.Sampled.{sampled, filled}
 use Rattle.aes3_frame.proofs.SampleBlocks.{length-filled, length-sampled, words-join, words-zeros}
 use Rattle.aes3_frame.proofs.Words.{length-words}
-use Rattle.aes3_forms_samples.specs.declared.format.SampleFormat.{SampleFormat}
-use Rattle.aes3_forms_samples.specs.declared.format.SampleFormat.TheVariants.{S32, S24, S24In32, S16}
+use Rattle.aes3_forms_samples.specs.declared.sample_format.SampleFormat.{SampleFormat}
+use Rattle.aes3_forms_samples.specs.declared.sample_format.SampleFormat.TheVariants.{S32, S24, S24In32, S16}
 use Rattle.aes3_forms_samples.specs.Formats.{block_len, frame_len, sample_len, widened}
 use Rattle.aes3_forms_samples.proofs.Formats.{length-widened, widened-join, widened-more, widened-whole, widened-zeros}
 use Rattle.aes3_engine.specs.Sampling.{words_in}

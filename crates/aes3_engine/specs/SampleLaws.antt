@@ -7,8 +7,8 @@ use Rattle.aes3_frame.specs.Samples.{samples}
 use Rattle.aes3_frame.specs.Sampled.{IsSample, filled}
 use Rattle.aes3_lock.specs.Reports.{blocks}
 use Rattle.aes3_input.specs.Inputs.{cells_of}
-use Rattle.aes3_forms_samples.specs.declared.format.SampleFormat.{SampleFormat}
-use Rattle.aes3_forms_samples.specs.declared.format.SampleFormat.TheVariants.{S32, S24, S24In32, S16}
+use Rattle.aes3_forms_samples.specs.declared.sample_format.SampleFormat.{SampleFormat}
+use Rattle.aes3_forms_samples.specs.declared.sample_format.SampleFormat.TheVariants.{S32, S24, S24In32, S16}
 use Rattle.aes3_forms_samples.specs.Formats.{narrowed}
 use Rattle.aes3_forms_words.specs.declared.form.Words.TheVariants.{Own}
 use Rattle.aes3_status.specs.declared.change.Change.{Change}

@@ -4,8 +4,8 @@ use Rattle.std.specs.List.{flat_map}
 use Rattle.aes3_bits.specs.Bits.{low_bits, number}
 use Rattle.aes3_frame.specs.declared.carried.CarriedBits.{CarriedBits}
 use Rattle.aes3_frame.specs.declared.carried.CarriedBits.TheVariants.{Validity, User, Status}
-use Rattle.aes3_frame.specs.declared.status.Channel.{Channel}
-use Rattle.aes3_frame.specs.declared.status.Channel.TheVariants.{First, Second}
+use Rattle.aes3_frame.specs.declared.channel.Channel.{Channel}
+use Rattle.aes3_frame.specs.declared.channel.Channel.TheVariants.{First, Second}
 use Rattle.aes3_frame.specs.Subframes.{audio_len}
 
 -- the payloads of a channel: payloads are of the first and the second channel in turn, so behind one the two change

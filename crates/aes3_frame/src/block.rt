@@ -41,9 +41,11 @@ ghost use Rattle.aes3_frame.specs.Files.{is_lawful, payload_of, words_of};
 ghost use Rattle.aes3_frame.specs.Subframes.{bits_of};
 ghost use Rattle.aes3_frame.specs.Sampled.{payload_of_sample};
 
+use crate::file_word::{
+    has_right_code, has_right_parity, payload_of_word, with_bit, word_of_payload,
+};
 use crate::frame::Frame;
 use crate::subframe::Subframe;
-use crate::word::{has_right_code, has_right_parity, payload_of_word, with_bit, word_of_payload};
 
 /// Words of payloads that are 0.
 #[tactic(auto, unfolding(crate::specs::Blocks::block_subframes))]

@@ -20,8 +20,8 @@ ghost use Rattle.aes3_frame.specs.Statuses.{first_subframe_of, validity_of, user
 ghost use Rattle.aes3_frame.specs.Statuses.{with_validity, with_user, status_of, with_status};
 
 use crate::block::{Block, FRAMES};
-use crate::status::{Channel, STATUS_LEN};
-use crate::word::bit_of_word;
+use crate::channel::{Channel, STATUS_LEN};
+use crate::file_word::bit_of_word;
 
 impl Block {
     /// The validity bits of a channel (AES3-1, IEC 60958-1): bit `i % 8` of byte `i / 8` is the V

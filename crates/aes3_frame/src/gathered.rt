@@ -42,8 +42,8 @@ ghost use Rattle.aes3_frame.specs.Blocks.{block_cells, block_subframes, mark_at}
 ghost use Rattle.aes3_frame.specs.Files.{is_lawful, payload_of};
 ghost use Rattle.aes3_frame.specs.Gathered.{IsRight, with_first};
 
-use crate::slots::wrong_parities;
-use crate::word::{payload_of_word, word_of_payload};
+use crate::file_word::{payload_of_word, word_of_payload};
+use crate::read_subframes::wrong_parities;
 
 /// Not zero if a subframe's last cell differs from the level `before`, as it does if its parity is
 /// wrong.

@@ -9,7 +9,7 @@ ghost use Rattle.aes3_frame.specs.Mending.{mended, mended_behind, mended_payload
 use crate::block::{Block, SUBFRAMES, zero_words};
 use crate::fill::Fill;
 use crate::gathered::GatheredCells;
-use crate::slots::{has_odd_ones, word_of_cells};
+use crate::read_subframes::{has_odd_ones, word_of_cells};
 
 /// The valid word of a subframe, from its 64 cells. If their parity is wrong, it is filled; `held`
 /// is the word of the subframe before it in its channel.

@@ -12,8 +12,8 @@ ghost use Rattle.aes3_info.specs.Pages.{seconds_value, silence_value, status_fie
 ghost use Rattle.aes3_info.specs.Pages.{time_fields, unknown};
 
 use crate::channel::ChannelFacts;
+use crate::decibels::{level_of, times};
 use crate::facts::Facts;
-use crate::level::{level_of, times};
 use crate::rate::rate_of;
 use crate::samples::square;
 use aes3_block::Channel;

@@ -4,13 +4,13 @@
 /// Cells one by one, and a word at a time.
 mod one_by_one;
 
-use crate::candidate::Candidate;
-use crate::parts::LockParts;
-use crate::report::{Ending, Pushed, Report, ending_at, left_ending, refutation, report_with};
-use crate::subframe::{
+use crate::begun_subframe::{
     PREAMBLE_CELLS, are_subframes, candidate_in, completed, eight_completed, first_cell, first_of,
     last_behind, last_cell, last_octet, last_of, rest_of, with_cell,
 };
+use crate::candidate::Candidate;
+use crate::parts::LockParts;
+use crate::report::{Ending, Pushed, Report, ending_at, left_ending, refutation, report_with};
 use aes3_frame::{BLOCK_CELLS, GatheredCells, SUBFRAMES};
 use aes3_level::{Cells, Level};
 use aes3_slot::{SUBFRAME_CELLS, begins_subframe, block_preambles, mark_of, wrong_cells};

@@ -6,10 +6,10 @@ ghost use Rattle.aes3_lock.specs.Candidates.{front};
 ghost use Rattle.aes3_lock.specs.Reports.{outcome_at, reports, told};
 ghost use Rattle.aes3_lock.specs.Following.{Filled};
 
+use crate::begun_subframe::{PREAMBLE_CELLS, candidate_in, with_cell, with_next};
 use crate::candidate::Candidate;
 use crate::report::{Report, ending_at, left_ending, report_with};
 use crate::rule::may_stand;
-use crate::subframe::{PREAMBLE_CELLS, candidate_in, with_cell, with_next};
 use aes3_frame::{BLOCK_CELLS, GatheredCells, SUBFRAMES};
 use aes3_level::Level;
 use aes3_slot::SUBFRAME_CELLS;

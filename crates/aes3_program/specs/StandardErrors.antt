@@ -4,10 +4,10 @@ use Rattle.std.specs.Prelude.{ℕ, [], Bool, true, false, Result, Ok, Err, IsFal
 use Rattle.aes3_cell.specs.Ends.{Grew}
 use Rattle.aes3_cli_jobs.specs.declared.refusal.Refusal.{Refusal}
 use Rattle.aes3_input.specs.Running.{Movement, Quiet}
-use Rattle.aes3_cli_arguments.specs.declared.job.LineFault.{LineFault}
-use Rattle.aes3_cli_arguments.specs.declared.job.LineFault.TheVariants.{Usage, Help, Refused}
-use Rattle.aes3_cli_arguments.specs.declared.line.CommandLine.{CommandLine}
-use Rattle.aes3_status_text.specs.declared.typed.TypedSettings.{TypedSettings}
+use Rattle.aes3_cli_arguments.specs.declared.command_job.LineFault.{LineFault}
+use Rattle.aes3_cli_arguments.specs.declared.command_job.LineFault.TheVariants.{Usage, Help, Refused}
+use Rattle.aes3_cli_arguments.specs.declared.command_line.CommandLine.{CommandLine}
+use Rattle.aes3_status_text.specs.declared.typed_settings.TypedSettings.{TypedSettings}
 use Rattle.aes3_cli_jobs.specs.declared.job.Job.{Job}
 use Rattle.aes3_cli_jobs.specs.declared.job.Job.TheVariants.{Encode, Stream, Read, FromPcm, FromWav}
 use Rattle.aes3_cli_jobs.specs.declared.work.ReadWork.{ReadWork}

@@ -9,7 +9,7 @@ mod line_run;
 /// The result of a job that read its input to the end.
 mod outcome;
 /// The line of an error.
-mod refusal;
+mod refusal_line;
 /// The remarks on a job that read its input to the end.
 mod remark;
 
@@ -18,4 +18,4 @@ pub use aes3_status_text::TypedSettings;
 pub use job_run::{FAULTY, finish_job, run_job};
 pub use line_run::{Ran, outputs_can_be_reversed, run_line, run_octets, tell_unread};
 pub use outcome::{Met, Outcome, Remark};
-pub use refusal::{put_refusal, refuse};
+pub use refusal_line::{put_refusal, refuse};

@@ -14,7 +14,7 @@ ghost use Rattle.aes3_program.specs.WordRuns.{FaultRan, IsLineOfWords, LineRan, 
 ghost use Rattle.aes3_program.specs.WordRuns.{WordsRan};
 
 use crate::job_run::{finish_begun, finish_job, refuse_unread};
-use crate::refusal::refuse;
+use crate::refusal_line::refuse;
 use aes3_cell::{RunError, Sink, Source};
 use aes3_cell_octets::{RawSource, ReversedSink, ReversedSource, first_octet};
 use aes3_cli::{DONE, USAGE, Unread, put_text};

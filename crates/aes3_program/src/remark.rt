@@ -13,7 +13,7 @@ ghost use Rattle.aes3_program.specs.Streams.{PassesOn, moved};
 
 use crate::job_run::exit_status;
 use crate::outcome::{Met, Outcome, Remark, UnsaidFormat};
-use crate::refusal::{put_refusal, refuse};
+use crate::refusal_line::{put_refusal, refuse};
 use aes3_cell::{Fault, RunError, Sink, write_all};
 use aes3_cli_jobs::{Job, Observer, Refusal};
 use aes3_status::{Settings, Taken};

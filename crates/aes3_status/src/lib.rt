@@ -25,7 +25,7 @@ mod taken;
 /// Whether a status takes all settings.
 mod taking_all;
 /// The fields for professional use that have four bytes.
-mod wide;
+mod wide_field;
 
 pub use change::Change;
 pub use check::{Check, check_byte, check_state, with_check};
@@ -37,4 +37,4 @@ pub use setting::{SETTINGS, Setting, Settings, set_fields};
 pub use status::Status;
 pub use taken::{Kinds, TELLING_BITS, Taken};
 pub use taking_all::takes_all;
-pub use wide::{WideField, WideSettings};
+pub use wide_field::{WideField, WideSettings};

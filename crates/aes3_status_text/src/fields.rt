@@ -9,9 +9,9 @@ ghost use Rattle.aes3_status_text.specs.Words.{are_within, rows_of, word_for, wo
 ghost use Rattle.aes3_status_text.specs.Fields.{field_text, four_bits, shown, specified};
 ghost use Rattle.aes3_status_text.specs.StatusTexts.{status_text};
 
-use crate::consumer::put_consumer;
+use crate::consumer_fields::put_consumer;
 use crate::line::{LINE_LEN, Line};
-use crate::professional::put_professional;
+use crate::professional_fields::put_professional;
 use aes3_status::{Status, check_state};
 
 /// How many bytes the name of a field has at most.

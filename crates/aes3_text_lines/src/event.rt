@@ -10,7 +10,7 @@ ghost use Rattle.aes3_text_lines.specs.Events.{seconds, time_field, word_field};
 ghost use Rattle.aes3_text_lines.specs.MarkLines.{level_digit};
 ghost use Rattle.aes3_text_lines.specs.StatusLines.{channel_digit};
 
-use crate::status::channel_digit as channel_number;
+use crate::status_line::channel_digit as channel_number;
 use crate::tail::digit_of;
 use aes3_cell::{Fault, Level, Sink};
 use aes3_frame::Channel;

@@ -1,7 +1,7 @@
 -- A reader that follows a header, in pieces of any size.
 use Rattle.std.specs.Prelude.{ℕ, true, false, List, [], ◌∷◌, ◌++◌, ◌+◌, ◌-◌, ◌≡◌, ◌<◌, ◌≤◌, ◌^◌, drop, length, take}
 use Rattle.std.specs.Prelude.{Option, Some, None, Result, Ok, Err, if◌then◌else◌, nat_lt}
-use Rattle.aes3_wave.specs.declared.error.HeaderError.{HeaderError}
+use Rattle.aes3_wave.specs.declared.header_error.HeaderError.{HeaderError}
 use Rattle.aes3_wave.specs.declared.chunk.Known.{Known}
 use Rattle.aes3_wave.specs.declared.chunk.WaveHeader.{WaveHeader}
 use Rattle.aes3_wave.specs.declared.chunk.Step.{Step}

@@ -9,7 +9,7 @@ ghost use Rattle.aes3_wave.specs.Frames.{known_len, step_len, stage_len};
 ghost use Rattle.aes3_wave.specs.Headers.{judged, judged_at_end};
 
 use crate::chunk::{FIRST_LEN, HEAD_LEN, Known, MOST_HEAD, Step, WaveHeader, chunk_len, is_data};
-use crate::error::{Cause, HeaderError};
+use crate::header_error::{Cause, HeaderError};
 
 /// The part of a header that the next octet is in.
 #[derive(Clone, Copy)]

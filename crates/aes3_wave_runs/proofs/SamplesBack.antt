@@ -10,7 +10,7 @@ use Rattle.std.proofs.lemmas.List.{drop_at, length-append, length-map}
 use Rattle.aes3_frame.specs.Blocks.{IsBlock, block_subframes}
 use Rattle.aes3_frame.specs.Samples.{block_samples, sample_of, samples}
 use Rattle.aes3_frame.proofs.FileLaws.{length-bytes}
-use Rattle.aes3_forms_samples.specs.declared.format.SampleFormat.TheVariants.{S16, S24}
+use Rattle.aes3_forms_samples.specs.declared.sample_format.SampleFormat.TheVariants.{S16, S24}
 use Rattle.aes3_forms_samples.specs.Formats.{fours, narrow_one, narrowed, widened}
 use Rattle.aes3_status.specs.Consumer as con
 use Rattle.aes3_status.specs.Professional as pro

@@ -6,11 +6,11 @@ use Rattle.aes3_status.specs.Bits.{status_bits}
 use Rattle.aes3_status.specs.Consumer as con
 use Rattle.aes3_status.specs.Professional as pro
 use Rattle.aes3_status.specs.Statuses.{is_professional}
-use Rattle.aes3_wave.specs.declared.format.WaveFormat.{WaveFormat}
-use Rattle.aes3_wave.specs.declared.format.Width.{Width}
-use Rattle.aes3_wave.specs.declared.format.Width.TheVariants.{Bits8, Bits16, Bits20, Bits24, Bits32}
-use Rattle.aes3_wave_runs.specs.declared.status.StatusUse.{StatusUse}
-use Rattle.aes3_wave_runs.specs.declared.status.StatusUse.TheVariants.{Consumer, Professional}
+use Rattle.aes3_wave.specs.declared.wave_format.WaveFormat.{WaveFormat}
+use Rattle.aes3_wave.specs.declared.wave_format.Width.{Width}
+use Rattle.aes3_wave.specs.declared.wave_format.Width.TheVariants.{Bits8, Bits16, Bits20, Bits24, Bits32}
+use Rattle.aes3_wave_runs.specs.declared.status_use.StatusUse.{StatusUse}
+use Rattle.aes3_wave_runs.specs.declared.status_use.StatusUse.TheVariants.{Consumer, Professional}
 
 -- ---- the codes
 

@@ -4,7 +4,7 @@ use Rattle.std.specs.Prelude.{if◌then◌else◌}
 use Rattle.aes3_level.specs.declared.level.Level.{Level}
 use Rattle.aes3_cell.specs.declared.form.Form.{Form}
 use Rattle.aes3_frame.specs.declared.fill.Fill.{Fill}
-use Rattle.aes3_frame.specs.declared.status.Channel.TheVariants.{First}
+use Rattle.aes3_frame.specs.declared.channel.Channel.TheVariants.{First}
 use Rattle.aes3_frame.specs.Samples.{samples}
 use Rattle.aes3_frame.specs.Statuses.{status_of}
 use Rattle.aes3_input.specs.Driving.{over_cells}
@@ -17,8 +17,8 @@ use Rattle.aes3_engine.specs.ExactSamples.{exact_samples, first_unfit}
 use Rattle.aes3_engine.specs.FillRuns.{IsFilled}
 use Rattle.aes3_engine.specs.Filling.{filled, given, placed}
 use Rattle.aes3_engine.specs.ValidSamples.{valid_samples}
-use Rattle.aes3_forms_samples.specs.declared.format.SampleFormat.{SampleFormat}
-use Rattle.aes3_forms_samples.specs.declared.format.SampleFormat.TheVariants.{S16, S24, S32}
+use Rattle.aes3_forms_samples.specs.declared.sample_format.SampleFormat.{SampleFormat}
+use Rattle.aes3_forms_samples.specs.declared.sample_format.SampleFormat.TheVariants.{S16, S24, S32}
 use Rattle.aes3_forms_samples.specs.Formats.{narrowed}
 use Rattle.aes3_lock_runs.specs.BlockRuns.{decided_blocks}
 use Rattle.aes3_lock_runs.specs.ReportRuns.{counts_of}

@@ -7,7 +7,7 @@ ghost use Rattle.std.specs.Option.{ForSome};
 ghost use Rattle.aes3_wave.specs.Formats.{frame_len};
 ghost use Rattle.aes3_wave.specs.Samples.{two_samples};
 ghost use Rattle.aes3_forms_samples.specs.Formats.{block_len, widened};
-ghost use Rattle.aes3_forms_samples.specs.declared.format.SampleFormat.TheVariants.{S32};
+ghost use Rattle.aes3_forms_samples.specs.declared.sample_format.SampleFormat.TheVariants.{S32};
 ghost use Rattle.aes3_status.specs.declared.change.Change.{Change};
 ghost use Rattle.aes3_input.specs.Running.{FrontRan, movement_of};
 ghost use Rattle.aes3_wave_runs.specs.Frames.{IsForm, parts_of};

@@ -8,8 +8,8 @@ ghost use Rattle.aes3_level.specs.Cells.{after, other};
 ghost use Rattle.aes3_capture_recovery.specs.Endings.{level_if};
 
 use crate::distances::{Distances, distances_of, spread_behind};
+use crate::edge_places::{BEGIN, Places};
 use crate::levels::are_same;
-use crate::places::{BEGIN, Places};
 use crate::recovery::{DEAD, Recovery, State};
 use aes3_capture::{PARTS, TRACKED};
 use aes3_cell::{Fault, Sink};
