@@ -14,14 +14,14 @@ mod line_follower;
 mod measure;
 /// A queue of cells for a sink.
 mod queue;
-/// The run from samples to cells.
-mod recover;
 /// Cells recovered from the levels of samples.
 mod recovery;
+/// The run from samples to cells.
+mod recovery_run;
 
 pub use levels::{Edges, Piece, Unit, levels_of};
 pub use line_follower::{LineFollower, LineParts};
 pub use measure::{LONGEST_PERIOD, SHORTEST_PERIOD, follower_of_runs};
 pub use queue::{CellQueue, QueueParts, bits_of_cells, put_last};
-pub use recover::{Progress, Refusal, feed, recover};
 pub use recovery::{Figures, Recovery, RecoveryParts};
+pub use recovery_run::{Progress, Refusal, feed, recover};

@@ -11,10 +11,10 @@ use Rattle.aes3_capture_recovery.specs.Reading.{FailedAt, SamplesRan}
 use Rattle.aes3_capture_recovery.specs.Recovering.{Recovered}
 use Rattle.aes3_capture_recovery.specs.declared.levels.Unit.{Unit}
 use Rattle.aes3_capture_recovery.specs.declared.recovery.Recovery.{Recovery}
-use Rattle.aes3_capture_recovery.specs.declared.recover.Progress.{Progress}
-use Rattle.aes3_capture_recovery.specs.declared.recover.Progress.TheVariants.{Ended, Paused}
-use Rattle.aes3_capture_recovery.specs.declared.recover.Refusal.{Refusal}
-use Rattle.aes3_capture_recovery.specs.declared.recover.Refusal.TheVariants.{Read, Write}
+use Rattle.aes3_capture_recovery.specs.declared.recovery_run.Progress.{Progress}
+use Rattle.aes3_capture_recovery.specs.declared.recovery_run.Progress.TheVariants.{Ended, Paused}
+use Rattle.aes3_capture_recovery.specs.declared.recovery_run.Refusal.{Refusal}
+use Rattle.aes3_capture_recovery.specs.declared.recovery_run.Refusal.TheVariants.{Read, Write}
 use Rattle.aes3_capture_runs.specs.Runs.{AnswerRan, AreCellsOf, EndSaid, IsNothing, IsSaid, IsSaidBefore}
 use Rattle.aes3_capture_runs.specs.Runs.{LinesTold, memory_text, refusal_text, setting_of}
 use Rattle.aes3_capture_runs.specs.Lines.{bit_line, no_line_text}

@@ -14,9 +14,9 @@ use Rattle.aes3_capture_recovery.specs.Taking.{RecoveredAll, WritesLine}
 use Rattle.aes3_capture_recovery.specs.declared.levels.Unit.{Unit}
 use Rattle.aes3_capture_recovery.specs.declared.recovery.Figures.{Figures}
 use Rattle.aes3_capture_recovery.specs.declared.recovery.Recovery.{Recovery}
-use Rattle.aes3_capture_recovery.specs.declared.recover.Progress.{Progress}
-use Rattle.aes3_capture_recovery.specs.declared.recover.Refusal.{Refusal}
-use Rattle.aes3_capture_recovery.specs.declared.recover.Refusal.TheVariants.{Read, Write}
+use Rattle.aes3_capture_recovery.specs.declared.recovery_run.Progress.{Progress}
+use Rattle.aes3_capture_recovery.specs.declared.recovery_run.Refusal.{Refusal}
+use Rattle.aes3_capture_recovery.specs.declared.recovery_run.Refusal.TheVariants.{Read, Write}
 use Rattle.aes3_capture_runs.specs.Lines.{IsFiguresLine, IsFoundText, bit_line, no_line_text}
 use Rattle.aes3_capture_runs.specs.Samples.{unit_of_job}
 use Rattle.aes3_capture_runs.specs.declared.capture_job.Job.{Job}

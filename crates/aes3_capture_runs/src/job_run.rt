@@ -4,7 +4,7 @@ ghost use Rattle.std.specs.Prelude.{◌≡◌, ◌<◌, ◌≤◌, ◌+◌, ◌^
 ghost use Rattle.aes3_cell.specs.Ends.{Grew};
 ghost use Rattle.aes3_input.specs.Running.{movement_of};
 ghost use Rattle.aes3_capture_recovery.specs.Reading.{FailedAt, ReadSamples};
-ghost use Rattle.aes3_capture_recovery.specs.declared.recover.Progress.TheVariants.{Ended};
+ghost use Rattle.aes3_capture_recovery.specs.declared.recovery_run.Progress.TheVariants.{Ended};
 ghost use Rattle.aes3_capture_runs.specs.Lines.{IsFiguresLine, bit_line, bit_text, no_line_text};
 ghost use Rattle.aes3_capture_runs.specs.Runs.{EndSaid, FaultRan, IsNothing, JobRan, LinesTold, UnreadSaid};
 ghost use Rattle.aes3_capture_runs.specs.Runs.{memory_text, refusal_text};

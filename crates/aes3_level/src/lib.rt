@@ -3,11 +3,11 @@
 
 /// Cells of words, taken from the first on.
 mod cells;
-/// Bits of a word.
-mod even_bits;
 /// The two levels of a line.
 mod level;
+/// Bits of a word.
+mod word_bits;
 
 pub use cells::Cells;
-pub use even_bits::even_bits;
 pub use level::Level;
+pub use word_bits::even_bits;

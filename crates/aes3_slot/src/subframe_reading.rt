@@ -12,7 +12,7 @@ ghost use Rattle.aes3_slot.specs.Rules.{at};
 ghost use Rattle.aes3_slot.specs.Fronts.{IsFrontOf, IsLawfulFrontOf, stands, stands_even, with_some_parity};
 
 use crate::mark::{Mark, mark_cells};
-use crate::subframe_cells::SLOT_STARTS;
+use crate::subframe_encoding::SLOT_STARTS;
 use aes3_level::Level;
 use std::simd::prelude::*;
 

@@ -1,6 +1,6 @@
 use Rattle.std.proofs.Common.{◌≡◌, None, Ok}
 use Rattle.aes3_capture_recovery.specs.Reading.{ReadSamples}
-use Rattle.aes3_capture_recovery.specs.declared.recover.Progress.TheVariants.{Paused}
+use Rattle.aes3_capture_recovery.specs.declared.recovery_run.Progress.TheVariants.{Paused}
 use Rattle.aes3_capture_runs.specs.Runs.{LinesTold}
 use Rattle.aes3_capture_runs.proofs.job_run.recover_telling.Given as goal
 
