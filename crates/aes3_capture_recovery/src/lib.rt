@@ -11,7 +11,7 @@ mod levels;
 /// A line followed from an edge on, from the levels of its samples to its cells.
 mod line_follower;
 /// The length of a cell and the position of a line's grid, measured from the samples between edges.
-mod measure;
+mod period;
 /// A queue of cells for a sink.
 mod queue;
 /// Cells recovered from the levels of samples.
@@ -21,7 +21,7 @@ mod recovery_run;
 
 pub use levels::{Edges, Piece, Unit, levels_of};
 pub use line_follower::{LineFollower, LineParts};
-pub use measure::{LONGEST_PERIOD, SHORTEST_PERIOD, follower_of_runs};
+pub use period::{LONGEST_PERIOD, SHORTEST_PERIOD, follower_of_runs};
 pub use queue::{CellQueue, QueueParts, bits_of_cells, put_last};
 pub use recovery::{Figures, Recovery, RecoveryParts};
 pub use recovery_run::{Progress, Refusal, feed, recover};

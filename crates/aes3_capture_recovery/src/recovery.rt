@@ -14,7 +14,7 @@ ghost use Rattle.aes3_capture_recovery.specs.Measuring.{IsAskedFor};
 
 use crate::levels::{Edges, Piece};
 use crate::line_follower::LineFollower;
-use crate::measure::{RUNS, bounds_around, follower_of_runs};
+use crate::period::{RUNS, bounds_around, follower_of_runs};
 use aes3_capture::{Bounds, Follower, PARTS};
 use aes3_cell::{Fault, Form, Sink};
 pub use parts::RecoveryParts;

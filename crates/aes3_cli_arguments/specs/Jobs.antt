@@ -48,8 +48,8 @@ use Rattle.aes3_wave.specs.declared.channels.Mono.{Mono}
 use Rattle.aes3_wave.specs.declared.channels.Mono.TheVariants as mono
 use Rattle.aes3_wave.specs.declared.written.Depth.{Depth}
 use Rattle.aes3_wave.specs.declared.written.Depth.TheVariants.{Sixteen, TwentyFour, ThirtyTwo}
-use Rattle.aes3_forms_words.specs.declared.form.Words.{Words}
-use Rattle.aes3_forms_words.specs.declared.form.Words.TheVariants as word_form
+use Rattle.aes3_forms_words.specs.declared.alsa_am824.Words.{Words}
+use Rattle.aes3_forms_words.specs.declared.alsa_am824.Words.TheVariants as word_form
 use Rattle.aes3_cli.specs.CommandLine.{command_line, most_cells, most_frames, most_seconds}
 use Rattle.aes3_cli.specs.Options.{file_by, output_by}
 use Rattle.aes3_cli.specs.Wording.{EndsWithUsage, usage_end, usage_of}

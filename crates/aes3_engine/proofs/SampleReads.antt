@@ -25,7 +25,7 @@ use Rattle.aes3_input.specs.Converting.{or_else, unless, fault_behind, out_behin
 use Rattle.aes3_input.specs.Running.{Fed, Stopped}
 use Rattle.aes3_input.proofs.Feeding.{front-longer}
 use Rattle.aes3_input.proofs.Outputs.{out-is, behind-clean, fault-clean, fault-first}
-use Rattle.aes3_forms_words.specs.declared.form.Words.{Words}
+use Rattle.aes3_forms_words.specs.declared.alsa_am824.Words.{Words}
 use Rattle.aes3_forms_samples.specs.declared.sample_format.SampleFormat.{SampleFormat}
 use Rattle.aes3_forms_samples.specs.declared.sample_format.SampleFormat.TheVariants.{S32, S24, S24In32, S16}
 use Rattle.aes3_forms_samples.specs.Formats.{asks_exact, block_len, frame_len, sample_len}

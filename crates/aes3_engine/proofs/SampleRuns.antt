@@ -17,7 +17,7 @@ use Rattle.aes3_frame.specs.Blocks.{block_subframes}
 use Rattle.aes3_input.specs.Converting.{or_else, fault_behind, first_fault, whole}
 use Rattle.aes3_input.specs.Running.{CleanEnd, IsFault, converted}
 use Rattle.aes3_input.proofs.InputRuns.{Gives}
-use Rattle.aes3_forms_words.specs.declared.form.Words.{Words}
+use Rattle.aes3_forms_words.specs.declared.alsa_am824.Words.{Words}
 use Rattle.aes3_status.specs.declared.change.Change as change
 use Rattle.aes3_forms_samples.specs.declared.sample_format.SampleFormat.{SampleFormat}
 use Rattle.aes3_forms_samples.specs.Formats.{asks_exact, block_len, frame_len}

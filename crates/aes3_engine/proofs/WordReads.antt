@@ -9,7 +9,7 @@ use Rattle.aes3_cell.specs.declared.form.Form.{Form}
 use Rattle.aes3_cell.specs.declared.run_error.RunError.{RunError}
 use Rattle.aes3_cell.specs.declared.run_error.RunError.TheVariants.{Read, Write, TooLong}
 use Rattle.aes3_cell.proofs.Growing.{grew-none, grew-is, front-is}
-use Rattle.aes3_forms_words.specs.declared.form.Words.{Words}
+use Rattle.aes3_forms_words.specs.declared.alsa_am824.Words.{Words}
 use Rattle.aes3_forms_words.specs.Lists.{own_of}
 use Rattle.aes3_forms_words.specs.Forms.{is_within}
 use Rattle.aes3_forms_words.specs.Reading.{AreAhead, is_left_out, read_more, read_whole}

@@ -14,8 +14,8 @@ use Rattle.aes3_cell.specs.declared.run_error.RunError.TheVariants.{TooLong, Mem
 use Rattle.aes3_cell.specs.declared.run_error.RunError.TheVariants.{SoundHeader, Inexact}
 use Rattle.aes3_cell.specs.Written.{bytes_of, ending, written}
 use Rattle.aes3_level.specs.declared.level.Level.TheVariants.{Low}
-use Rattle.aes3_forms_words.specs.declared.form.Words.{Words}
-use Rattle.aes3_forms_words.specs.declared.form.Words.TheVariants.{Own}
+use Rattle.aes3_forms_words.specs.declared.alsa_am824.Words.{Words}
+use Rattle.aes3_forms_words.specs.declared.alsa_am824.Words.TheVariants.{Own}
 use Rattle.aes3_forms_words.specs.Forms.{is_within, own_word}
 use Rattle.aes3_forms_words.specs.Lists.{from_block, most_left_out, own_of}
 use Rattle.aes3_forms_words.specs.Reading.{read_whole, whole_of}

@@ -5,8 +5,8 @@ use Rattle.std.proofs.Common.{refl, sym, ap, ◌∙◌, arith, subst, IfOk, Resu
 use Rattle.std.specs.List.{flat_map, All}
 use Rattle.std.proofs.lemmas.Grind.{flat_map-append}
 use Rattle.std.proofs.lemmas.List.{length-map, map-append}
-use Rattle.aes3_forms_words.specs.declared.form.Words.{Words}
-use Rattle.aes3_forms_words.specs.declared.form.Words.TheVariants.{Own, Alsa, Am824}
+use Rattle.aes3_forms_words.specs.declared.alsa_am824.Words.{Words}
+use Rattle.aes3_forms_words.specs.declared.alsa_am824.Words.TheVariants.{Own, Alsa, Am824}
 use Rattle.aes3_forms_words.specs.Forms.{written_word}
 use Rattle.aes3_forms_words.specs.Lists.{each_word, next, own_of, written_of}
 use Rattle.aes3_forms_words.proofs.EachWord.{each-append}

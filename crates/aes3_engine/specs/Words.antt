@@ -10,8 +10,8 @@ use Rattle.aes3_cell.specs.declared.run_error.RunError.TheVariants.{BadCell, Bad
 use Rattle.aes3_cell.specs.declared.run_error.RunError.TheVariants.{TooLong, Memory, BadStatusText, BadPadding, BadSample}
 use Rattle.aes3_cell.specs.declared.run_error.RunError.TheVariants.{SoundHeader, Inexact}
 use Rattle.aes3_cell.specs.Written.{written}
-use Rattle.aes3_forms_words.specs.declared.form.Words.{Words}
-use Rattle.aes3_forms_words.specs.declared.form.Words.TheVariants.{Own, Alsa, Am824}
+use Rattle.aes3_forms_words.specs.declared.alsa_am824.Words.{Words}
+use Rattle.aes3_forms_words.specs.declared.alsa_am824.Words.TheVariants.{Own, Alsa, Am824}
 use Rattle.aes3_forms_words.specs.Lists.{from_block, most_left_out, own_of, written_of}
 use Rattle.aes3_forms_words.specs.Reading.{AreAhead, read_more, read_whole}
 use Rattle.aes3_frame.specs.Blocks.{stream}

@@ -8,7 +8,7 @@ ghost use Rattle.aes3_level.specs.declared.level.Level.{Level};
 ghost use Rattle.aes3_lock.specs.Reports.{blocks, normal};
 ghost use Rattle.aes3_input.specs.Running.{FrontRan, InputRun, PieceRan, movement_of};
 ghost use Rattle.aes3_frame.specs.Files.{IsBlockFile};
-ghost use Rattle.aes3_forms_words.specs.declared.form.Words.{Words};
+ghost use Rattle.aes3_forms_words.specs.declared.alsa_am824.Words.{Words};
 ghost use Rattle.aes3_forms_words.specs.Lists.{own_of};
 ghost use Rattle.aes3_forms_words.specs.Reading.{is_left_out};
 ghost use Rattle.aes3_engine.specs.Words.{TakesWords, WordRan, encoded_other, told_words, with_left_out};

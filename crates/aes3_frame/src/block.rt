@@ -1,5 +1,5 @@
 //! Blocks, also made of samples in the form of sound programs.
-use aes3_slot::SUBFRAME_CELLS;
+use aes3_slot::{SUBFRAME_CELLS, slot_bits};
 use std::marker::Model;
 
 /// How many frames a block has.
@@ -35,14 +35,16 @@ impl Model for Block {
 }
 
 ghost use Rattle.std.specs.Prelude.{◌≡◌, ◌<◌, ◌+◌, ◌*◌, ℕ, IfErr, IfOk, Some, true, false, get_or};
-ghost use Rattle.std.specs.Prelude.{[], length, map, replicate, slice_get, slice_index_or, slice_set};
+ghost use Rattle.std.specs.Prelude.{[], length, map, replicate, slice_get, slice_index_or, slice_set, take};
 ghost use Rattle.aes3_frame.specs.Blocks.{block_subframes, zero_block};
 ghost use Rattle.aes3_frame.specs.Files.{is_lawful, payload_of, words_of};
 ghost use Rattle.aes3_frame.specs.Subframes.{bits_of};
 ghost use Rattle.aes3_frame.specs.Sampled.{payload_of_sample};
+ghost use Rattle.aes3_slot.specs.ReadWords.{read_word, read_words};
+ghost use Rattle.aes3_slot.specs.Slots.{payload_len};
 
 use crate::file_word::{
-    has_right_code, has_right_parity, payload_of_word, with_bit, word_of_payload,
+    PAYLOAD_LIMIT, has_right_code, has_right_parity, payload_of_word, with_bit, word_of_payload,
 };
 use crate::frame::Frame;
 use crate::subframe::Subframe;
@@ -79,6 +81,14 @@ fn word_of_sample(sample: u32) -> u32
     word_of_payload(sample >> 8)
 }
 
+/// The valid word of the payload that a subframe's 64 cells carry.
+pub(crate) fn word_of_cells(cells: u64) -> u32
+    ensures lawful { is_lawful result ≡ true }
+    ensures payload { payload_of result ≡ take payload_len (read_word cells) }
+{
+    word_of_payload(slot_bits(cells) % PAYLOAD_LIMIT)
+}
+
 impl Block {
     /// The block all of whose bits are 0.
     pub fn zero() -> Block
@@ -100,6 +110,18 @@ impl Block {
             words[subframe] = word_of_sample(sample_at(bytes, subframe));
         }
         Block::of_words(words)
+    }
+
+    /// The block whose payloads these subframes carry, 64 cells each, the earliest in bit 0.
+    /// Preambles and parity bits are ignored.
+    pub fn of_cells(words: &[u64; SUBFRAMES]) -> Block
+        ensures { result ≡ map (take payload_len) (read_words words.now) }
+    {
+        let mut lawful = zero_words();
+        for (subframe, cells) in words.iter().enumerate() {
+            lawful[subframe] = word_of_cells(*cells);
+        }
+        Block::of_words(lawful)
     }
 
     /// A copy of the block.

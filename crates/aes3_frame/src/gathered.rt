@@ -43,7 +43,7 @@ ghost use Rattle.aes3_frame.specs.Files.{is_lawful, payload_of};
 ghost use Rattle.aes3_frame.specs.Gathered.{IsRight, with_first};
 
 use crate::file_word::{payload_of_word, word_of_payload};
-use crate::read_subframes::wrong_parities;
+use crate::parity::wrong_parities;
 
 /// Not zero if a subframe's last cell differs from the level `before`, as it does if its parity is
 /// wrong.

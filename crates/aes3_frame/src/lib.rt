@@ -21,8 +21,8 @@ mod frame;
 mod gathered;
 /// Blocks in which some subframes have a wrong parity bit.
 mod mending;
-/// The words of subframes read from their cells, and how many have odd parity.
-mod read_subframes;
+/// The parity of subframes, and how many of them have a wrong parity bit.
+mod parity;
 /// What a subframe carries.
 mod subframe;
 
@@ -35,5 +35,5 @@ pub use file_word::{PAYLOAD_LIMIT, has_right_code, has_right_parity, payload_of_
 pub use fill::Fill;
 pub use frame::Frame;
 pub use gathered::{GatheredCells, wrong_in};
-pub use read_subframes::wrong_parities;
+pub use parity::wrong_parities;
 pub use subframe::{AUDIO_LIMIT, Subframe};

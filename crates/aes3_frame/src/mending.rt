@@ -6,10 +6,10 @@ ghost use Rattle.aes3_frame.specs.Blocks.{block_subframes};
 ghost use Rattle.aes3_frame.specs.Files.{is_lawful, payload_of};
 ghost use Rattle.aes3_frame.specs.Mending.{mended, mended_behind, mended_payload};
 
-use crate::block::{Block, SUBFRAMES, zero_words};
+use crate::block::{Block, SUBFRAMES, word_of_cells, zero_words};
 use crate::fill::Fill;
 use crate::gathered::GatheredCells;
-use crate::read_subframes::{has_odd_ones, word_of_cells};
+use crate::parity::has_odd_ones;
 
 /// The valid word of a subframe, from its 64 cells. If their parity is wrong, it is filled; `held`
 /// is the word of the subframe before it in its channel.

@@ -29,7 +29,7 @@ use Rattle.aes3_program.specs.declared.outcome.Met.{Met}
 use Rattle.aes3_status.specs.declared.change.Change.{Change}
 use Rattle.aes3_status.specs.declared.setting.Settings.{Settings as GivenSettings}
 use Rattle.aes3_status.specs.declared.taken.Taken.{Taken}
-use Rattle.aes3_forms_words.specs.declared.form.Words.TheVariants.{Own, Alsa, Am824}
+use Rattle.aes3_forms_words.specs.declared.alsa_am824.Words.TheVariants.{Own, Alsa, Am824}
 use Rattle.aes3_engine.specs.RewritingRuns.{taken_of}
 use Rattle.aes3_engine.proofs.WordRuns.{none-left-out}
 use Rattle.std.specs.Option.{is_some, option_map_or}

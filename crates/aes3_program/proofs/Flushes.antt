@@ -22,7 +22,7 @@ use Rattle.aes3_wave_runs.specs.declared.status_use.StatusUse.{StatusUse}
 use Rattle.aes3_wave.specs.declared.channels.Channels.{Channels}
 use Rattle.aes3_wave.specs.declared.channels.Mono.{Mono}
 use Rattle.aes3_status.specs.declared.change.Change.{Change}
-use Rattle.aes3_forms_words.specs.declared.form.Words.{Words}
+use Rattle.aes3_forms_words.specs.declared.alsa_am824.Words.{Words}
 use Rattle.aes3_cell.specs.declared.form.Form.{Form}
 use Rattle.aes3_status_text.specs.declared.style.Style.{Style}
 use Rattle.aes3_status_text.specs.declared.typed_settings.TypedSettings.{TypedSettings}

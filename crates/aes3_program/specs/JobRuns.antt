@@ -42,7 +42,7 @@ use Rattle.aes3_wave_runs.specs.declared.status_use.StatusUse.TheVariants.{Consu
 use Rattle.aes3_status.specs.declared.change.Change.{Change}
 use Rattle.aes3_wave.specs.declared.channels.Channels.{Channels}
 use Rattle.aes3_wave.specs.declared.channels.Mono.{Mono}
-use Rattle.aes3_forms_words.specs.declared.form.Words.{Words}
+use Rattle.aes3_forms_words.specs.declared.alsa_am824.Words.{Words}
 use Rattle.aes3_watch.specs.Sums.{begun_sums, sum_lines}
 use Rattle.aes3_watch.specs.Watching.{begun_watch, watch_counts, watch_lines}
 use Rattle.aes3_info.specs.Infos.{info_counts, info_page, no_page}

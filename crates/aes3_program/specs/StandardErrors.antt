@@ -14,7 +14,7 @@ use Rattle.aes3_cli_jobs.specs.declared.work.ReadWork.{ReadWork}
 use Rattle.aes3_cli_jobs.specs.declared.work.ReadWork.TheVariants.{ToExactPcm, ToFilledPcm, ToWav, ToExactWav, ToFilledWav}
 use Rattle.aes3_cli_jobs.specs.declared.work.StreamWork.{StreamWork}
 use Rattle.aes3_cli_jobs.specs.declared.work.StreamWork.TheVariants.{Normal, Cut, Rewrite}
-use Rattle.aes3_forms_words.specs.declared.form.Words.TheVariants.{Own, Alsa, Am824}
+use Rattle.aes3_forms_words.specs.declared.alsa_am824.Words.TheVariants.{Own, Alsa, Am824}
 use Rattle.aes3_program.specs.declared.outcome.Remark.{Remark}
 use Rattle.aes3_status.specs.declared.change.Change.{Change}
 use Rattle.aes3_program.specs.Lines.{refusal_line, remark_line}

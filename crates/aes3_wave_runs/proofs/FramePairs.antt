@@ -8,7 +8,7 @@ use Rattle.aes3_input.specs.Converting.{fault_behind, or_else, out_behind, unles
 use Rattle.aes3_forms_samples.specs.declared.sample_format.SampleFormat.TheVariants.{S32}
 use Rattle.aes3_forms_samples.specs.Formats.{block_len}
 use Rattle.aes3_status.specs.declared.change.Change.{Change}
-use Rattle.aes3_forms_words.specs.declared.form.Words.{Words}
+use Rattle.aes3_forms_words.specs.declared.alsa_am824.Words.{Words}
 use Rattle.aes3_engine.specs.Sampling.{more_of, sampling}
 use Rattle.aes3_engine.proofs.SampleReads.{made, made-behind, made-short}
 use Rattle.aes3_wave_runs.specs.Through.{PairsAreOne}

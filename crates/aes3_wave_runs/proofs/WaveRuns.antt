@@ -21,7 +21,7 @@ use Rattle.aes3_input.proofs.InputRuns.{Gives}
 use Rattle.aes3_forms_samples.specs.declared.sample_format.SampleFormat.TheVariants.{S32}
 use Rattle.aes3_forms_samples.specs.Formats.{block_len}
 use Rattle.aes3_status.specs.declared.change.Change.{Change}
-use Rattle.aes3_forms_words.specs.declared.form.Words.{Words}
+use Rattle.aes3_forms_words.specs.declared.alsa_am824.Words.{Words}
 use Rattle.aes3_engine.specs.Sampling.{AreSamples, BadSampleAt, IsPcm, IsSound, begun_pcm, pcm_counts, pcm_words}
 use Rattle.aes3_engine.specs.Sampling.{sampled_words, sampling}
 use Rattle.aes3_engine.proofs.SampleReads.{clean-all, end-whole}

@@ -15,7 +15,7 @@ use Rattle.aes3_wave.specs.declared.wave_format.WaveFormat.{WaveFormat}
 use Rattle.aes3_wave.specs.declared.channels.Channels.{Channels}
 use Rattle.aes3_wave.specs.Formats.{frame_len}
 use Rattle.aes3_wave.specs.Samples.{samples_of, two_samples}
-use Rattle.aes3_forms_words.specs.declared.form.Words.{Words}
+use Rattle.aes3_forms_words.specs.declared.alsa_am824.Words.{Words}
 use Rattle.aes3_wave_runs.specs.Frames.{frame_samples, left_over, parts_of}
 use Rattle.aes3_wave_runs.specs.Through.{PairsAreOne, through}
 
