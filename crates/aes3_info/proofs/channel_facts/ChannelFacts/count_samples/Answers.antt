@@ -3,7 +3,7 @@ use Rattle.aes3_frame.specs.Files.{payload_of}
 use Rattle.aes3_info.specs.Facts.{magnitudes, more_energy, square}
 use Rattle.aes3_info.proofs.Magnitudes.{energy-all, energy-more, energy-none, greatest-all, greatest-more}
 use Rattle.aes3_info.proofs.Magnitudes.{length-magnitudes}
-use Rattle.aes3_info.proofs.channel.ChannelFacts.count_samples.Goals as goal
+use Rattle.aes3_info.proofs.channel_facts.ChannelFacts.count_samples.Goals as goal
 
 pub loop-i-init : goal.loop-i-init
 loop-i-init c = record {

@@ -2,7 +2,7 @@ use Rattle.std.proofs.Common.{◌≡◌, map, max, take}
 use Rattle.std.specs.List.{sum_by}
 use Rattle.aes3_frame.specs.Files.{payload_of}
 use Rattle.aes3_info.specs.Facts.{greatest, magnitudes, more_energy, square}
-use Rattle.aes3_info.proofs.channel.ChannelFacts.count_samples.Given as goal
+use Rattle.aes3_info.proofs.channel_facts.ChannelFacts.count_samples.Given as goal
 
 abbrev pub invariant-loop-i : goal.invariant-loop-i
 invariant-loop-i l = record {
