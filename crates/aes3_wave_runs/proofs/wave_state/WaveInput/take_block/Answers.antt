@@ -1,7 +1,7 @@
 use Rattle.std.proofs.Common.{◌∙◌, sym, ap, arith, length}
 use Rattle.std.proofs.lemmas.List.{length-take-le, take_all}
 use Rattle.aes3_wave_runs.proofs.WrittenFrames.{first-frames, frame-most}
-use Rattle.aes3_wave_runs.proofs.wave_input.WaveInput.take_block.Goals as goal
+use Rattle.aes3_wave_runs.proofs.wave_state.WaveInput.take_block.Goals as goal
 
 pub take_widened-requires-clause-block : goal.take_widened-requires-clause-block
 take_widened-requires-clause-block g c =

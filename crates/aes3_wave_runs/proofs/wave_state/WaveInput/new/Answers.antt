@@ -4,7 +4,7 @@ use Rattle.aes3_wave_runs.specs.States.{samples_state}
 use Rattle.aes3_wave_runs.specs.Through.{PairsAreOne}
 use Rattle.aes3_wave_runs.proofs.FramePairs.{pairs-are-one}
 use Rattle.aes3_wave_runs.proofs.FrameSteps.{frames-start}
-use Rattle.aes3_wave_runs.proofs.wave_input.WaveInput.new.Goals as goal
+use Rattle.aes3_wave_runs.proofs.wave_state.WaveInput.new.Goals as goal
 
 pub returns-clause-start : goal.returns-clause-start
 returns-clause-start c = λ change.

@@ -5,7 +5,7 @@ use Rattle.std.proofs.lemmas.Slice.{take-put_mid}
 use Rattle.aes3_wave_runs.specs.States.{samples_state}
 use Rattle.aes3_wave_runs.specs.Wave.{frames_state}
 use Rattle.aes3_wave_runs.proofs.FrameSteps.{frames-following, last-fed, last-refused, part-fed}
-use Rattle.aes3_wave_runs.proofs.wave_input.WaveInput.take_part.Goals as goal
+use Rattle.aes3_wave_runs.proofs.wave_state.WaveInput.take_part.Goals as goal
 
 pub returns-then-at-count : goal.returns-then-at-count
 returns-then-at-count g c =

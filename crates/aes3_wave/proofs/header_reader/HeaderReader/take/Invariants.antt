@@ -1,6 +1,6 @@
 use Rattle.std.proofs.Common.{length, ◌-◌, ◌≡◌, ◌≤◌, ◌+◌, ◌++◌, List, ℕ, take}
 use Rattle.aes3_wave.specs.Following.{Follows}
-use Rattle.aes3_wave.proofs.reader.HeaderReader.take.Given as goal
+use Rattle.aes3_wave.proofs.header_reader.HeaderReader.take.Given as goal
 
 abbrev pub invariant-loop-at : goal.invariant-loop-at
 invariant-loop-at l = record {

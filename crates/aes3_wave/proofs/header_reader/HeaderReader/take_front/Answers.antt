@@ -1,7 +1,7 @@
 use Rattle.std.proofs.Common.{take, arith}
 use Rattle.std.proofs.lemmas.Result.{err_from_is_err_and}
 use Rattle.aes3_wave.proofs.Following.{front-left, front-refused, take-one}
-use Rattle.aes3_wave.proofs.reader.HeaderReader.take_front.Goals as goal
+use Rattle.aes3_wave.proofs.header_reader.HeaderReader.take_front.Goals as goal
 
 pub returns-in_err-take_octet-clause-took : goal.returns-in_err-take_octet-clause-took
 returns-in_err-take_octet-clause-took c =

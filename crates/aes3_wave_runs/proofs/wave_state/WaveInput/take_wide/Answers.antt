@@ -2,7 +2,7 @@ use Rattle.std.proofs.Common.{◌≡◌, ◌*◌, ◌/◌, length, ap, arith}
 use Rattle.aes3_wave.specs.Formats.{frame_len}
 use Rattle.aes3_wave_runs.proofs.FrameSteps.{div-some, whole-fits}
 use Rattle.aes3_wave_runs.proofs.WrittenFrames.{wide-frames}
-use Rattle.aes3_wave_runs.proofs.wave_input.WaveInput.take_wide.Goals as goal
+use Rattle.aes3_wave_runs.proofs.wave_state.WaveInput.take_wide.Goals as goal
 
 pub take_pairs-requires-clause-some : goal.take_pairs-requires-clause-some
 take_pairs-requires-clause-some g c =

@@ -1,10 +1,10 @@
 use Rattle.std.proofs.Common.{◌≡◌, ◌+◌, ◌-◌, ◌++◌, [], ◌∷◌, Ok, sym, subst, take, length, set, arith}
 use Rattle.std.proofs.lemmas.List.{length-take-le, take_more_set, length-set}
 use Rattle.std.proofs.lemmas.Result.{err_from_is_err_and}
-use Rattle.aes3_wave.specs.declared.reader.Stage.TheVariants.{Chunks}
+use Rattle.aes3_wave.specs.declared.header_reader.Stage.TheVariants.{Chunks}
 use Rattle.aes3_wave.specs.Following.{Decided, FollowsAt}
 use Rattle.aes3_wave.proofs.Following.{octet-more, octet-next, octet-refused, octet-whole}
-use Rattle.aes3_wave.proofs.reader.HeaderReader.take_octet.Goals as goal
+use Rattle.aes3_wave.proofs.header_reader.HeaderReader.take_octet.Goals as goal
 
 pub returns-in_err-decide-clause-took : goal.returns-in_err-decide-clause-took
 returns-in_err-decide-clause-took c =

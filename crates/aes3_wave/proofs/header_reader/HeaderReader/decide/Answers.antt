@@ -1,6 +1,6 @@
 use Rattle.std.proofs.Common.{sym, subst}
 use Rattle.aes3_wave.specs.Following.{Decided}
-use Rattle.aes3_wave.proofs.reader.HeaderReader.decide.Goals as goal
+use Rattle.aes3_wave.proofs.header_reader.HeaderReader.decide.Goals as goal
 
 pub returns-in-First-clause-decided : goal.returns-in-First-clause-decided
 returns-in-First-clause-decided c =

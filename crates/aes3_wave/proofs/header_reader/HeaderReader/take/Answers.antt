@@ -3,7 +3,7 @@ use Rattle.std.proofs.lemmas.List.{length-drop, length-take, take_rest}
 use Rattle.std.proofs.lemmas.Result.{err_from_is_err_and}
 use Rattle.aes3_wave.specs.Following.{FollowsAt, IsRefused}
 use Rattle.aes3_wave.proofs.Following.{piece-more, piece-refused}
-use Rattle.aes3_wave.proofs.reader.HeaderReader.take.Goals as goal
+use Rattle.aes3_wave.proofs.header_reader.HeaderReader.take.Goals as goal
 
 pub loop-at-preserved : goal.loop-at-preserved
 loop-at-preserved c =

@@ -1,7 +1,7 @@
 use Rattle.std.proofs.Common.{◌∙◌, ap, take, Ok}
 use Rattle.aes3_wave.specs.Following.{header_of}
 use Rattle.aes3_wave.proofs.Following.{answered}
-use Rattle.aes3_wave.proofs.reader.HeaderReader.header.Goals as goal
+use Rattle.aes3_wave.proofs.header_reader.HeaderReader.header.Goals as goal
 
 pub returns-in-First-clause-judged : goal.returns-in-First-clause-judged
 returns-in-First-clause-judged c =

@@ -6,7 +6,7 @@ use Rattle.aes3_wave_runs.specs.States.{samples_state}
 use Rattle.aes3_wave_runs.specs.Wave.{frames_state}
 use Rattle.aes3_wave_runs.proofs.FrameSteps.{eight, frames-following, whole-fed, whole-refused}
 use Rattle.aes3_wave_runs.proofs.Parts.{length-parts}
-use Rattle.aes3_wave_runs.proofs.wave_input.WaveInput.take_pairs.Goals as goal
+use Rattle.aes3_wave_runs.proofs.wave_state.WaveInput.take_pairs.Goals as goal
 
 pub feed_fronts-requires-clause-following : goal.feed_fronts-requires-clause-following
 feed_fronts-requires-clause-following g c =

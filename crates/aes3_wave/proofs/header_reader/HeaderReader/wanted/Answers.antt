@@ -1,7 +1,7 @@
 use Rattle.std.proofs.Common.{take, arith}
 use Rattle.std.proofs.lemmas.List.{length-take-le}
 use Rattle.aes3_wave.proofs.Following.{chunks-open, chunks-some, first-open, first-some, whole-some}
-use Rattle.aes3_wave.proofs.reader.HeaderReader.wanted.Goals as goal
+use Rattle.aes3_wave.proofs.header_reader.HeaderReader.wanted.Goals as goal
 
 pub returns-in-First-clause-some : goal.returns-in-First-clause-some
 returns-in-First-clause-some c =
