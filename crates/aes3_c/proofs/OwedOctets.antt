@@ -3,7 +3,7 @@ use Rattle.std.proofs.Common.{◌≡◌, ◌≤◌, ◌<◌, ◌+◌, ◌-◌, �
 use Rattle.std.proofs.Common.{refl, sym, ap, ap₂, ◌∙◌, arith, append-nil, append_assoc, length-append}
 use Rattle.std.proofs.Common.{inl, inr}
 use Rattle.std.proofs.lemmas.Bool.{cases_lt}
-use Rattle.std.proofs.lemmas.List.{drop_all, drop_more, drop-drop, drop-set, length-replicate, length-take, length-set, take_more, take_more_set}
+use Rattle.std.proofs.lemmas.List.{drop_all, drop_more, drop-drop, drop-set, length-replicate, length-take, take_more, take_more_set}
 use Rattle.aes3_c.specs.Owed.{owed_in, stretches}
 use Rattle.aes3_c.specs.declared.owed.Aes3Owed.{Aes3Owed}
 

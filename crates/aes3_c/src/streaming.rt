@@ -126,6 +126,7 @@ fn take_in(
         ⊎ ((recovery.old.ended ≢ 0)
         ⊎ TookTooMuch told recovery.old.recovery (levels_of_samples unit (take 2 samples.now))) }
     ensures rest { drop put.new cells.new ≡ drop put.new cells.old }
+    ensures count { recovery.new.put ≡ recovery.old.put }
 {
     let at = put_owed(&mut recovery.owed, cells, 0);
     *put = at;
@@ -155,6 +156,7 @@ fn finish_in(recovery: &mut Aes3Recovery, cells: &mut [u8], put: &mut usize) -> 
     ensures all { IsTrue result → (recovery.new.ended ≢ 0) × (owed_in recovery.new.owed ≡ []) }
     ensures moves { result ≡ false → (put.new ≡ length cells.new) ⊎ EndedTooMuch told recovery.old.recovery }
     ensures rest { drop put.new cells.new ≡ drop put.new cells.old }
+    ensures count { recovery.new.put ≡ recovery.old.put }
 {
     let at = put_owed(&mut recovery.owed, cells, 0);
     *put = at;

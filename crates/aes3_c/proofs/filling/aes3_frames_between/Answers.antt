@@ -1,4 +1,4 @@
-use Rattle.std.proofs.Common.{◌≡◌, ap, arith}
+use Rattle.std.proofs.Common.{ap, arith}
 use Rattle.aes3_engine.specs.Filling.{block_frames, frames_between}
 use Rattle.aes3_c.proofs.filling.aes3_frames_between.Goals as goal
 
