@@ -1,6 +1,6 @@
 //! Where the cells of a capture are among its samples.
 
-ghost use Rattle.std.specs.Prelude.{◌≡◌, ◌+◌, ◌++◌, ◌<◌, ◌≤◌, ◌^◌, ℕ, List, IsTrue, Option, false, length, true};
+ghost use Rattle.std.specs.Prelude.{◌≡◌, ◌+◌, ◌-◌, ◌*◌, ◌/◌, ◌++◌, ◌<◌, ◌≤◌, ◌^◌, ℕ, List, IsTrue, Option, false, length, true};
 ghost use Rattle.aes3_level.specs.declared.level.Level.{Level};
 ghost use Rattle.aes3_capture_recovery.specs.Parts.{recovery_parts};
 ghost use Rattle.aes3_capture_recovery.specs.declared.recovery.Recovery.{Recovery};
@@ -56,16 +56,34 @@ pub extern "C" fn aes3_recovery_mark(recovery: &Aes3Recovery, mark: &mut Aes3Mar
     true
 }
 
+/// The samples between two marks are shared out evenly to this many cells at most.
+const APART: u64 = 1 << 32;
+
+/// `samples * part / cells`, by numbers of 64 bits: a division of 128 bits would be another library's.
+fn share(samples: u64, part: u64, cells: u64) -> u64
+    requires part { part < cells }
+    requires few { cells ≤ 2 ^ 32 }
+    ensures share { result ≡ samples * part / cells }
+    ensures most { result ≤ samples }
+{
+    let whole = samples / cells * part;
+    let rest = samples % cells * part / cells;
+    whole + rest
+}
+
 /// The sample that a cell between two marks begins at: the samples between them are shared out evenly
 /// to the cells. Of a cell before both it is that of the first mark, and of one after both that of the
-/// second.
+/// second. If the marks are more than 2^32 cells apart, it is that of the first.
 #[unsafe(no_mangle)]
 pub extern "C" fn aes3_sample_between(before: &Aes3Mark, after: &Aes3Mark, cell: u64) -> u64
     ensures place { (known : Option ℕ) (levels : List Level) → IsMark known levels (mark_in before.now)
         → IsMark known levels (mark_in after.now) → before.now.cells ≤ cell → cell < after.now.cells
-        → IsPlace known levels cell result }
+        → after.now.cells - before.now.cells ≤ 2 ^ 32 → IsPlace known levels cell result }
     ensures between { before.now.cells ≤ cell → cell < after.now.cells
+        → after.now.cells - before.now.cells ≤ 2 ^ 32
         → result ≡ between (mark_in before.now) (mark_in after.now) cell }
+    ensures far { before.now.cells ≤ cell → cell < after.now.cells
+        → 2 ^ 32 < after.now.cells - before.now.cells → result ≡ before.now.samples }
     ensures early { cell < before.now.cells → result ≡ before.now.samples }
     ensures late { before.now.cells ≤ cell → after.now.cells ≤ cell → result ≡ after.now.samples }
 {
@@ -75,8 +93,10 @@ pub extern "C" fn aes3_sample_between(before: &Aes3Mark, after: &Aes3Mark, cell:
     if cell >= after.cells {
         return after.samples;
     }
-    let samples = u128::from(after.samples.saturating_sub(before.samples));
-    let cells = u128::from(cell - before.cells);
-    let part = samples * cells / u128::from(after.cells - before.cells);
-    before.samples + part as u64
+    let cells = after.cells - before.cells;
+    if cells > APART {
+        return before.samples;
+    }
+    let samples = after.samples.saturating_sub(before.samples);
+    before.samples + share(samples, cell - before.cells, cells)
 }
