@@ -41,6 +41,7 @@
  * - aes3_lock_take_words(): 3,304
  * - aes3_block_of_samples(): 3,096
  * - aes3_wav_write(): 2,104
+ * - aes3_recovery_mark(): 1,752
  * - aes3_block_status(), aes3_block_validity(), aes3_block_user(): 1,592
  * - aes3_block_set_status(), aes3_block_set_validity(), aes3_block_set_user(): 1,592
  * - aes3_encode_block(): 1,576
@@ -1374,15 +1375,15 @@ AES3_SIZE(aes3_mark, 16);
  *
  * @code
  * static aes3_recovery recovery;
- * static uint8_t samples[800], packed[256];
+ * static uint8_t samples[4000], packed[256];
  * aes3_mark before = {0, 0}, after;
  * size_t taken, put;
- * for (int i = 0; i < 800; i++) // an edge after every four samples
+ * for (int i = 0; i < 4000; i++) // an edge after every four samples
  *     samples[i] = i / 4 % 2;
  * aes3_recovery_init(&recovery, 4 * 65536); // four samples a cell
  * assert(!aes3_recovery_mark(&recovery, &after));
- * aes3_recovery_take(&recovery, samples, 400, 1, 0, &taken, packed, sizeof packed, &put);
- * assert(aes3_recovery_mark(&recovery, &after) && after.cells > 90 && after.samples == 4 * after.cells);
+ * aes3_recovery_take(&recovery, samples, sizeof samples, 1, 0, &taken, packed, sizeof packed, &put);
+ * assert(aes3_recovery_mark(&recovery, &after) && after.cells > 700 && after.samples == 4 * after.cells);
  * assert(aes3_sample_between(&before, &after, 50) == 200);
  * @endcode
  */
@@ -1392,9 +1393,10 @@ bool aes3_recovery_mark(const aes3_recovery *recovery, aes3_mark *mark);
  * The sample at which a cell between two marks begins. The samples between the marks are shared out evenly to their cells.
  *
  * @param before  a mark up to the cell
- * @param after  a mark after the cell, of the same recovery
+ * @param after  a mark after the cell, of the same recovery, 2^32 cells after the first at most
  * @param cell  the number of the cell, counted from 0 at the first cell that was recovered
- * @return the number of the sample, counted from 0; before->samples for a cell before both marks, after->samples for one after both
+ * @return the number of the sample, counted from 0; before->samples for a cell before both marks, or if the marks are more than
+ *     2^32 cells apart; after->samples for a cell after both
  *
  * @code
  * static const aes3_mark before = {64, 250}, after = {128, 506};

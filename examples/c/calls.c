@@ -478,7 +478,7 @@ static void marks(void) {
     static const size_t rooms[] = {3, 64, 65536};
     static uint8_t octets[SAMPLES], packed[65536];
     static aes3_recovery recovery;
-    const aes3_mark none = {0, 0}, far = {(uint64_t)1 << 40, UINT64_MAX}, early = {5, 7};
+    const aes3_mark none = {0, 0}, far = {(uint64_t)1 << 32, UINT64_MAX}, early = {5, 7}, farther = {((uint64_t)1 << 32) + 6, UINT64_MAX};
     for (int i = 0; i < SAMPLES; i++)
         octets[i] = (uint8_t)(cells[i / 256 % AES3_BLOCK_WORDS] >> (i / 4 % 64) & 1);
     for (int i = 0; i < 3; i++) {
@@ -505,7 +505,10 @@ static void marks(void) {
         later = none;
         WANT(!aes3_recovery_mark(&recovery, &later) && later.cells == 0);
     }
-    WANT(aes3_sample_between(&none, &far, (uint64_t)1 << 39) == UINT64_MAX / 2 && aes3_sample_between(&none, &far, 0) == 0);
+    WANT(aes3_sample_between(&none, &far, (uint64_t)1 << 31) == UINT64_MAX / 2 && aes3_sample_between(&none, &far, 0) == 0);
+    WANT(aes3_sample_between(&none, &far, far.cells - 1) == UINT64_MAX - ((uint64_t)1 << 32));
+    /* Marks more than 2^32 cells apart. */
+    WANT(aes3_sample_between(&early, &farther, far.cells) == 7 && aes3_sample_between(&early, &farther, farther.cells) == UINT64_MAX);
     WANT(aes3_sample_between(&none, &far, far.cells) == UINT64_MAX && aes3_sample_between(&early, &far, 4) == 7);
     WANT(aes3_sample_between(&far, &early, 6) == UINT64_MAX && aes3_sample_between(&far, &early, far.cells) == 7);
 }

@@ -218,16 +218,16 @@ static void marks(void) {
         unsigned char bytes[sizeof(aes3_mark) + 8];
     } put, due;
     const aes3_mark before = {100, 1000}, after = {300, 5000};
-    const uint64_t cells = 2, samples = 8;
-    uint8_t levels[14], packed[8];
+    const uint64_t cells = 1, samples = 4;
+    uint8_t levels[5], packed[8];
     size_t taken, count;
-    for (int i = 0; i < 14; i++)
+    for (int i = 0; i < 5; i++)
         levels[i] = (uint8_t)(i / 4 % 2);
     memset(&put, 0xAA, sizeof put);
     memset(&due, 0xAA, sizeof due);
     aes3_recovery_init(&recovery, 4 << 16);
     WANT(!aes3_recovery_mark(&recovery, &put.mark) && memcmp(&put, &due, sizeof put) == 0);
-    WANT(aes3_recovery_take(&recovery, levels, 9, 1, 0, &taken, packed, sizeof packed, &count) && count == 0);
+    WANT(aes3_recovery_take(&recovery, levels, 5, 1, 0, &taken, packed, sizeof packed, &count) && count == 0);
     WANT(aes3_recovery_mark(&recovery, &put.mark));
     memcpy(&due.mark.cells, &cells, sizeof cells), memcpy(&due.mark.samples, &samples, sizeof samples);
     WANT(memcmp(&put, &due, sizeof put) == 0);

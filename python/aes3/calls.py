@@ -487,7 +487,7 @@ class Mark(NamedTuple):
 
 
 def sample_between(before: Mark, after: Mark, cell: int) -> int:
-    """The sample at which a cell between two marks of a capture begins. `Mark()` is the mark before the first cell."""
+    """The sample at which a cell between two marks of a capture, at most 2^32 cells apart, begins. `Mark()` is before the first cell."""
     marks = [_Mark(*(_number(it, "a number of a mark", 0, 2**64 - 1) for it in mark)) for mark in (before, after)]
     return _sample_between(c.byref(marks[0]), c.byref(marks[1]), _number(cell, "a cell", 0, 2**64 - 1))
 

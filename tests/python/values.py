@@ -644,7 +644,7 @@ def check_marks():
     for before, after in zip(marks, marks[1:]):
         for cell in {before.cells, after.cells - 1}:
             assert aes3.sample_between(before, after, cell) == 4 * cell
-    assert aes3.sample_between(aes3.Mark(), aes3.Mark(2**40, 2**64 - 1), 2**39) == 2**63 - 1
+    assert aes3.sample_between(aes3.Mark(), aes3.Mark(2**32, 2**64 - 1), 2**31) == 2**63 - 1
     assert aes3.sample_between(aes3.Mark(5, 7), aes3.Mark(8, 9), 4) == 7 and aes3.sample_between((5, 7), (8, 9), 8) == 9
     for wrong in -1, 2**64:
         is_refused(ValueError, aes3.sample_between, aes3.Mark(), aes3.Mark(1, 1), wrong)
