@@ -19,7 +19,8 @@
  * - A cell is half of a time slot, low or high.
  * - A level is 0 for low; 1, and every other number, for high.
  * - A word of cells is a `uint64_t`. The earliest of its 64 cells is in bit 0, 1 for high.
- * - An octet of cells has eight, the first in its highest bit.
+ * - An octet of cells has eight, the first in its highest bit. aes3_reverse_octets() makes such octets of those with the first
+ *   cell in the lowest bit, and the other way round.
  * - A place is the number of a cell, counted from 0 at the lock's first cell.
  * - A block has 384 words, as in a block file: one for each subframe, channel 1 first. Bit n of a word is time slot n: bits 0
  *   to 3 are zero, 4 to 27 the audio sample, 28 V, 29 U, 30 C, and 31 P.
@@ -40,6 +41,7 @@
  * - aes3_lock_take_words(): 3,304
  * - aes3_block_of_samples(): 3,096
  * - aes3_wav_write(): 2,104
+ * - aes3_recovery_mark(): 1,752
  * - aes3_block_status(), aes3_block_validity(), aes3_block_user(): 1,592
  * - aes3_block_set_status(), aes3_block_set_validity(), aes3_block_set_user(): 1,592
  * - aes3_encode_block(): 1,576
@@ -513,6 +515,27 @@ bool aes3_account_passed(aes3_account *account, uint64_t seen, aes3_gap *gap);
  */
 bool aes3_account_end(aes3_account *account, uint64_t seen, aes3_gap *gap);
 
+/**
+ * How many frames are missing between a whole block and the next one.
+ *
+ * `aes3 to-pcm --fill` writes that many frames between the samples of the two blocks. So each block keeps its time, to half a
+ * frame: the frames before it, from the first block on, last as long as the cells before it, 128 cells a frame. For that, each
+ * place is that of a report of #AES3_WHOLE, and the blocks come in their order.
+ *
+ * @param first  place of the first whole block of all
+ * @param before  place of a whole block
+ * @param at  place of the next whole block
+ * @return how many frames; 0 if the next block begins directly after the one before
+ *
+ * @code
+ * assert(aes3_frames_between(100, 100, 100 + 24576) == 0);
+ * assert(aes3_frames_between(100, 100, 100 + 2 * 24576) == 192); // a block is missing
+ * assert(aes3_frames_between(100, 100, 100 + 24576 + 63) == 0); // less than half a frame
+ * assert(aes3_frames_between(100, 100, 100 + 24576 + 64) == 1);
+ * @endcode
+ */
+uint64_t aes3_frames_between(uint64_t first, uint64_t before, uint64_t at);
+
 /** @} */
 
 /**
@@ -904,6 +927,26 @@ void aes3_line_of_word(uint64_t word, uint8_t line[65]);
  * @endcode
  */
 void aes3_octets_of_word(uint64_t word, uint8_t octets[8]);
+
+/**
+ * Reverses the bits of each octet: the lowest becomes the highest.
+ *
+ * The other calls have the first cell of an octet in the highest bit. For octets that have it in the lowest bit
+ * (`--lsb-first`), use this call before those that take octets, and after those that put octets. Leave out the last octet of
+ * packed cells, which is a number.
+ *
+ * @param[in,out] octets  the octets
+ * @param count  how many octets
+ *
+ * @code
+ * uint8_t octets[2] = {0x17, 0x01}; // cells 1 1 1 0 1 0 0 0 and 1 0 0 0 0 0 0 0
+ * aes3_reverse_octets(octets, 2);
+ * assert(octets[0] == 0xE8 && octets[1] == 0x80);
+ * aes3_reverse_octets(octets, 2);
+ * assert(octets[0] == 0x17 && octets[1] == 0x01);
+ * @endcode
+ */
+void aes3_reverse_octets(uint8_t *octets, size_t count);
 
 /** @} */
 
@@ -1305,6 +1348,63 @@ bool aes3_recovery_finish(aes3_recovery *recovery, uint8_t *cells, size_t room, 
  * @endcode
  */
 void aes3_recovery_figures(const aes3_recovery *recovery, aes3_capture *found);
+
+/**
+ * A mark of a capture: its first `cells` cells are those of its first `samples` samples. A mark of no cell and no sample is one
+ * too: before the first cell.
+ */
+typedef struct aes3_mark {
+    uint64_t cells;   /**< how many cells */
+    uint64_t samples; /**< how many samples */
+} aes3_mark;
+AES3_SIZE(aes3_mark, 16);
+
+/**
+ * Puts a mark after the cells that the samples so far decide. No later sample changes it.
+ *
+ * So the sample is found at which a cell begins, for instance that of a report. Keep the marks after some calls of
+ * aes3_recovery_take(), and give the last mark up to the cell and the first one after it to aes3_sample_between(). With 64 octets
+ * of samples a call there is a mark for every run or two of 64 cells, and the sample is that of `aes3-cells --places`.
+ *
+ * Samples that wait for an edge are not in the mark. Cells that wait for room are.
+ *
+ * @param recovery  the recovery
+ * @param[out] mark  the mark
+ * @return true if there is one; else false, and `*mark` is unchanged: no line is found yet, or no sample came, or
+ *     aes3_recovery_finish() took the end
+ *
+ * @code
+ * static aes3_recovery recovery;
+ * static uint8_t samples[4000], packed[256];
+ * aes3_mark before = {0, 0}, after;
+ * size_t taken, put;
+ * for (int i = 0; i < 4000; i++) // an edge after every four samples
+ *     samples[i] = i / 4 % 2;
+ * aes3_recovery_init(&recovery, 4 * 65536); // four samples a cell
+ * assert(!aes3_recovery_mark(&recovery, &after));
+ * aes3_recovery_take(&recovery, samples, sizeof samples, 1, 0, &taken, packed, sizeof packed, &put);
+ * assert(aes3_recovery_mark(&recovery, &after) && after.cells > 700 && after.samples == 4 * after.cells);
+ * assert(aes3_sample_between(&before, &after, 50) == 200);
+ * @endcode
+ */
+bool aes3_recovery_mark(const aes3_recovery *recovery, aes3_mark *mark);
+
+/**
+ * The sample at which a cell between two marks begins. The samples between the marks are shared out evenly to their cells.
+ *
+ * @param before  a mark up to the cell
+ * @param after  a mark after the cell, of the same recovery, 2^32 cells after the first at most
+ * @param cell  the number of the cell, counted from 0 at the first cell that was recovered
+ * @return the number of the sample, counted from 0; before->samples for a cell before both marks, or if the marks are more than
+ *     2^32 cells apart; after->samples for a cell after both
+ *
+ * @code
+ * static const aes3_mark before = {64, 250}, after = {128, 506};
+ * assert(aes3_sample_between(&before, &after, 64) == 250);
+ * assert(aes3_sample_between(&before, &after, 65) == 254);
+ * @endcode
+ */
+uint64_t aes3_sample_between(const aes3_mark *before, const aes3_mark *after, uint64_t cell);
 
 /** @} */
 

@@ -79,6 +79,12 @@ class account {
     }
 };
 
+// How many frames are missing between a whole block and the next one, so that each keeps its time.
+inline uint64_t frames_between(uint64_t first, uint64_t before, uint64_t at) { return aes3_frames_between(first, before, at); }
+
+// Reverses the bits of octets, whose first cell is then in the highest bit if it was in the lowest.
+inline void reverse_octets(span<uint8_t> octets) { aes3_reverse_octets(octets.data, octets.size); }
+
 // How the cells of a line come as octets. raw: eight cells an octet, the first in its highest bit. packed: the same, and one
 // last octet counts the unused cells before it. text: a cell is 0 or 1; line feeds, carriage returns and spaces are skipped.
 enum class form { raw, packed, text };
@@ -287,7 +293,14 @@ class recovery {
         aes3_recovery_figures(&state, &found);
         return found;
     }
+    // Puts the mark after the cells that are decided: false if there is none yet, and after the end.
+    bool mark(aes3_mark &to) const { return aes3_recovery_mark(&state, &to); }
 };
+
+// The sample at which a cell between two marks of a recovery begins.
+inline uint64_t sample_between(const aes3_mark &before, const aes3_mark &after, uint64_t cell) {
+    return aes3_sample_between(&before, &after, cell);
+}
 
 // The header of a WAV file, read of the file's first octets, and the samples of two channels in octets behind it: answers how many frames.
 // And one that is written: answers how many octets.

@@ -472,6 +472,101 @@ static void accounts(void) {
     WANT(!aes3_account_end(&copy, 2 * block + 5, &gap));
 }
 
+/* Where cells are in a capture, with marks after each piece and with much that is owed; and between marks of any numbers. */
+static void marks(void) {
+    enum { CELLS = 2 * AES3_BLOCK_CELLS, SAMPLES = 4 * CELLS };
+    static const size_t rooms[] = {3, 64, 65536};
+    static uint8_t octets[SAMPLES], packed[65536];
+    static aes3_recovery recovery;
+    const aes3_mark none = {0, 0}, far = {(uint64_t)1 << 32, UINT64_MAX}, early = {5, 7}, farther = {((uint64_t)1 << 32) + 6, UINT64_MAX};
+    for (int i = 0; i < SAMPLES; i++)
+        octets[i] = (uint8_t)(cells[i / 256 % AES3_BLOCK_WORDS] >> (i / 4 % 64) & 1);
+    for (int i = 0; i < 3; i++) {
+        aes3_mark mark = {0, 0}, later = {1, 2};
+        size_t at = 0, all = 0, taken, put;
+        int wrong = 0, made = 0;
+        aes3_recovery_init(&recovery, 0);
+        WANT(!aes3_recovery_mark(&recovery, &later) && later.cells == 1 && later.samples == 2);
+        while (at < SAMPLES) {
+            const size_t left = SAMPLES - at < 64 ? SAMPLES - at : 64;
+            aes3_recovery_take(&recovery, octets + at, left, 1, 0, &taken, packed, rooms[i], &put);
+            at += taken, all += put;
+            if (!aes3_recovery_mark(&recovery, &later))
+                continue;
+            made++;
+            wrong |= later.samples > at || later.samples != 4 * later.cells || later.cells < mark.cells || later.cells < 8 * all;
+            for (uint64_t cell = mark.cells; cell < later.cells; cell++)
+                wrong |= aes3_sample_between(&mark, &later, cell) != 4 * cell;
+            mark = later;
+        }
+        WANT(!wrong && made > 1000 && mark.cells > CELLS - 64);
+        while (!aes3_recovery_finish(&recovery, packed, rooms[i], &put)) {
+        }
+        later = none;
+        WANT(!aes3_recovery_mark(&recovery, &later) && later.cells == 0);
+    }
+    WANT(aes3_sample_between(&none, &far, (uint64_t)1 << 31) == UINT64_MAX / 2 && aes3_sample_between(&none, &far, 0) == 0);
+    WANT(aes3_sample_between(&none, &far, far.cells - 1) == UINT64_MAX - ((uint64_t)1 << 32));
+    /* Marks more than 2^32 cells apart. */
+    WANT(aes3_sample_between(&early, &farther, far.cells) == 7 && aes3_sample_between(&early, &farther, farther.cells) == UINT64_MAX);
+    WANT(aes3_sample_between(&none, &far, far.cells) == UINT64_MAX && aes3_sample_between(&early, &far, 4) == 7);
+    WANT(aes3_sample_between(&far, &early, 6) == UINT64_MAX && aes3_sample_between(&far, &early, far.cells) == 7);
+}
+
+/* Frames between whole blocks: a lost block, blocks in a row, and gaps whose halves of a frame are carried on. */
+static void frames(void) {
+    const uint64_t block = AES3_BLOCK_CELLS, most = UINT64_MAX;
+    uint64_t at = 100, all = AES3_BLOCK_CELLS / 128;
+    WANT(aes3_frames_between(7, 7, 7 + block) == 0 && aes3_frames_between(7, 7 + block, 7 + 3 * block) == 192);
+    WANT(aes3_frames_between(7, 7, 7 + block + 63) == 0 && aes3_frames_between(7, 7, 7 + block + 64) == 1);
+    WANT(aes3_frames_between(0, 0, block + 191) == 1 && aes3_frames_between(0, 0, block + 192) == 2);
+    /* After a gap that was rounded up, one is rounded down, so that the blocks keep their time. */
+    for (int i = 0; i < 1000; i++) {
+        const uint64_t next = at + block + 64 + (uint64_t)i % 7;
+        const uint64_t due = (next - 100 + 64) / 128;
+        all += aes3_frames_between(100, at, next);
+        WANT(all == due && 128 * all <= next - 100 + 64 && next - 100 < 128 * all + 64);
+        all += 192;
+        at = next;
+    }
+    /* Any numbers have an answer. */
+    WANT(aes3_frames_between(0, 0, most) == most / 128 + 1 - 192 && aes3_frames_between(0, most, 0) == 0);
+    WANT(aes3_frames_between(most, 0, most) == 0 && aes3_frames_between(0, most, most) == 0);
+}
+
+/* The order of bits in octets of any length, and nothing before or after them. Memory ends at a page that can't be touched. */
+static void reversed(void) {
+    const size_t page = (size_t)sysconf(_SC_PAGESIZE);
+    uint8_t *const memory = (uint8_t *)mmap(NULL, 2 * page, PROT_READ | PROT_WRITE, MAP_PRIVATE | MAP_ANONYMOUS, -1, 0);
+    static uint8_t line[8 * AES3_BLOCK_WORDS], low[8 * AES3_BLOCK_WORDS];
+    uint8_t octets[8];
+    WANT(memory != (uint8_t *)MAP_FAILED && mprotect(memory + page, page, PROT_NONE) == 0);
+    for (size_t count = 0; count <= 300; count++) {
+        uint8_t *const end = memory + page;
+        int wrong = 0;
+        memset(end - 310, 0x5A, 310);
+        for (size_t i = 0; i < count; i++)
+            end[i - count] = (uint8_t)(i + 7 * count);
+        aes3_reverse_octets(end - count, count);
+        for (size_t i = 0; i < count; i++)
+            for (int j = 0; j < 8; j++)
+                wrong |= (end[i - count] >> j & 1) != ((i + 7 * count) >> (7 - j) & 1);
+        WANT(!wrong && end[-1 - (int)count] == 0x5A && end[-310] == 0x5A);
+    }
+    munmap(memory, 2 * page);
+    /* The cells of a block with the first of each octet in the lowest bit are its words, the lowest octet first. */
+    for (int i = 0; i < AES3_BLOCK_WORDS; i++) {
+        aes3_octets_of_word(cells[i], line + 8 * i);
+        for (int j = 0; j < 8; j++)
+            low[8 * i + j] = (uint8_t)(cells[i] >> 8 * j);
+    }
+    aes3_reverse_octets(low, sizeof low);
+    WANT(memcmp(low, line, sizeof line) == 0);
+    aes3_reverse_octets(line, sizeof line);
+    memcpy(octets, line, 8);
+    WANT(octets[0] == 0x17 && octets[0] == (uint8_t)cells[0] && octets[7] == (uint8_t)(cells[0] >> 56));
+}
+
 /* A header of two channels of 16 bits at 48 kHz, of so many octets in its chunk fmt, and what comes behind that. */
 #define HEADER "RIFF\xFF\xFF\xFF\xFFWAVE"
 #define FORMAT "fmt \x10\0\0\0\x01\0\x02\0\x80\xBB\0\0\0\xEE\x02\0\x04\0\x10\0"
@@ -589,8 +684,11 @@ int main(void) {
     octets();
     many_words();
     accounts();
+    frames();
+    reversed();
     captures();
     pieces();
+    marks();
     wav_headers();
     wav_samples();
     if (!failed)

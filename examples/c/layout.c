@@ -210,14 +210,39 @@ static void wavs(void) {
     WANT(memcmp(&put, &due, sizeof put) == 0);
 }
 
+/* A mark, octet by octet, and the sample between two. */
+static void marks(void) {
+    static aes3_recovery recovery;
+    static union {
+        aes3_mark mark;
+        unsigned char bytes[sizeof(aes3_mark) + 8];
+    } put, due;
+    const aes3_mark before = {100, 1000}, after = {300, 5000};
+    const uint64_t cells = 1, samples = 4;
+    uint8_t levels[5], packed[8];
+    size_t taken, count;
+    for (int i = 0; i < 5; i++)
+        levels[i] = (uint8_t)(i / 4 % 2);
+    memset(&put, 0xAA, sizeof put);
+    memset(&due, 0xAA, sizeof due);
+    aes3_recovery_init(&recovery, 4 << 16);
+    WANT(!aes3_recovery_mark(&recovery, &put.mark) && memcmp(&put, &due, sizeof put) == 0);
+    WANT(aes3_recovery_take(&recovery, levels, 5, 1, 0, &taken, packed, sizeof packed, &count) && count == 0);
+    WANT(aes3_recovery_mark(&recovery, &put.mark));
+    memcpy(&due.mark.cells, &cells, sizeof cells), memcpy(&due.mark.samples, &samples, sizeof samples);
+    WANT(memcmp(&put, &due, sizeof put) == 0);
+    WANT(aes3_sample_between(&before, &after, 150) == 2000);
+}
+
 int main(void) {
     WANT(sizeof(aes3_lock) == 3104 && sizeof(aes3_report) == 1560);
     WANT(sizeof(aes3_account) == 16 && sizeof(aes3_gap) == 24);
     WANT(sizeof(aes3_professional) == 32 && sizeof(aes3_consumer) == 33 && sizeof(aes3_capture) == 80);
-    WANT(sizeof(aes3_wav) == 24 && sizeof(aes3_recovery) == 6504);
+    WANT(sizeof(aes3_wav) == 24 && sizeof(aes3_recovery) == 6504 && sizeof(aes3_mark) == 16);
     statuses();
     reports();
     gaps();
+    marks();
     wavs();
     if (!failed)
         puts("each field stands where the header has it");

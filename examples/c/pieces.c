@@ -93,6 +93,7 @@ static void any_numbers(void) {
     for (int round = 0; round < 2000; round++) {
         size_t taken, put;
         aes3_capture found;
+        aes3_mark mark;
         uint8_t *octets = (uint8_t *)recovery;
         for (size_t i = 0; i < sizeof *recovery; i++) {
             x = x * 1664525 + 1013904223;
@@ -100,6 +101,7 @@ static void any_numbers(void) {
         }
         for (int i = 0; i < 4; i++)
             aes3_recovery_take(recovery, samples, len < 300 ? len : 300, unit, bit, &taken, to, 64, &put);
+        aes3_recovery_mark(recovery, &mark);
         aes3_recovery_finish(recovery, to, 64, &put);
         aes3_recovery_figures(recovery, &found);
     }

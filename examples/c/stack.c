@@ -23,6 +23,7 @@ static char text[AES3_STATUS_TEXT];
 static uint64_t cells[AES3_BLOCK_WORDS], line_cells[AES3_BLOCK_WORDS + 1], word;
 static aes3_capture found;
 static aes3_recovery recovery;
+static aes3_mark mark, later;
 static size_t taken, put;
 static aes3_wav wav;
 static uint8_t header[AES3_WAV_OCTETS];
@@ -43,6 +44,7 @@ static void account_init(void) { aes3_account_init(&account); }
 static void account_before(void) { aes3_account_before(&account, &report, &gap); }
 static void account_passed(void) { aes3_account_passed(&account, 100000, &gap); }
 static void account_end(void) { aes3_account_end(&account, 100000, &gap); }
+static void frames_between(void) { word = aes3_frames_between(5, 100000, 200000); }
 static void encode_block(void) { aes3_encode_block(words, 0, cells); }
 static void encode_blocks(void) { aes3_encode_blocks(words, AES3_BLOCK_WORDS, 0, packed, sizeof packed); }
 static void subframes_of_blocks(void) { aes3_subframes_of_blocks(words, AES3_BLOCK_WORDS, AES3_SUBFRAMES_AM824, packed, sizeof packed); }
@@ -61,6 +63,7 @@ static void word_of_text(void) { aes3_word_of_text(line, &word); }
 static void word_of_octets(void) { word = aes3_word_of_octets(status); }
 static void line_of_word(void) { aes3_line_of_word(word, line); }
 static void octets_of_word(void) { aes3_octets_of_word(word, line); }
+static void reverse_octets(void) { aes3_reverse_octets(packed, sizeof packed); }
 static void read_professional(void) { aes3_status_professional(status, &professional); }
 static void read_consumer(void) { aes3_status_consumer(status, &consumer); }
 static void of_professional(void) { aes3_status_of_professional(&professional, status); }
@@ -73,6 +76,8 @@ static void recovery_init(void) { aes3_recovery_init(&recovery, 0); }
 static void recovery_take(void) { aes3_recovery_take(&recovery, line_octets, sizeof line_octets, 1, 0, &taken, packed, sizeof packed, &put); }
 static void recovery_finish(void) { aes3_recovery_finish(&recovery, packed, sizeof packed, &put); }
 static void recovery_figures(void) { aes3_recovery_figures(&recovery, &found); }
+static void recovery_mark(void) { aes3_recovery_mark(&recovery, &later); }
+static void sample_between(void) { word = aes3_sample_between(&mark, &later, 1000); }
 static void version(void) { status[22] = (uint8_t)aes3_version(); }
 static void write_wav(void) { aes3_wav_write(24, 48000, (uint64_t)1 << 32, header); }
 static void read_wav(void) { aes3_wav_read(header, sizeof header, &wav, &word); }
@@ -124,6 +129,7 @@ int main(void) {
     failed |= tell("aes3_account_before", account_before, 256);
     failed |= tell("aes3_account_passed", account_passed, 256);
     failed |= tell("aes3_account_end", account_end, 256);
+    failed |= tell("aes3_frames_between", frames_between, 256);
     for (int i = 0; i < AES3_BLOCK_WORDS; i++)
         aes3_octets_of_word(cells[i], line_octets + 8 * i);
     line_octets[8 * AES3_BLOCK_WORDS] = line_octets[0];
@@ -148,6 +154,7 @@ int main(void) {
     failed |= tell("aes3_word_of_text", word_of_text, 256);
     failed |= tell("aes3_octets_of_word", octets_of_word, 256);
     failed |= tell("aes3_word_of_octets", word_of_octets, 256);
+    failed |= tell("aes3_reverse_octets", reverse_octets, 256);
     failed |= tell("aes3_status_professional", read_professional, 256);
     failed |= tell("aes3_status_consumer", read_consumer, 256);
     failed |= tell("aes3_status_of_professional", of_professional, 256);
@@ -167,6 +174,9 @@ int main(void) {
     failed |= found.edges == 0;
     failed |= tell("aes3_recovery_init", recovery_init, 8192);
     failed |= tell("aes3_recovery_take", recovery_take, 16384);
+    failed |= tell("aes3_recovery_mark", recovery_mark, 8192);
+    failed |= later.cells == 0;
+    failed |= tell("aes3_sample_between", sample_between, 256);
     failed |= tell("aes3_recovery_finish", recovery_finish, 16384);
     failed |= tell("aes3_recovery_figures", recovery_figures, 8192);
     failed |= found.edges == 0 || taken != sizeof line_octets;

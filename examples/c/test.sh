@@ -104,6 +104,9 @@ if [ -x "$recover" ] && command -v python3 >/dev/null; then
         <capture.samples >wide.samples
     "$recover" --packed-out <capture.samples >capture.want 2>/dev/null
     "$recover" --packed-out --unit 2 --bit 11 <wide.samples >wide.want 2>/dev/null
+    # The sample of each report.
+    "$program" check --packed-in capture.want | "$recover" --places capture.samples >capture.places 2>/dev/null
+    "$program" check --packed-in wide.want | "$recover" --unit 2 --bit 11 --places wide.samples >wide.places 2>/dev/null
 else
     echo "left out: captures beside aes3-cells (bin/build aes3_cells_program makes it, and python3 the samples)"
 fi
@@ -144,7 +147,7 @@ build() { # COMPILER FLAGS..
         echo "left out: the checks of addresses and undefined behaviour by $compiler (they do not work here)"
         checks=
     }
-    for example in check gaps encode calls layout user samples capture stream wav recover blocks; do
+    for example in check gaps encode calls layout user samples capture stream places wav recover blocks; do
         "$compiler" "$@" -O2 -Wall -Wextra -pedantic -Werror $checks -I"$here/../../include" \
             -o $example "$here/$example.c" -x none "$library" || {
             differs "$example.c, which $compiler does not compile,"
@@ -208,6 +211,8 @@ WORDS
                 ./stream "$bit" "$unit" $piece $piece <$name.samples >got 2>/dev/null
                 judge "stream by $compiler on $name, $piece octets at once" cmp -s $name.want got
             done
+            ./places "$bit" "$unit" <$name.samples >got 2>/dev/null
+            judge "places by $compiler on $name" cmp -s $name.places got
             [ ! -e pieces ] || judge "pieces by $compiler on $name" eval 'head -c 60000 $name.samples | ./pieces $bit $unit'
         }
     done

@@ -7,7 +7,7 @@ import operator
 import os
 import struct
 import sys
-from typing import TYPE_CHECKING, Any, Callable, Dict, Iterable, List, Optional, Tuple, Union
+from typing import TYPE_CHECKING, Any, Callable, Dict, Iterable, List, NamedTuple, Optional, Tuple, Union
 
 try:
     import numpy
@@ -83,6 +83,10 @@ class _Recovery(c.Structure):
     _fields_ = [("state", c.c_uint64 * 813)]
 
 
+class _Mark(c.Structure):
+    _fields_ = [("cells", c.c_uint64), ("samples", c.c_uint64)]
+
+
 class _Wav(c.Structure):
     _fields_ = [("start", c.c_uint64), ("len", c.c_uint64), ("rate", c.c_uint32), ("channels", c.c_uint16), ("octets", c.c_uint8),
                 ("bits", c.c_uint8)]
@@ -109,6 +113,7 @@ _account_init = _declare("aes3_account_init", None, _at)
 _before = _declare("aes3_account_before", c.c_bool, _at, _at, _at)
 _passed = _declare("aes3_account_passed", c.c_bool, _at, c.c_uint64, _at)
 _end = _declare("aes3_account_end", c.c_bool, _at, c.c_uint64, _at)
+_frames_between = _declare("aes3_frames_between", c.c_uint64, c.c_uint64, c.c_uint64, c.c_uint64)
 _encode_block = _declare("aes3_encode_block", c.c_uint32, _at, c.c_uint8, _at)
 _encode_blocks = _declare("aes3_encode_blocks", c.c_size_t, _at, c.c_size_t, c.c_uint8, _at, c.c_size_t)
 _samples_of_blocks = _declare("aes3_samples_of_blocks", c.c_size_t, _at, c.c_size_t, c.c_uint8, _at, c.c_size_t)
@@ -120,6 +125,7 @@ _bits = {
     for name in ("status", "validity", "user")
     for sets in (False, True)
 }
+_reverse_octets = _declare("aes3_reverse_octets", None, _at, c.c_size_t)
 _check_byte = _declare("aes3_status_check_byte", c.c_uint8, _at)
 _status_set = _declare("aes3_status_set", c.c_uint8, _at, _at, c.c_size_t)
 _status_text = _declare("aes3_status_text", c.c_uint32, _at, _at)
@@ -130,6 +136,8 @@ _recovery_init = _declare("aes3_recovery_init", None, _at, c.c_uint64)
 _recovery_take = _declare("aes3_recovery_take", c.c_bool, _at, _at, c.c_size_t, c.c_uint8, c.c_uint8, _at, _at, c.c_size_t, _at)
 _recovery_finish = _declare("aes3_recovery_finish", c.c_bool, _at, _at, c.c_size_t, _at)
 _recovery_figures = _declare("aes3_recovery_figures", None, _at, _at)
+_recovery_mark = _declare("aes3_recovery_mark", c.c_bool, _at, _at)
+_sample_between = _declare("aes3_sample_between", c.c_uint64, _at, _at, c.c_uint64)
 _wav_read = _declare("aes3_wav_read", c.c_uint8, _at, c.c_size_t, _at, _at)
 _wav_samples = _declare("aes3_wav_samples", c.c_size_t, _at, c.c_uint16, c.c_uint16, _at, c.c_size_t, _at, c.c_size_t)
 _wav_write = _declare("aes3_wav_write", c.c_uint32, c.c_uint8, c.c_uint32, c.c_uint64, _at)
@@ -327,6 +335,18 @@ def _packed(cells: npt.NDArray[numpy.uint8]) -> Tuple[CellWords, Rest]:
     return words, (sum(int(it) << i for i, it in enumerate(cells[whole:])), len(cells) - whole)
 
 
+def reverse_octets(octets: Octets) -> bytes:
+    """The octets with the bits of each reversed: the first cell of eight is then in the highest bit, if it was in the lowest.
+
+    So `decode(reverse_octets(octets), form="raw")` reads raw octets with the first cell in the lowest bit. Of packed cells leave out
+    the last octet: it is a number.
+    """
+    reversed_octets = bytearray(_bytes_in(octets, "octets of cells"))
+    if reversed_octets:
+        _reverse_octets((c.c_char * len(reversed_octets)).from_buffer(reversed_octets), len(reversed_octets))
+    return bytes(reversed_octets)
+
+
 # ---- blocks and status
 
 
@@ -421,6 +441,15 @@ def status_text(status: Octets) -> str:
     return text.raw[1:count].decode("ascii")
 
 
+def frames_between(first: int, before: int, at: int) -> int:
+    """How many frames are missing between a whole block at the cell `before` and the next one, at the cell `at`, if the first is at `first`.
+
+    `aes3 to-pcm --fill` writes that many frames, so that each block keeps its time.
+    """
+    first, before, at = (_number(place, "the place of a block", 0, 2**64 - 1) for place in (first, before, at))
+    return _frames_between(first, before, at)
+
+
 # ---- captures
 
 
@@ -448,6 +477,19 @@ def _line_in(bit: Any, unit: Any, period: Any) -> Tuple[int, int, int]:
 
 def _figures_of(found: _Capture) -> Dict[str, int]:
     return {name: getattr(found, name) for name in FOUND}
+
+
+class Mark(NamedTuple):
+    """The first `cells` cells of a line are those of the first `samples` samples of its capture."""
+
+    cells: int = 0
+    samples: int = 0
+
+
+def sample_between(before: Mark, after: Mark, cell: int) -> int:
+    """The sample at which a cell between two marks of a capture, at most 2^32 cells apart, begins. `Mark()` is before the first cell."""
+    marks = [_Mark(*(_number(it, "a number of a mark", 0, 2**64 - 1) for it in mark)) for mark in (before, after)]
+    return _sample_between(c.byref(marks[0]), c.byref(marks[1]), _number(cell, "a cell", 0, 2**64 - 1))
 
 
 class Recovery:
@@ -504,6 +546,12 @@ class Recovery:
             return bool(is_all)
 
         return _all_put(put_cells)
+
+    @property
+    def mark(self) -> Optional[Mark]:
+        """The mark after the cells that the samples so far decide. Before a line is found and after `finish` there is none."""
+        mark = _Mark()
+        return Mark(mark.cells, mark.samples) if _recovery_mark(c.byref(self._recovery), c.byref(mark)) else None
 
     @property
     def figures(self) -> Dict[str, int]:

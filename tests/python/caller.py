@@ -75,6 +75,10 @@ def main() -> None:
     cells_so_far: bytes = recovery.take(array.array("B", [4, 0, 4])) + recovery.take(bytearray(97))
     cells_so_far += recovery.finish()
     so_far: Dict[str, int] = recovery.figures
+    mark = recovery.mark
+    sample: int = aes3.sample_between(aes3.Mark(), aes3.Mark(cells=8, samples=20), 2) + aes3.frames_between(0, 0, 24576)
+    turned: bytes = aes3.reverse_octets(bytearray(b"\x17"))
+    assert mark is None and sample == 5 and turned == b"\xe8"
     assert so_far["samples"] == 100 and len(cells_so_far) < 100
     version: str = aes3.__version__
     assert text.startswith("consumer ") and 0 <= check < 256 and figures[1]["cells"] == 0 and version == aes3.library_version()

@@ -628,6 +628,50 @@ def named(it):
 """
 
 
+def check_marks():
+    """The sample of each cell, by marks after pieces of a capture without jitter."""
+    line = line_of(frames_of(192))
+    recovery, marks = aes3.Recovery(bit=3), [aes3.Mark()]
+    capture = bytes((it >> i & 1) << 3 for it in 2 * line for i in range(7, -1, -1) for _ in range(4))
+    assert recovery.mark is None
+    for at in range(0, len(capture), 640):
+        recovery.take(capture[at : at + 640])
+        if recovery.mark:
+            assert recovery.mark.samples <= at + 640
+            marks.append(recovery.mark)
+    recovery.finish()
+    assert recovery.mark is None and len(marks) > 200 and marks[-1].cells > 2 * 24576 - 64
+    for before, after in zip(marks, marks[1:]):
+        for cell in {before.cells, after.cells - 1}:
+            assert aes3.sample_between(before, after, cell) == 4 * cell
+    assert aes3.sample_between(aes3.Mark(), aes3.Mark(2**32, 2**64 - 1), 2**31) == 2**63 - 1
+    assert aes3.sample_between(aes3.Mark(5, 7), aes3.Mark(8, 9), 4) == 7 and aes3.sample_between((5, 7), (8, 9), 8) == 9
+    for wrong in -1, 2**64:
+        is_refused(ValueError, aes3.sample_between, aes3.Mark(), aes3.Mark(1, 1), wrong)
+        is_refused(ValueError, aes3.sample_between, aes3.Mark(), aes3.Mark(1, wrong), 0)
+    is_refused(TypeError, aes3.sample_between, aes3.Mark(), None, 0)
+
+
+def check_other_octets():
+    """Octets with the first cell in the lowest bit, and frames that are missing."""
+    line = line_of(frames_of(192))
+    every = bytes(range(256))
+    want = bytes(int(f"{it:08b}"[::-1], 2) for it in every)
+    for given in every, bytearray(every), memoryview(every), array.array("B", every), list(every):
+        assert aes3.reverse_octets(given) == want and bytes(given) == every
+    for count in 0, 1, 7, 8, 9, 63, 64, 65:
+        assert aes3.reverse_octets(every[:count]) == want[:count]
+    low = aes3.reverse_octets(line)
+    assert low[0] == 0x17 and aes3.reverse_octets(low) == line
+    assert samples_of(aes3.decode(aes3.reverse_octets(low), form="raw")) == frames_of(192)
+    for wrong in "", 7, None, [256], [-1]:
+        assert refusal(aes3.reverse_octets, wrong) in (TypeError, ValueError)
+    assert aes3.frames_between(100, 100, 100 + 24576) == 0 and aes3.frames_between(100, 100, 100 + 2 * 24576) == 192
+    assert aes3.frames_between(0, 24576 + 64, 2 * 24576 + 128) == 0 and aes3.frames_between(0, 0, 2**64 - 1) == 2**57 - 192
+    is_refused(ValueError, aes3.frames_between, -1, 0, 0)
+    is_refused(TypeError, aes3.frames_between, 0, 0.5, 0)
+
+
 def check_match():
     if sys.version_info < (3, 10):
         return

@@ -1,9 +1,9 @@
 -- Octets as stretches of equal ones.
 use Rattle.std.proofs.Common.{◌≡◌, ◌≤◌, ◌<◌, ◌+◌, ◌-◌, ℕ, suc, zero, List, [], ◌++◌, ◌∷◌, drop, get_or, length, replicate, set, take}
-use Rattle.std.proofs.Common.{refl, sym, ap, ap₂, ◌∙◌, arith, append-nil, append_assoc}
+use Rattle.std.proofs.Common.{refl, sym, ap, ap₂, ◌∙◌, arith, append-nil, append_assoc, length-append}
 use Rattle.std.proofs.Common.{inl, inr}
 use Rattle.std.proofs.lemmas.Bool.{cases_lt}
-use Rattle.std.proofs.lemmas.List.{drop_all, drop_more, drop-drop, drop-set, length-take, length-set, take_more, take_more_set}
+use Rattle.std.proofs.lemmas.List.{drop_all, drop_more, drop-drop, drop-set, length-replicate, length-take, take_more, take_more_set}
 use Rattle.aes3_c.specs.Owed.{owed_in, stretches}
 use Rattle.aes3_c.specs.declared.owed.Aes3Owed.{Aes3Owed}
 
@@ -119,3 +119,15 @@ drop-further n m xs ys least same =
     let sum : n + (m - n) ≡ m = omega (arith, least) in
     ap (λ k. drop k xs) (sym sum) ∙ sym (drop-drop (m - n) n xs) ∙ ap (drop (m - n)) same ∙ drop-drop (m - n) n ys
     ∙ ap (λ k. drop k ys) sum
+
+-- how many octets the first stretch has, and those behind it
+pub owed-count : (octets counts : List ℕ) (len first next count : ℕ) → first < len → first < length octets
+    → length counts ≡ length octets → get_or counts first 0 ≡ count → next ≡ first + 1
+    → length (from_stretch first len octets counts) ≡ count + length (from_stretch next len octets counts)
+owed-count octets counts len first next count within inside same long is =
+    let rest : List ℕ = from_stretch (first + 1) len octets counts in
+    ap length (next-stretch octets counts (drop (first + 1) octets) (drop (first + 1) counts) len first (get_or octets first 0) count
+    within (drop_more octets first 0 inside)
+    (drop_more counts first 0 (omega (arith, inside, same)) ∙ ap (λ x. x ∷ drop (first + 1) counts) long))
+    ∙ length-append (replicate count (get_or octets first 0)) rest
+    ∙ ap₂ ◌+◌ (length-replicate count (get_or octets first 0)) (ap (λ k. length (from_stretch k len octets counts)) (sym is))

@@ -13,4 +13,5 @@ pub mod Accounts
 pub mod Wav
 pub mod Owed
 pub mod Streaming
+pub mod Marks
 pub mod Setting

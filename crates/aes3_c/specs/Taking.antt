@@ -1,5 +1,5 @@
 -- What a lock takes of many cells.
-use Rattle.std.specs.Prelude.{ℕ, List, ◌≡◌, ◌≢◌, ◌<◌, ◌≤◌, ◌+◌, ◌-◌, ◌++◌, None, drop, option_map, option_to_list, take}
+use Rattle.std.specs.Prelude.{ℕ, List, ◌≡◌, ◌≢◌, ◌<◌, ◌≤◌, ◌+◌, ◌-◌, ◌++◌, None, option_map, option_to_list, take}
 use Rattle.aes3_level.specs.declared.level.Level.{Level}
 use Rattle.aes3_lock.specs.Following.{Follows, HeldBlock, LockState, report_in}
 use Rattle.aes3_lock.specs.Reports.{decided}

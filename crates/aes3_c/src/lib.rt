@@ -19,10 +19,14 @@ mod capture;
 mod cells;
 /// The fields of consumer channel status.
 mod consumer;
+/// Frames that fill the time between whole blocks.
+mod filling;
 /// Levels as bytes.
 mod level;
 /// The lock, kept by its caller.
 mod lock;
+/// Where the cells of a capture are among its samples.
+mod marks;
 /// Cells in octets, many at once.
 mod octets;
 /// The fields of professional channel status.
@@ -35,6 +39,8 @@ mod owed;
 mod owing;
 /// Reports as plain numbers.
 mod report;
+/// Octets of cells with the first cell in the lowest bit.
+mod reversing;
 /// A sink over memory that is lent.
 mod room;
 /// The samples of blocks.

@@ -55,6 +55,18 @@ pub(crate) fn put_owed(owed: &mut Aes3Owed, cells: &mut [u8], at: usize) -> usiz
     cells.len()
 }
 
+/// How many octets are still to be written.
+pub(crate) fn owed_len(owed: &Aes3Owed) -> u64
+    ensures { result ≡ length (owed_in owed.now) }
+{
+    let len = owed.len.min(STRETCHES as u32);
+    let mut octets = 0;
+    for i in owed.first..len {
+        octets += u64::from(owed.counts[i as usize]);
+    }
+    octets
+}
+
 /// A count of 0 for each stretch.
 fn no_counts() -> [u32; STRETCHES] {
     [0; STRETCHES]

@@ -1,6 +1,6 @@
 //! The cells of a capture that comes in pieces. The caller keeps the recovery between calls.
 
-ghost use Rattle.std.specs.Prelude.{◌≡◌, ◌≢◌, ◌+◌, ◌<◌, ◌≤◌, ◌*◌, ◌++◌, ◌⊎◌, ℕ, List, [], IfNone, IfSome, IsTrue, drop, false, length, take};
+ghost use Rattle.std.specs.Prelude.{◌≡◌, ◌≢◌, ◌+◌, ◌-◌, ◌<◌, ◌≤◌, ◌*◌, ◌^◌, ◌++◌, ◌⊎◌, ℕ, List, [], IfNone, IfSome, IsTrue, drop, false, length, min, take};
 ghost use Rattle.aes3_level.specs.declared.level.Level.{Level};
 ghost use Rattle.aes3_capture_recovery.specs.Levels.{bit_of_line, bits_of_sample, levels_of_samples};
 ghost use Rattle.aes3_capture_recovery.specs.Parts.{recovery_parts};
@@ -126,6 +126,7 @@ fn take_in(
         ⊎ ((recovery.old.ended ≢ 0)
         ⊎ TookTooMuch told recovery.old.recovery (levels_of_samples unit (take 2 samples.now))) }
     ensures rest { drop put.new cells.new ≡ drop put.new cells.old }
+    ensures count { recovery.new.put ≡ recovery.old.put }
 {
     let at = put_owed(&mut recovery.owed, cells, 0);
     *put = at;
@@ -155,6 +156,7 @@ fn finish_in(recovery: &mut Aes3Recovery, cells: &mut [u8], put: &mut usize) -> 
     ensures all { IsTrue result → (recovery.new.ended ≢ 0) × (owed_in recovery.new.owed ≡ []) }
     ensures moves { result ≡ false → (put.new ≡ length cells.new) ⊎ EndedTooMuch told recovery.old.recovery }
     ensures rest { drop put.new cells.new ≡ drop put.new cells.old }
+    ensures count { recovery.new.put ≡ recovery.old.put }
 {
     let at = put_owed(&mut recovery.owed, cells, 0);
     *put = at;
@@ -189,7 +191,8 @@ fn whole_len(unit: Unit, len: usize) -> usize
 /// if `period` is 0.
 #[unsafe(no_mangle)]
 pub extern "C" fn aes3_recovery_init(recovery: &mut Aes3Recovery, period: u64)
-    ensures { IsTaking period [] [] recovery.new }
+    ensures taking { IsTaking period [] [] recovery.new }
+    ensures count { recovery.new.put ≡ 0 }
 {
     recovery.recovery = Recovery::new(Form::Packed, known_of(period)).parts();
     owe_nothing(&mut recovery.owed);
@@ -224,6 +227,7 @@ pub extern "C" fn aes3_recovery_take(
         ⊎ ((few : ℕ) × (few ≤ 2) × TookTooMuch (octets ++ owed_in recovery.old.owed) recovery.old.recovery
         (levels_of_samples (unit_of unit bit) (take few samples.now))))) }
     ensures rest { drop put.new cells.new ≡ drop put.new cells.old }
+    ensures count { recovery.new.put ≡ min (recovery.old.put + put.new) (2 ^ 64 - 1) }
 {
     let unit = unit_of(unit, bit);
     let whole = whole_len(unit, samples.len());
@@ -253,6 +257,7 @@ pub extern "C" fn aes3_recovery_finish(
     ensures moves { result ≡ false → (put.new ≡ length cells.new)
         ⊎ EndedTooMuch (octets ++ owed_in recovery.old.owed) recovery.old.recovery }
     ensures rest { drop put.new cells.new ≡ drop put.new cells.old }
+    ensures count { recovery.new.put ≡ min (recovery.old.put + put.new) (2 ^ 64 - 1) }
 {
     let ended = finish_in(recovery, cells, put);
     recovery.put = recovery.put.saturating_add(*put as u64);

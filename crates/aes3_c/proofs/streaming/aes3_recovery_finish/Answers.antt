@@ -1,4 +1,4 @@
-use Rattle.std.proofs.Common.{◌≡◌, ◌∙◌, ◌++◌, take, arith, inl, inr}
+use Rattle.std.proofs.Common.{◌∙◌, ◌++◌, take, arith, inl, inr}
 use Rattle.aes3_c.specs.Streaming.{IsEnded, IsTaking}
 use Rattle.aes3_c.proofs.Streams.{ended-drained, ends-more, waits-drained}
 use Rattle.aes3_c.proofs.streaming.aes3_recovery_finish.Goals as goal

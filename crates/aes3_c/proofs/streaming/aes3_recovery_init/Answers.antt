@@ -3,8 +3,8 @@ use Rattle.aes3_capture_recovery.proofs.Taking.{took-none}
 use Rattle.aes3_c.specs.Streaming.{TookOctets, told_itself}
 use Rattle.aes3_c.proofs.streaming.aes3_recovery_init.Goals as goal
 
-pub returns : goal.returns
-returns c =
+pub returns-clause-taking : goal.returns-clause-taking
+returns-clause-taking c =
     let known = c.known_of.ensures in
     let first = c.new.result in
     record {
