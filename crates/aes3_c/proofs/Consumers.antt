@@ -8,7 +8,7 @@ use Rattle.aes3_status.specs.Consumer.{accuracy, b3high, greatest, word, origina
 use Rattle.aes3_status.specs.Statuses.{is_professional}
 use Rattle.aes3_status.proofs.BitFields.{field-in_byte}
 use Rattle.aes3_c.specs.Consumer.{ConsumerFits, consumer_bytes, consumer_fields}
-use Rattle.aes3_c.specs.declared.consumer.Aes3Consumer.{Aes3Consumer}
+use Rattle.aes3_c.specs.declared.consumer_calls.Aes3Consumer.{Aes3Consumer}
 use Rattle.aes3_c.proofs.StatusBytes.{cons}
 
 pub bytes-consumer : (f : Aes3Consumer) → is_professional (consumer_bytes f) ≡ false

@@ -8,7 +8,7 @@ use Rattle.aes3_lock.specs.declared.report.Report.{Report}
 use Rattle.aes3_lock_gaps.specs.declared.account.Account.{Account}
 use Rattle.aes3_lock_gaps.specs.Gaps.{Entry, reported}
 use Rattle.aes3_lock_gaps.specs.Told.{Tells, report_with}
-use Rattle.aes3_c.specs.declared.report.Aes3Report.{Aes3Report}
+use Rattle.aes3_c.specs.declared.report_record.Aes3Report.{Aes3Report}
 use Rattle.aes3_c.specs.States.{told_of}
 
 -- the same account, and the same entry

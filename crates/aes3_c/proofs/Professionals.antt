@@ -7,7 +7,7 @@ use Rattle.aes3_status.specs.Professional.{origin, destination, local, time, unr
 use Rattle.aes3_status.specs.Statuses.{is_professional}
 use Rattle.aes3_status.proofs.BitFields.{field-in_byte, four-bytes, take-four}
 use Rattle.aes3_c.specs.Professional.{ProfessionalFits, professional_bytes, professional_fields}
-use Rattle.aes3_c.specs.declared.professional.Aes3Professional.{Aes3Professional}
+use Rattle.aes3_c.specs.declared.professional_calls.Aes3Professional.{Aes3Professional}
 use Rattle.aes3_c.proofs.StatusBytes.{EachSmall, all-items, cons, each-small, from-byte, number-is}
 
 -- what is known of fields by their types

@@ -9,7 +9,7 @@ use Rattle.aes3_lock.specs.declared.report.Report.{Report}
 use Rattle.aes3_lock.specs.declared.report.Report.TheVariants.{Whole, Marked, Fault, Unfinished}
 use Rattle.aes3_c.specs.Codes.{why_of_code}
 use Rattle.aes3_c.specs.States.{Coded, told_of}
-use Rattle.aes3_c.specs.declared.report.Aes3Report.{Aes3Report}
+use Rattle.aes3_c.specs.declared.report_record.Aes3Report.{Aes3Report}
 
 -- what they tell by their kind, where a whole block is this one
 by-kind : List (List Bool) → Aes3Report → ℕ → Option Report

@@ -2,8 +2,8 @@
 use Rattle.std.specs.Prelude.{not, ◌==◌}
 use Rattle.aes3_lock_gaps.specs.declared.account.Account.{Account}
 use Rattle.aes3_lock_gaps.specs.Gaps.{Entry, kind}
-use Rattle.aes3_c.specs.declared.account.Aes3Account.{Aes3Account}
-use Rattle.aes3_c.specs.declared.account.Aes3Gap.{Aes3Gap}
+use Rattle.aes3_c.specs.declared.gap_calls.Aes3Account.{Aes3Account}
+use Rattle.aes3_c.specs.declared.gap_calls.Aes3Gap.{Aes3Gap}
 
 -- the account that these numbers keep
 abbrev pub account_in : Aes3Account → Account

@@ -4,7 +4,7 @@ use Rattle.aes3_status.specs.declared.field.ConField.TheVariants as con
 use Rattle.aes3_status.specs.Consumer.{payload, copyright, emphasis, mode, category, generation, source, number, rate}
 use Rattle.aes3_status.specs.Consumer.{accuracy, b3high, greatest, word, original, rest, con_place}
 use Rattle.aes3_c.specs.Codes.{code_from}
-use Rattle.aes3_c.specs.declared.consumer.Aes3Consumer.{Aes3Consumer}
+use Rattle.aes3_c.specs.declared.consumer_calls.Aes3Consumer.{Aes3Consumer}
 
 abbrev pub consumer_fields : List ℕ → Aes3Consumer
 consumer_fields bytes = record {

@@ -4,7 +4,7 @@ use Rattle.aes3_frame.specs.Files.{low_bytes}
 use Rattle.aes3_status.specs.declared.field.ProField.TheVariants as pro
 use Rattle.aes3_status.specs.Professional.{payload, emphasis, unlocked, rate, mode, user, aux, word, b2high, b3, b4, b5}
 use Rattle.aes3_status.specs.Professional.{origin, destination, local, time, unreliable, b22low, pro_place}
-use Rattle.aes3_c.specs.declared.professional.Aes3Professional.{Aes3Professional}
+use Rattle.aes3_c.specs.declared.professional_calls.Aes3Professional.{Aes3Professional}
 use Rattle.aes3_c.specs.Codes.{code_from, four_bytes}
 
 abbrev pub professional_fields : List ℕ → Aes3Professional

@@ -13,8 +13,8 @@ use Rattle.aes3_lock.specs.Following.{BeginsIn, Follows, LockState}
 use Rattle.aes3_lock.specs.Outcomes.{payloads_of}
 use Rattle.aes3_lock.specs.Reports.{open_at}
 use Rattle.aes3_c.specs.Codes.{why_code, why_of_code}
-use Rattle.aes3_c.specs.declared.lock.Aes3Lock.{Aes3Lock}
-use Rattle.aes3_c.specs.declared.report.Aes3Report.{Aes3Report}
+use Rattle.aes3_c.specs.declared.lock_calls.Aes3Lock.{Aes3Lock}
+use Rattle.aes3_c.specs.declared.report_record.Aes3Report.{Aes3Report}
 
 -- the lock that these numbers keep
 abbrev pub candidate_in : Aes3Lock → Option Candidate

@@ -5,7 +5,7 @@ ghost use Rattle.aes3_frame.specs.Statuses.{status_of, user_of, validity_of};
 ghost use Rattle.aes3_frame.specs.Statuses.{with_status, with_user, with_validity};
 ghost use Rattle.aes3_c.specs.Bits.{PutsBits, SetsBits, bits_of, with_bits_of};
 
-use crate::block::{NO_CHANNEL, channel_of_number, is_channel};
+use crate::block_calls::{NO_CHANNEL, channel_of_number, is_channel};
 use aes3_block::{Block, Channel};
 
 /// Bits that the subframes of a channel carry, one each.

@@ -11,7 +11,7 @@ ghost use Rattle.aes3_c.specs.Blocks.{AreBlocks, IsFirstWrong, blocks_within, fo
 ghost use Rattle.aes3_c.specs.declared.block_form.BlockForm.TheVariants.{Cells};
 
 use crate::block_form::BlockForm;
-use crate::level::level_of_byte;
+use crate::level_byte::level_of_byte;
 use aes3_block::{Block, SUBFRAMES};
 
 /// Puts the block of these words.

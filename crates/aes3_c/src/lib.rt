@@ -3,12 +3,10 @@
 //! calls; `include/aes3.h` is the header.
 #![tactic(auto)]
 
-/// The gaps of the account of all cells.
-mod account;
 /// The validity, user and channel status bits of a block's channel.
 mod bits;
 /// Blocks: their words, bytes and cells.
-mod block;
+mod block_calls;
 /// What is put of a block: its cells, its words or its samples.
 mod block_form;
 /// Many blocks in a call.
@@ -16,41 +14,43 @@ mod blocks;
 /// The cells of captures.
 mod capture;
 /// Words of 64 cells, and their written forms.
-mod cells;
+mod cell_calls;
 /// The fields of consumer channel status.
-mod consumer;
-/// Frames that fill the time between whole blocks.
-mod filling;
+mod consumer_calls;
+/// The gaps of the account of all cells.
+mod gap_calls;
 /// Levels as bytes.
-mod level;
+mod level_byte;
 /// The lock, kept by its caller.
-mod lock;
+mod lock_calls;
 /// Where the cells of a capture are among its samples.
-mod marks;
+mod mark_calls;
+/// Frames that fill the time between whole blocks.
+mod missing_frames;
 /// Cells in octets, many at once.
-mod octets;
-/// The fields of professional channel status.
-mod professional;
-/// From samples to cells.
-mod recovering;
+mod octet_calls;
 /// Octets that found no room yet.
 mod owed;
 /// A sink over memory that is lent, which keeps what finds no room there.
 mod owing;
+/// The fields of professional channel status.
+mod professional_calls;
+/// From samples to cells.
+mod recovering;
 /// Reports as plain numbers.
-mod report;
+mod report_record;
 /// Octets of cells with the first cell in the lowest bit.
-mod reversing;
+mod reversed_octets;
 /// A sink over memory that is lent.
 mod room;
 /// The samples of blocks.
-mod samples;
+mod sample_calls;
 /// The samples of many blocks as sound programs have them.
 mod sample_forms;
 /// Fields of channel status by their names.
-mod setting;
+mod setting_calls;
 /// Channel status: its use and its check byte.
-mod status;
+mod status_calls;
 /// The cells of captures that come in pieces.
 mod streaming;
 /// The words of many blocks as other programs have them.
@@ -66,4 +66,4 @@ mod wav;
 /// The samples of WAV files.
 mod wav_samples;
 /// Cells in words, many at once.
-mod words;
+mod word_calls;

@@ -1,6 +1,0 @@
-use Rattle.std.proofs.Common.{◌≡◌}
-use Rattle.aes3_c.proofs.ReversedBits.{front_reversed}
-use Rattle.aes3_c.proofs.reversing.aes3_reverse_octets.Given as goal
-
-abbrev pub invariant-loop-i : goal.invariant-loop-i
-invariant-loop-i l = l.octets ≡ front_reversed l.i l.fn.octets
