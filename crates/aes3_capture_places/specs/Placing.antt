@@ -1,15 +1,18 @@
 -- Where the cells of a line are in its capture.
-use Rattle.std.specs.Prelude.{ℕ, List, [], ◌++◌, ◌≡◌, ◌<◌, ◌≤◌, ◌+◌, ◌*◌, ◌^◌, ◌⊎◌, true, Option, Some, get_or, length, replicate}
+use Rattle.std.specs.Prelude.{ℕ, List, [], ◌++◌, ◌≡◌, ◌<◌, ◌≤◌, ◌+◌, ◌-◌, ◌*◌, ◌/◌, ◌^◌, ◌⊎◌, true, Option, Some, get_or, length, replicate}
 use Rattle.aes3_level.specs.declared.level.Level.{Level}
 use Rattle.aes3_level.specs.Cells.{after, line, other}
 use Rattle.aes3_cell.specs.declared.form.Form.TheVariants.{Packed}
 use Rattle.aes3_capture.specs.declared.follower.Follower.{Follower}
 use Rattle.aes3_capture.specs.Following.{Passed}
 use Rattle.aes3_capture_recovery.specs.Queues.{waiting}
+use Rattle.aes3_capture_recovery.specs.declared.recovery.Figures.{Figures}
+use Rattle.aes3_capture_recovery.specs.declared.recovery.Recovery.{Recovery}
 use Rattle.aes3_capture_recovery.specs.Recovering.{Recounted, Recovered, Starts, first_cells, first_level, sample_runs, samples_of}
 use Rattle.aes3_capture_places.specs.Marks.{between, no_mark}
 use Rattle.aes3_capture_places.specs.declared.marks.Mark.{Mark}
 use Rattle.aes3_capture_places.specs.declared.places.Places.{Places}
+use Rattle.aes3_capture_places.specs.declared.placing.Outcome.{Outcome}
 
 -- The cells that a recovery gives of the runs `done`, behind a sample of this level, and then those that are certain of
 -- `past` samples of the run behind them.
@@ -76,3 +79,34 @@ pub record IsClose (levels : List Level) (now : Places) : Type 0 where
   pub kept : KeepsLatest now
   pub close : now.recovery.found ≡ true → 1 ≤ length levels → length now.count.given.octets < 2 ^ 56
       → cells_given now < now.latest.cells + 64
+
+-- what was found of a line, as its recovery has it
+pub record AreFigures (now : Recovery) (figures : Figures) : Type 0 where
+  pub samples : figures.samples ≡ now.figures.samples
+  pub cells : figures.cells ≡ now.line.cells
+  pub period : now.found ≡ true → figures.period ≡ now.line.follower.period
+  pub edges : figures.edges ≡ now.figures.edges
+  pub greatest : figures.greatest ≡ now.figures.greatest
+  pub squares : figures.squares ≡ now.figures.squares
+  pub dead : figures.dead ≡ now.figures.dead
+  pub dead_at : figures.dead_at ≡ now.figures.dead_at
+  pub measured : figures.measured ≡ now.figures.measured
+  pub misses : figures.misses ≡ now.figures.misses
+
+-- how many parts of a sample lie between the latest mark and a cell, if each cell has the present length
+abbrev pub parts_after : Places → ℕ → ℕ
+parts_after now cell = (cell - now.latest.cells) * now.recovery.line.follower.period
+
+-- the sample of a cell after the latest mark, by that length
+abbrev pub sample_after : Places → ℕ → ℕ
+sample_after now cell = now.latest.samples + parts_after now cell / 65536
+
+-- the cell comes before the latest mark, or after the last sample, or the time up to it is too long for 64 bits
+abbrev pub IsOutOfReach : Places → ℕ → Type 0
+IsOutOfReach now cell =
+    (cell < now.latest.cells) ⊎ (now.recovery.figures.samples < sample_after now cell)
+    ⊎ (2 ^ 64 ≤ parts_after now cell)
+
+-- the counts of a report before its first octet
+abbrev pub nothing_read : Outcome
+nothing_read = record { octets = 0; found = 0; missing = 0 }

@@ -1,10 +1,12 @@
 //! A capture whose cells are recovered, to find where they are.
 
-ghost use Rattle.std.specs.Prelude.{◌≡◌, ◌+◌, ◌++◌, ◌<◌, ◌^◌, ◌⊎◌, [], ℕ, List, None, IfNone, IfSome, Option, length, true};
+ghost use Rattle.std.specs.Prelude.{◌≡◌, ◌+◌, ◌++◌, ◌<◌, ◌≤◌, ◌^◌, ◌⊎◌, [], ℕ, List, None, IfNone, IfSome, Option, length};
+ghost use Rattle.std.specs.Prelude.{min, nat_le, true};
 ghost use Rattle.aes3_level.specs.declared.level.Level.{Level};
 ghost use Rattle.aes3_capture_recovery.specs.Levels.{bit_of_line, bits_of_sample, levels_of_samples};
 ghost use Rattle.aes3_capture_places.specs.Marks.{IsFirst, IsLast, IsPlaced};
-ghost use Rattle.aes3_capture_places.specs.Placing.{ArePlaced, IsClose, IsMark, IsPlace, KeepsLatest, cells_given};
+ghost use Rattle.aes3_capture_places.specs.Placing.{AreFigures, ArePlaced, IsClose, IsMark, IsPlace, KeepsLatest};
+ghost use Rattle.aes3_capture_places.specs.Placing.{IsOutOfReach, cells_given, sample_after};
 
 use crate::marks::{Mark, Marks};
 use crate::octet_count::OctetCount;
@@ -47,7 +49,9 @@ impl Places {
     }
 
     /// What was found of the line so far.
-    pub fn figures(&self) -> Figures {
+    pub fn figures(&self) -> Figures
+        ensures { AreFigures self.now.recovery result }
+    {
         self.recovery.figures()
     }
 
@@ -108,7 +112,12 @@ impl Places {
 
     /// The sample of a cell after the latest mark, once the capture has ended: by the length of a
     /// cell, and the last sample at most. `None` if the cell comes later than that.
-    pub fn last_sample_of(&self, cell: u64) -> Option<u64> {
+    pub fn last_sample_of(&self, cell: u64) -> Option<u64>
+        ensures place { self.now.recovery.found ≡ true → IfSome result (λ sample.
+            sample ≡ min (sample_after self.now cell) self.now.recovery.figures.samples) }
+        ensures from { IfSome result (λ _. self.now.latest.cells ≤ cell) }
+        ensures none { self.now.recovery.found ≡ true → IfNone result (IsOutOfReach self.now cell) }
+    {
         let figures = self.recovery.figures();
         let cells = cell.checked_sub(self.latest.cells)?;
         let samples = cells.checked_mul(figures.period)? / PARTS;
@@ -124,7 +133,9 @@ impl Places {
     }
 
     /// Whether the cell comes after the latest mark.
-    pub fn is_ahead(&self, cell: u64) -> bool {
+    pub fn is_ahead(&self, cell: u64) -> bool
+        ensures { result ≡ nat_le self.now.latest.cells cell }
+    {
         cell >= self.latest.cells
     }
 }

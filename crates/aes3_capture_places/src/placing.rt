@@ -1,6 +1,7 @@
 //! The run from a report to the same report with the samples.
 
-ghost use Rattle.std.specs.Prelude.{◌≡◌, ◌+◌, ◌<◌, ◌≤◌, ◌^◌, IfErr, IfOk, OnErr};
+ghost use Rattle.std.specs.Prelude.{◌≡◌, ◌+◌, ◌<◌, ◌≤◌, ◌^◌, [], IfErr, IfOk, OnErr, false};
+ghost use Rattle.aes3_capture_places.specs.Placing.{AreFigures, ArePlaced, KeepsLatest, nothing_read};
 
 use crate::cell_name::CellName;
 use crate::places::Places;
@@ -44,7 +45,14 @@ pub struct Capture {
 impl Capture {
     /// A capture of which nothing was read. `period` is the length of a cell in 65,536ths of a
     /// sample, if it is given.
-    pub fn new(period: Option<u64>, unit: Unit, rate: Option<u64>) -> Self {
+    pub fn new(period: Option<u64>, unit: Unit, rate: Option<u64>) -> Self
+        ensures placed { ArePlaced period [] result.places }
+        ensures latest { KeepsLatest result.places }
+        ensures unit { result.unit ≡ unit }
+        ensures rate { result.rate ≡ rate }
+        ensures outcome { result.outcome ≡ nothing_read }
+        ensures unread { (result.kept ≡ 0) × (result.ended ≡ false) }
+    {
         Capture {
             places: Places::new(period),
             unit,
@@ -201,7 +209,9 @@ impl Capture {
     }
 
     /// What was found of the line in the samples that were read.
-    pub fn figures(&self) -> Figures {
+    pub fn figures(&self) -> Figures
+        ensures { AreFigures self.now.places.recovery result }
+    {
         self.places.figures()
     }
 }
