@@ -1,5 +1,8 @@
 //! The file that a picture is written to.
 
+ghost use Rattle.std.specs.Prelude.{◌≡◌, Err, codes};
+ghost use Rattle.aes3_capture_picture.specs.declared.file.PictureFault.TheVariants.{Standard};
+
 use aes3_files::PartFile;
 use std::fs::{self, File};
 use std::io::{self, Error, ErrorKind, Read, Write};
@@ -36,7 +39,9 @@ impl PictureFile {
     ///
     /// # Errors
     /// Why it can't.
-    pub fn create(rt: &HostRuntime, name: &str) -> Result<Self, PictureFault> {
+    pub fn create(rt: &HostRuntime, name: &str) -> Result<Self, PictureFault>
+        ensures standard { name.now ≡ codes "-" → result ≡ Err Standard }
+    {
         if name == STANDARD {
             return Err(PictureFault::Standard);
         }
