@@ -291,8 +291,8 @@ fn period(rate: Option<u64>, at: Option<u64>) -> Result<Option<u64>, Wrong>
     }
 }
 
-/// The layout of samples of `octets` octets, with the line in this bit. For a bit past the last its
-/// remainder counts.
+/// The layout of samples of `octets` octets, 1 or 2, with the line in this bit. A bit past the last
+/// one is taken modulo 8 or 16.
 pub fn unit_of(octets: usize, bit: u8) -> Unit
     ensures { result ≡ unit_of octets bit }
 {

@@ -376,8 +376,8 @@ pub fn run_job<S: Source, T: Sink, E: Sink>(
     }
 }
 
-/// Says why words are no job, and returns the exit status: 0 for help, which is written to the
-/// sink; 2 for a usage error; 3 if there is no memory or help can't be written.
+/// Says why words have no job to run, and returns the exit status: 0 for help, which is written to
+/// the sink; 2 for a usage error; 3 if there is no memory or help can't be written.
 pub fn report_fault<T: Sink, E: Sink>(fault: LineFault, sink: &mut T, messages: &mut E) -> u8
     requires sink_room { T.failed sink.old + 1 < 2 ^ 64 }
     requires messages_room { E.failed messages.old + 1 < 2 ^ 64 }

@@ -6,7 +6,8 @@ use aes3_files::{FileKind, are_packed, are_turned};
 /// How many of the first octets are inspected.
 pub const FIRST_LEN: usize = 512;
 
-/// What a file that begins like this is, and what to do with it, if it is no capture of a line.
+/// What kind of file begins with these octets, and what to do with it. `None` if it may be a
+/// capture of a line.
 pub fn advice_on_other(first: &[u8], unit: Unit) -> Option<&'static str> {
     match FileKind::of(first) {
         FileKind::Sound(_) => Some(

@@ -38,7 +38,7 @@ Usage: aes3 COMMAND [OPTIONS] < INPUT > OUTPUT
 For more information, try '--help'.
 ";
 
-/// Reports why words are no job, and returns the exit status.
+/// Reports why words have no job to run, and returns the exit status.
 fn tell_fault<T: Sink, E: Sink, O: Observer>(
     fault: LineFault,
     sink: &mut T,
@@ -82,16 +82,16 @@ pub fn tell_unread<E: Sink, O: Observer>(fault: Unread, errors: &mut E, observer
     }
 }
 
-/// Runs what a command line asks for, or reports why it is no job. Returns the exit status: 0
-/// success, 1 if `check`, `watch` or `info` found faults, 2 for a usage error, 3 after any other
-/// error. The source is what the line reads.
+/// Runs the job of a command line. If the line has none, it reports why, or prints the help.
+/// Returns the exit status: 0 success, 1 if `check`, `watch` or `info` found faults, 2 for a usage
+/// error, 3 after any other error. The source is what the line reads.
 ///
 /// A sink that held nothing before and did not fail has passed on all that it took, and so have
 /// `errors`. Errors are reported on `errors`, whose own faults change nothing. The observer is
 /// informed of the progress; a silent one writes nothing.
 ///
-/// All that `errors` get is: with status 0 and 1 the remark on the job, or nothing if there is
-/// none; with status 2 why the words are no command; with status 3 the line of the error.
+/// `errors` get only this: with status 0 and 1 the remark on the job, or nothing if there is none;
+/// with status 2 the text of the usage error; with status 3 the line of the error.
 pub fn run_line<S: Source + Drop, T: Sink + Drop, E: Sink, O: Observer>(
     line: Result<CommandLine<'_>, LineFault>,
     source: S,

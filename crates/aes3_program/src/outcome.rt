@@ -28,7 +28,7 @@ pub struct Met {
     pub taken: Taken,
 }
 
-/// What a channel status has no code for, of the format of a WAV file.
+/// The parts of a WAV file's format that a channel status has no code for.
 #[derive(Clone, Copy, PartialEq, Eq)]
 pub struct UnsaidFormat {
     /// The sampling frequency in hertz.
@@ -63,15 +63,15 @@ pub enum Remark {
     FilledAtUsualRate {
         frames: u64,
     },
-    /// The status of the blocks of a WAV file does not say this of its format. These settings were
+    /// The channel status has no code for these parts of the WAV file's format. These settings were
     /// given for channel 1 and channel 2; those that the status did not take are reported.
     Wave {
         unsaid: UnsaidFormat,
         first: Met,
         second: Met,
     },
-    /// The block at this place could not be given exactly. Neither it nor what follows it is given:
-    /// the job ends with an error.
+    /// The block at this place could not be written exactly. Neither this block nor the following
+    /// ones are written, and the job ends with an error.
     Inexact {
         at: u64,
     },
