@@ -257,7 +257,7 @@ def untaken(fields, uses):
     name = {0: "consumer", 1: "professional"}
     lacking = {field: use for field, use in fields.items() if uses and use not in uses}
     return "".join(
-        f"aes3: no block took --set1 {field}: it is for {name[use]} use, which use={name[use]} before it sets\n"
+        f"aes3: no block took --set1 {field}: only {name[use]} status has it; set use={name[use]} first\n"
         for field, use in lacking.items()
     )
 

@@ -16,7 +16,7 @@ use aes3_cli_progress::Clearing;
 use aes3_files::{Input, Preview};
 use aes3_program_terminal::{recognise, report_unread, run_and_explain};
 use aes3_wave::Depth;
-use output::{Output, OutputFile};
+use output::{Output, file_named, finish_file};
 use std::cell::Cell;
 use std::io::Error;
 use std::process::ExitCode;
@@ -75,7 +75,7 @@ fn run_buffered<E: Sink, H: Sink + Drop>(
     let words: Vec<&str> = words.iter().map(|word| word.as_str()).collect(rt.alloc())?;
     let mut line = line_of_words(rt.alloc(), &words);
     let named = output_of_line(&line);
-    let written = OutputFile::named(rt, named)?;
+    let written = file_named(rt, named)?;
     let output = Output::new(rt, written.as_ref(), &noted.unwritten);
     let is_seen = terminals.output && terminals.errors && written.is_none();
     let told = StdSink::new(rt.stderr());
@@ -113,7 +113,7 @@ fn run_buffered<E: Sink, H: Sink + Drop>(
     let Some(written) = written else {
         return Ok(status);
     };
-    match written.finish(rt, status, depth) {
+    match finish_file(rt, &written, status, depth) {
         Ok(()) => Ok(status),
         Err(error) => {
             eprintln!(rt; "aes3: refused 6").unwrap_or(());

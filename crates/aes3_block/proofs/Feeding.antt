@@ -3,7 +3,7 @@ use Rattle.std.proofs.Common.{◌≡◌, ℕ, ◌*◌, ◌%◌, ◌<◌, ◌⊎�
 use Rattle.std.proofs.Common.{Result, Ok, Err, length, refl, sym, ap, ap₂, ◌∙◌, arith, append-nil, append_assoc}
 use Rattle.aes3_block.specs.declared.file.FileFault.{FileFault}
 use Rattle.aes3_block.specs.declared.file.FileFault.TheVariants.{BadLength}
-use Rattle.aes3_frame.specs.Blocks.{block_slots}
+use Rattle.aes3_frame.specs.Blocks.{block_subframes}
 use Rattle.aes3_frame.specs.Files.{words_of, file_blocks, IsBlockFile}
 use Rattle.aes3_block.specs.Readers.{FileReader, reader_of, byte_fault, block_with, reader_with, fault_with}
 use Rattle.aes3_block.specs.Readers.{answer_with, next_with, end_answer}
@@ -142,10 +142,10 @@ accepted-only bytes h =
     let o = open-on [] bytes refl (ends-open (reader_fed (reader_of []) bytes) h) in
     record { whole = go (end-none bytes) (ap end_answer (sym o.1) ∙ h); lawful = lawful-words bytes o.0 }
   where
-    go : ((length bytes % (4 * block_slots) ≡ 0) × (end_answer (reader_of bytes) ≡ Ok tt))
-        ⊎ ((0 < length bytes % (4 * block_slots))
-        × (end_answer (reader_of bytes) ≡ Err (BadLength (length bytes % (4 * block_slots)))))
-        → end_answer (reader_of bytes) ≡ Ok tt → length bytes % (4 * block_slots) ≡ 0
+    go : ((length bytes % (4 * block_subframes) ≡ 0) × (end_answer (reader_of bytes) ≡ Ok tt))
+        ⊎ ((0 < length bytes % (4 * block_subframes))
+        × (end_answer (reader_of bytes) ≡ Err (BadLength (length bytes % (4 * block_subframes)))))
+        → end_answer (reader_of bytes) ≡ Ok tt → length bytes % (4 * block_subframes) ≡ 0
     go (inl q) e = q.0
     go (inr q) e = absurd (wrong (sym e ∙ q.1))
       where

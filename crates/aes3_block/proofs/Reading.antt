@@ -6,12 +6,12 @@ use Rattle.std.proofs.lemmas.Bool.{cases_eq, cases_lt}
 use Rattle.std.proofs.lemmas.List.{get_or_append_left, get_or-append_right}
 use Rattle.aes3_block.specs.declared.file.FileFault.{FileFault}
 use Rattle.aes3_block.specs.declared.file.FileFault.TheVariants.{BadLength, BadCode, BadParity}
-use Rattle.aes3_frame.specs.Blocks.{block_slots}
+use Rattle.aes3_frame.specs.Blocks.{block_subframes}
 use Rattle.aes3_frame.specs.Files.{bytes_number, has_code, has_parity, is_lawful, low_bytes, payload_of}
 use Rattle.aes3_block.specs.Readers.{FileReader, word_fault, ends_word, word_with, byte_fault, ends_block, block_with}
 use Rattle.aes3_block.specs.Readers.{reader_with, fault_with, answer_with, next_with, end_answer}
 use Rattle.aes3_frame.proofs.Bytes.{length-low_bytes, bytes_number-low_bytes}
-use Rattle.aes3_frame.proofs.BlockLemmas.{block_slots_384}
+use Rattle.aes3_frame.proofs.BlockLemmas.{block_subframes_384}
 
 -- a reader by what it stores
 abbrev pub stored : ℕ → List ℕ → ℕ → Option FileFault → FileReader
@@ -97,8 +97,8 @@ pub byte-word : (seen : ℕ) (ws : List ℕ) (w v x : ℕ) → length ws ≡ see
 byte-word seen ws w v x lw h b l e s =
     let r = stored seen ws w None in
     let ew : ends_word r ≡ true = at-word seen ws w None h in
-    let nb : eqb (suc (length ws)) block_slots ≡ false =
-    ne_eqb (suc (length ws)) block_slots (λ y. let k = block_slots_384 in omega arith) in
+    let nb : eqb (suc (length ws)) block_subframes ≡ false =
+    ne_eqb (suc (length ws)) block_subframes (λ y. let k = block_subframes_384 in omega arith) in
     let q = same-block r x true false ew (rw (ew, nb) refl) (fault-whole seen ws w v x h b l ∙ e) refl in
     let j : (seen + 1) % 4 ≡ 0 = omega arith in (
       q.0,
@@ -115,7 +115,7 @@ pub byte-block : (seen : ℕ) (ws : List ℕ) (w v x : ℕ) → length ws ≡ se
 byte-block seen ws w v x lw h b l e s =
     let r = stored seen ws w None in
     let ew : ends_word r ≡ true = at-word seen ws w None h in
-    let nb : eqb (suc (length ws)) block_slots ≡ true = eq-eqb (suc (length ws)) block_slots (let k = block_slots_384 in
+    let nb : eqb (suc (length ws)) block_subframes ≡ true = eq-eqb (suc (length ws)) block_subframes (let k = block_subframes_384 in
     omega arith) in
     let q = same-block r x true true ew (rw (ew, nb) refl) (fault-whole seen ws w v x h b l ∙ e) refl in
     let j : (seen + 1) % 4 ≡ 0 = omega arith in (
@@ -220,22 +220,22 @@ fault-unlawful at w f = go (has_code w) (has_parity w)
     go false parity e = refl
 
 -- the end of a file
-block_bytes_1536 : 4 * block_slots ≡ 1536
-unfolding block_slots
+block_bytes_1536 : 4 * block_subframes ≡ 1536
+unfolding block_subframes
 block_bytes_1536 = refl
 
 pub end-left : (seen : ℕ) (ws : List ℕ) (w : ℕ) (f : Option FileFault) → f ≡ None → 0 < seen % 1536
     → end_answer (stored seen ws w f) ≡ Err (BadLength (seen % 1536))
 end-left seen ws w f e h =
-    let k : seen % (4 * block_slots) ≡ seen % 1536 = ap (λ n. seen % n) block_bytes_1536 in
-    let t : eqb (seen % (4 * block_slots)) 0 ≡ false = ne_eqb (seen % (4 * block_slots)) 0 (λ y. omega arith) in
+    let k : seen % (4 * block_subframes) ≡ seen % 1536 = ap (λ n. seen % n) block_bytes_1536 in
+    let t : eqb (seen % (4 * block_subframes)) 0 ≡ false = ne_eqb (seen % (4 * block_subframes)) 0 (λ y. omega arith) in
     rw e (rw t (ap (λ n. Err (BadLength n)) k))
 
 pub end-whole : (seen : ℕ) (ws : List ℕ) (w : ℕ) (f : Option FileFault) → f ≡ None → seen % 1536 ≡ 0
     → end_answer (stored seen ws w f) ≡ Ok tt
 end-whole seen ws w f e z =
-    let k : seen % (4 * block_slots) ≡ seen % 1536 = ap (λ n. seen % n) block_bytes_1536 in
-    let t : eqb (seen % (4 * block_slots)) 0 ≡ true = eq-eqb (seen % (4 * block_slots)) 0 (omega arith) in
+    let k : seen % (4 * block_subframes) ≡ seen % 1536 = ap (λ n. seen % n) block_bytes_1536 in
+    let t : eqb (seen % (4 * block_subframes)) 0 ≡ true = eq-eqb (seen % (4 * block_subframes)) 0 (omega arith) in
     rw e (rw t refl)
 
 -- a reader that lets a file end has refused nothing

@@ -9,14 +9,14 @@ use Rattle.std.proofs.lemmas.Option.{slice_get-get_or, get_or_from_slice_get}
 use Rattle.aes3_bits.specs.Bits.{low_bits, number}
 use Rattle.aes3_slot.specs.Slots.{IsPayload, payload_len}
 use Rattle.aes3_bits.proofs.Bits.{length-low_bits, number-low_bits, low_bits-number}
-use Rattle.aes3_frame.specs.declared.status.Channel.{Channel}
-use Rattle.aes3_frame.specs.declared.status.Channel.TheVariants.{First, Second}
+use Rattle.aes3_frame.specs.declared.channel.Channel.{Channel}
+use Rattle.aes3_frame.specs.declared.channel.Channel.TheVariants.{First, Second}
 use Rattle.aes3_frame.specs.Blocks.{IsBlock}
 use Rattle.aes3_frame.specs.Subframes.{audio_len}
 use Rattle.aes3_frame.specs.Statuses.{of_channel, status_place, status_bit, status_bits, status_len, status_of}
 use Rattle.aes3_frame.specs.Statuses.{bytes_in, bits_of_bytes, with_bits, with_status}
 use Rattle.aes3_block.specs.Laws.{IsByte, payload_in, other_channel, SameButStatus}
-use Rattle.aes3_frame.proofs.BlockLemmas.{block_slots_384}
+use Rattle.aes3_frame.proofs.BlockLemmas.{block_subframes_384}
 use Rattle.aes3_frame.proofs.Runs.{Each27}
 use Rattle.aes3_frame.proofs.Each.{each-payload, all-payloads, EachByte, each-byte}
 use Rattle.aes3_frame.proofs.StatusBits.{status_len_24, first-get, second-get, bits-at, length-bits_of_bytes}
@@ -34,7 +34,7 @@ length-of_channel (suc n) (p ∷ q ∷ b) Second h = ap suc (length-of_channel n
 length-status_bits : (b : List (List Bool)) (channel : Channel) → IsBlock b
     → length (status_bits b channel) ≡ 8 * status_len
 length-status_bits b channel h =
-    let n = block_slots_384 in
+    let n = block_subframes_384 in
     let m = status_len_24 in
     let c = h.count in
     length-map (of_channel channel b) status_bit ∙ length-of_channel 192 b channel (omega arith) ∙ omega arith
@@ -92,7 +92,7 @@ pub status-back : (b : List (List Bool)) (channel : Channel) (bytes : List ℕ) 
     → status_of (with_status b channel bytes) channel ≡ bytes
 unfolding status_of with_status
 status-back b channel bytes h l e =
-    let n = block_slots_384 in
+    let n = block_subframes_384 in
     let m = status_len_24 in
     let c = h.count in
     let k = length-bits_of_bytes bytes in
@@ -183,7 +183,7 @@ length-status_of b channel = length-bytes_in status_len (status_bits b channel)
 pub status-by-frames : (b : List (List Bool)) (channel : Channel) (i : ℕ) → IsBlock b → i < 192
     → eqb (bit_at (get_or (status_of b channel) (i / 8) 0) (i % 8)) 1 ≡ status_bit (payload_in b channel i)
 status-by-frames b channel i h l =
-    let n = block_slots_384 in
+    let n = block_subframes_384 in
     let m = status_len_24 in
     let k = length-status_of b channel in
     let c = h.count in

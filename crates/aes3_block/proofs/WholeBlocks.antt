@@ -6,12 +6,12 @@ use Rattle.std.proofs.lemmas.Bool.{cases_lt, cases_eq}
 use Rattle.std.proofs.lemmas.List.{take_all, drop-append-le, drop_all, get_or-append_right}
 use Rattle.aes3_block.specs.declared.file.FileFault.{FileFault}
 use Rattle.aes3_block.specs.declared.file.FileFault.TheVariants.{BadLength, BadCode, BadParity}
-use Rattle.aes3_frame.specs.Blocks.{block_slots}
+use Rattle.aes3_frame.specs.Blocks.{block_subframes}
 use Rattle.aes3_frame.specs.Files.{bytes_number, words_of, has_code, has_parity, lawful_words, payload_of, blocks_in}
 use Rattle.aes3_frame.specs.Files.{file_blocks}
 use Rattle.aes3_block.specs.Readers.{FileReader, reader_of, word_fault, ends_word, byte_fault, block_with, reader_with}
 use Rattle.aes3_block.specs.Readers.{end_answer}
-use Rattle.aes3_frame.proofs.BlockLemmas.{block_slots_384, count-within}
+use Rattle.aes3_frame.proofs.BlockLemmas.{block_subframes_384, count-within}
 use Rattle.aes3_block.proofs.Reading.{fault-lawful, fault-unlawful, reader-is}
 use Rattle.aes3_frame.proofs.Words.{length-words, words-short, words-whole, all_lawful, all_lawful-push, lawful-words}
 use Rattle.aes3_frame.proofs.Words.{lawful-stays}
@@ -23,29 +23,29 @@ abbrev pub last_word : List ℕ → ℕ → ℕ
 last_word b x = bytes_number (drop (4 * (length b / 4)) b ++ x ∷ [])
 
 -- counts of words, inside a block and at its end
-count-inside : (n : ℕ) → n % block_slots + 1 < block_slots → (n + 1) / block_slots ≡ n / block_slots
-unfolding block_slots
+count-inside : (n : ℕ) → n % block_subframes + 1 < block_subframes → (n + 1) / block_subframes ≡ n / block_subframes
+unfolding block_subframes
 count-inside n h = omega arith
 
-count-ending : (n : ℕ) → n % block_slots + 1 ≡ block_slots → (n + 1) / block_slots ≡ suc (n / block_slots)
-unfolding block_slots
+count-ending : (n : ℕ) → n % block_subframes + 1 ≡ block_subframes → (n + 1) / block_subframes ≡ suc (n / block_subframes)
+unfolding block_subframes
 count-ending n h = omega arith
 
-count-whole : (n : ℕ) → n % block_slots + 1 ≡ block_slots → block_slots * ((n + 1) / block_slots) ≡ n + 1
-unfolding block_slots
+count-whole : (n : ℕ) → n % block_subframes + 1 ≡ block_subframes → block_subframes * ((n + 1) / block_subframes) ≡ n + 1
+unfolding block_subframes
 count-whole n h = omega arith
 
-last-place : (n : ℕ) → block_slots ≤ n % block_slots + 1 → n % block_slots + 1 ≡ block_slots
-unfolding block_slots
+last-place : (n : ℕ) → block_subframes ≤ n % block_subframes + 1 → n % block_subframes + 1 ≡ block_subframes
+unfolding block_subframes
 last-place n h = omega arith
 
-count-rest : (n : ℕ) → block_slots * (n / block_slots) + n % block_slots ≡ n
-unfolding block_slots
+count-rest : (n : ℕ) → block_subframes * (n / block_subframes) + n % block_subframes ≡ n
+unfolding block_subframes
 count-rest n = omega arith
 
 -- the words of the block begun
 abbrev pub begun_words : List ℕ → List ℕ
-begun_words b = drop (block_slots * (length (words_of b) / block_slots)) (words_of b)
+begun_words b = drop (block_subframes * (length (words_of b) / block_subframes)) (words_of b)
 
 tests-short : (b : List ℕ) → length b % 4 < 3 → ends_word (reader_of b) ≡ false
 unfolding reader_of
@@ -57,8 +57,8 @@ unfolding reader_of
 tests-whole b h = eq-eqb (length (drop (4 * (length b / 4)) b)) 3 (let l = length-drop (4 * (length b / 4)) b in
     omega arith)
 
-begun-count : (b : List ℕ) → length (begun_words b) ≡ length (words_of b) % block_slots
-begun-count b = let l = length-drop (block_slots * (length (words_of b) / block_slots)) (words_of b) in
+begun-count : (b : List ℕ) → length (begun_words b) ≡ length (words_of b) % block_subframes
+begun-count b = let l = length-drop (block_subframes * (length (words_of b) / block_subframes)) (words_of b) in
     let r = count-rest (length (words_of b)) in omega arith
 
 -- a byte inside a word
@@ -75,7 +75,7 @@ short b x h =
     sym (ap (λ k. drop (4 * k) (b ++ x ∷ [])) q ∙ drop-append-le (4 * (length b / 4)) b (x ∷ []) (omega arith)) in (
       rw e refl,
       rw e refl,
-      rw e (reader-is (sym (l ∙ omega arith)) (ap (λ ws. drop (block_slots * (length ws / block_slots)) ws) (sym w)) t),
+      rw e (reader-is (sym (l ∙ omega arith)) (ap (λ ws. drop (block_subframes * (length ws / block_subframes)) ws) (sym w)) t),
       w,
     )
 
@@ -94,47 +94,47 @@ no-bytes b x h = let l = length-append b (x ∷ []) in
     sym (drop_all (4 * (length (b ++ x ∷ []) / 4)) (b ++ x ∷ []) (omega arith))
 
 -- a byte that ends a word inside a block
-pub inside : (b : List ℕ) (x : ℕ) → length b % 4 ≡ 3 → length (words_of b) % block_slots + 1 < block_slots
+pub inside : (b : List ℕ) (x : ℕ) → length b % 4 ≡ 3 → length (words_of b) % block_subframes + 1 < block_subframes
     → (block_with (reader_of b) x ≡ None) × (reader_with (reader_of b) x ≡ reader_of (b ++ x ∷ []))
 unfolding reader_of
 inside b x h s =
     let e = tests-whole b h in
     let n = begun-count b in
-    let z = block_slots_384 in
-    let f : eqb (suc (length (begun_words b))) block_slots ≡ false = ne_eqb (suc (length (begun_words b))) block_slots
+    let z = block_subframes_384 in
+    let f : eqb (suc (length (begun_words b))) block_subframes ≡ false = ne_eqb (suc (length (begun_words b))) block_subframes
     (λ y. omega arith) in
     let l = length-append b (x ∷ []) in
     let w = words-grow b x h in
     let m = length-append (words_of b) (last_word b x ∷ []) in
-    let q : length (words_of b ++ last_word b x ∷ []) / block_slots ≡ length (words_of b) / block_slots =
-    ap (λ k. k / block_slots) m ∙ count-inside (length (words_of b)) s in
-    let t : begun_words b ++ last_word b x ∷ [] ≡ drop (block_slots * (length (words_of (b ++ x ∷ [])) / block_slots))
+    let q : length (words_of b ++ last_word b x ∷ []) / block_subframes ≡ length (words_of b) / block_subframes =
+    ap (λ k. k / block_subframes) m ∙ count-inside (length (words_of b)) s in
+    let t : begun_words b ++ last_word b x ∷ [] ≡ drop (block_subframes * (length (words_of (b ++ x ∷ [])) / block_subframes))
     (words_of (b ++ x ∷ [])) =
-    sym (ap (λ ws. drop (block_slots * (length ws / block_slots)) ws) w
-    ∙ ap (λ k. drop (block_slots * k) (words_of b ++ last_word b x ∷ [])) q
-    ∙ drop-append-le (block_slots * (length (words_of b) / block_slots)) (words_of b) (last_word b x ∷ [])
+    sym (ap (λ ws. drop (block_subframes * (length ws / block_subframes)) ws) w
+    ∙ ap (λ k. drop (block_subframes * k) (words_of b ++ last_word b x ∷ [])) q
+    ∙ drop-append-le (block_subframes * (length (words_of b) / block_subframes)) (words_of b) (last_word b x ∷ [])
     (count-within (length (words_of b)))) in
     (rw e (rw f refl), rw e (rw f (reader-is (sym (l ∙ omega arith)) t (no-bytes b x h))))
 
 -- a byte that ends a block
-pub ending : (b : List ℕ) (x : ℕ) → length b % 4 ≡ 3 → length (words_of b) % block_slots + 1 ≡ block_slots
+pub ending : (b : List ℕ) (x : ℕ) → length b % 4 ≡ 3 → length (words_of b) % block_subframes + 1 ≡ block_subframes
     → (block_with (reader_of b) x ≡ Some (map payload_of (begun_words b ++ last_word b x ∷ [])))
     × (reader_with (reader_of b) x ≡ reader_of (b ++ x ∷ []))
 unfolding reader_of
 ending b x h s =
     let e = tests-whole b h in
     let n = begun-count b in
-    let z = block_slots_384 in
-    let f : eqb (suc (length (begun_words b))) block_slots ≡ true =
-    eq-eqb (suc (length (begun_words b))) block_slots (omega arith) in
+    let z = block_subframes_384 in
+    let f : eqb (suc (length (begun_words b))) block_subframes ≡ true =
+    eq-eqb (suc (length (begun_words b))) block_subframes (omega arith) in
     let l = length-append b (x ∷ []) in
     let w = words-grow b x h in
     let m = length-append (words_of b) (last_word b x ∷ []) in
-    let t : [] ≡ drop (block_slots * (length (words_of (b ++ x ∷ [])) / block_slots)) (words_of (b ++ x ∷ [])) =
-    sym (ap (λ ws. drop (block_slots * (length ws / block_slots)) ws) w
-    ∙ drop_all (block_slots * (length (words_of b ++ last_word b x ∷ []) / block_slots))
+    let t : [] ≡ drop (block_subframes * (length (words_of (b ++ x ∷ [])) / block_subframes)) (words_of (b ++ x ∷ [])) =
+    sym (ap (λ ws. drop (block_subframes * (length ws / block_subframes)) ws) w
+    ∙ drop_all (block_subframes * (length (words_of b ++ last_word b x ∷ []) / block_subframes))
     (words_of b ++ last_word b x ∷ [])
-    (let c = ap (λ k. block_slots * (k / block_slots)) m ∙ count-whole (length (words_of b)) s in omega arith)) in
+    (let c = ap (λ k. block_subframes * (k / block_subframes)) m ∙ count-whole (length (words_of b)) s in omega arith)) in
     (rw e (rw f refl), rw e (rw f (reader-is (sym (l ∙ omega arith)) t (no-bytes b x h))))
 
 -- a reader that has taken the bytes b takes one more that is no fault
@@ -142,7 +142,7 @@ pub reader-next : (b : List ℕ) (x : ℕ) → byte_fault (reader_of b) x ≡ No
     → reader_with (reader_of b) x ≡ reader_of (b ++ x ∷ [])
 reader-next b x e = elim (cases_lt (length b % 4) 3) [
   | inl h ↦ (short b x h).2
-  | inr h ↦ elim (cases_lt (length (words_of b) % block_slots + 1) block_slots) [
+  | inr h ↦ elim (cases_lt (length (words_of b) % block_subframes + 1) block_subframes) [
     | inl s ↦ (inside b x (omega arith) s).1
     | inr s ↦ (ending b x (omega arith) (last-place (length (words_of b)) s)).1
   ]
@@ -161,9 +161,9 @@ lawful-next b x l e = elim (cases_lt (length b % 4) 3) [
 
 -- the blocks of lawful words
 blocks-lawful : (b : List ℕ) → all_lawful (words_of b) ≡ true
-    → file_blocks b ≡ blocks_in (length (words_of b) / block_slots) (words_of b)
+    → file_blocks b ≡ blocks_in (length (words_of b) / block_subframes) (words_of b)
 unfolding file_blocks
-blocks-lawful b l = ap (λ ws. blocks_in (length ws / block_slots) ws) (lawful-words b l)
+blocks-lawful b l = ap (λ ws. blocks_in (length ws / block_subframes) ws) (lawful-words b l)
 
 -- the blocks that one more byte adds
 abbrev pub added_blocks : Option (List (List Bool)) → List (List (List Bool))
@@ -179,46 +179,46 @@ blocks-next b x l e = blocks-lawful (b ++ x ∷ []) (lawful-next b x l e) ∙ go
     ws = words_of b
 
     go : (length b % 4 < 3) ⊎ (3 ≤ length b % 4)
-        → blocks_in (length (words_of (b ++ x ∷ [])) / block_slots) (words_of (b ++ x ∷ [])) ≡ blocks_in
-        (length (words_of b) / block_slots) (words_of b) ++ added_blocks (block_with (reader_of b) x)
+        → blocks_in (length (words_of (b ++ x ∷ [])) / block_subframes) (words_of (b ++ x ∷ [])) ≡ blocks_in
+        (length (words_of b) / block_subframes) (words_of b) ++ added_blocks (block_with (reader_of b) x)
     go (inl h) = let s = short b x h in
-        ap (λ v. blocks_in (length v / block_slots) v) s.3
-        ∙ sym (append-nil (blocks_in (length (words_of b) / block_slots) (words_of b)))
-        ∙ ap (λ o. blocks_in (length (words_of b) / block_slots) (words_of b) ++ added_blocks o) (sym s.1)
-    go (inr h) = whole (omega arith) (cases_lt (length ws % block_slots + 1) block_slots)
+        ap (λ v. blocks_in (length v / block_subframes) v) s.3
+        ∙ sym (append-nil (blocks_in (length (words_of b) / block_subframes) (words_of b)))
+        ∙ ap (λ o. blocks_in (length (words_of b) / block_subframes) (words_of b) ++ added_blocks o) (sym s.1)
+    go (inr h) = whole (omega arith) (cases_lt (length ws % block_subframes + 1) block_subframes)
       where
-        whole : length b % 4 ≡ 3 → (length (words_of b) % block_slots + 1 < block_slots)
-            ⊎ (block_slots ≤ length (words_of b) % block_slots + 1)
-            → blocks_in (length (words_of (b ++ x ∷ [])) / block_slots) (words_of (b ++ x ∷ [])) ≡ blocks_in
-            (length (words_of b) / block_slots) (words_of b) ++ added_blocks (block_with (reader_of b) x)
+        whole : length b % 4 ≡ 3 → (length (words_of b) % block_subframes + 1 < block_subframes)
+            ⊎ (block_subframes ≤ length (words_of b) % block_subframes + 1)
+            → blocks_in (length (words_of (b ++ x ∷ [])) / block_subframes) (words_of (b ++ x ∷ [])) ≡ blocks_in
+            (length (words_of b) / block_subframes) (words_of b) ++ added_blocks (block_with (reader_of b) x)
         whole t (inl s) =
             let w = words-grow b x t in
             let m = length-append (words_of b) (last_word b x ∷ []) in
-            ap (λ v. blocks_in (length v / block_slots) v) w
-            ∙ ap (λ k. blocks_in k (words_of b ++ last_word b x ∷ [])) (ap (λ k. k / block_slots) m
+            ap (λ v. blocks_in (length v / block_subframes) v) w
+            ∙ ap (λ k. blocks_in k (words_of b ++ last_word b x ∷ [])) (ap (λ k. k / block_subframes) m
             ∙ count-inside (length (words_of b)) s)
-            ∙ blocks-front (length (words_of b) / block_slots) (words_of b) (last_word b x ∷ [])
+            ∙ blocks-front (length (words_of b) / block_subframes) (words_of b) (last_word b x ∷ [])
             (count-within (length (words_of b)))
-            ∙ sym (append-nil (blocks_in (length (words_of b) / block_slots) (words_of b)))
-            ∙ ap (λ o. blocks_in (length (words_of b) / block_slots) (words_of b) ++ added_blocks o)
+            ∙ sym (append-nil (blocks_in (length (words_of b) / block_subframes) (words_of b)))
+            ∙ ap (λ o. blocks_in (length (words_of b) / block_subframes) (words_of b) ++ added_blocks o)
             (sym (inside b x t s).0)
         whole t (inr s) =
             let w = words-grow b x t in
             let m = length-append (words_of b) (last_word b x ∷ []) in
-            let k = length (words_of b) / block_slots in
-            let z : length (words_of b) % block_slots + 1 ≡ block_slots = last-place (length (words_of b)) s in
+            let k = length (words_of b) / block_subframes in
+            let z : length (words_of b) % block_subframes + 1 ≡ block_subframes = last-place (length (words_of b)) s in
             let all = words_of b ++ last_word b x ∷ [] in
-            let d : drop (block_slots * k) all ≡ begun_words b ++ last_word b x ∷ [] =
-            drop-append-le (block_slots * k) (words_of b) (last_word b x ∷ [])
+            let d : drop (block_subframes * k) all ≡ begun_words b ++ last_word b x ∷ [] =
+            drop-append-le (block_subframes * k) (words_of b) (last_word b x ∷ [])
             (count-within (length (words_of b))) in
-            let n : length (begun_words b ++ last_word b x ∷ []) ≡ block_slots =
+            let n : length (begun_words b ++ last_word b x ∷ []) ≡ block_subframes =
             length-append (begun_words b) (last_word b x ∷ []) ∙ ap (λ i. i + 1) (begun-count b) ∙ z in
-            ap (λ v. blocks_in (length v / block_slots) v) w
-            ∙ ap (λ i. blocks_in i all) (ap (λ i. i / block_slots) m ∙ count-ending (length (words_of b)) z)
+            ap (λ v. blocks_in (length v / block_subframes) v) w
+            ∙ ap (λ i. blocks_in i all) (ap (λ i. i / block_subframes) m ∙ count-ending (length (words_of b)) z)
             ∙ blocks-more k all
             ∙ ap₂ (λ p q. p ++ map payload_of q ∷ [])
             (blocks-front k (words_of b) (last_word b x ∷ []) (count-within (length (words_of b))))
-            (ap (take block_slots) d ∙ take_all block_slots (begun_words b ++ last_word b x ∷ []) (omega arith))
+            (ap (take block_subframes) d ∙ take_all block_subframes (begun_words b ++ last_word b x ∷ []) (omega arith))
             ∙ ap (λ o. blocks_in k (words_of b) ++ added_blocks o) (sym (ending b x t z).0)
 
 -- behind a byte that is a fault nothing counts
@@ -226,7 +226,7 @@ pub blocks-stay : (b : List ℕ) (x : ℕ) (more : List ℕ) (f : FileFault) →
     → byte_fault (reader_of b) x ≡ Some f
     → file_blocks (b ++ x ∷ more) ≡ file_blocks b
 unfolding file_blocks
-blocks-stay b x more f l e = ap (λ ws. blocks_in (length ws / block_slots) ws) (elim (cases_lt (length b % 4) 3) [
+blocks-stay b x more f l e = ap (λ ws. blocks_in (length ws / block_subframes) ws) (elim (cases_lt (length b % 4) 3) [
   | inl h ↦ absurd (let s = short b x h in none-some f (sym s.0 ∙ e))
   | inr h ↦ let t : length b % 4 ≡ 3 = omega arith in
       lawful-stays b x more t l (fault-unlawful (length b / 4) (last_word b x) f (sym (whole-fault b x t) ∙ e))
@@ -295,25 +295,25 @@ length-fault at w left = go (has_code w) (has_parity w)
     go false parity e = cc
 
 -- the end of lawful words
-pub end-none : (b : List ℕ) → ((length b % (4 * block_slots) ≡ 0) × (end_answer (reader_of b) ≡ Ok tt))
-    ⊎ ((0 < length b % (4 * block_slots)) × (end_answer (reader_of b) ≡ Err (BadLength (length b % (4 * block_slots)))))
+pub end-none : (b : List ℕ) → ((length b % (4 * block_subframes) ≡ 0) × (end_answer (reader_of b) ≡ Ok tt))
+    ⊎ ((0 < length b % (4 * block_subframes)) × (end_answer (reader_of b) ≡ Err (BadLength (length b % (4 * block_subframes)))))
 unfolding reader_of
-end-none b = go (cases_eq (length b % (4 * block_slots)) 0)
+end-none b = go (cases_eq (length b % (4 * block_subframes)) 0)
   where
-    go : (length b % (4 * block_slots) ≡ 0) ⊎ (length b % (4 * block_slots) ≡ 0 → ⊥)
-        → ((length b % (4 * block_slots) ≡ 0) × (end_answer (reader_of b) ≡ Ok tt))
-        ⊎ ((0 < length b % (4 * block_slots))
-        × (end_answer (reader_of b) ≡ Err (BadLength (length b % (4 * block_slots)))))
-    go (inl q) = let t = eq-eqb (length b % (4 * block_slots)) 0 q in inl (q, rw t refl)
-    go (inr q) = let t = ne_eqb (length b % (4 * block_slots)) 0 q in inr (omega arith, rw t refl)
+    go : (length b % (4 * block_subframes) ≡ 0) ⊎ (length b % (4 * block_subframes) ≡ 0 → ⊥)
+        → ((length b % (4 * block_subframes) ≡ 0) × (end_answer (reader_of b) ≡ Ok tt))
+        ⊎ ((0 < length b % (4 * block_subframes))
+        × (end_answer (reader_of b) ≡ Err (BadLength (length b % (4 * block_subframes)))))
+    go (inl q) = let t = eq-eqb (length b % (4 * block_subframes)) 0 q in inl (q, rw t refl)
+    go (inr q) = let t = ne_eqb (length b % (4 * block_subframes)) 0 q in inr (omega arith, rw t refl)
 
-pub end-whole_file : (b : List ℕ) → length b % (4 * block_slots) ≡ 0 → end_answer (reader_of b) ≡ Ok tt
+pub end-whole_file : (b : List ℕ) → length b % (4 * block_subframes) ≡ 0 → end_answer (reader_of b) ≡ Ok tt
 unfolding reader_of
-end-whole_file b q = let t = eq-eqb (length b % (4 * block_slots)) 0 q in rw t refl
+end-whole_file b q = let t = eq-eqb (length b % (4 * block_subframes)) 0 q in rw t refl
 
 -- a reader that has taken nothing
 pub reader-new : (r : FileReader) → r.seen ≡ 0 → r.words ≡ [] → r.bytes ≡ [] → r.fault ≡ None → r ≡ reader_of []
-unfolding reader_of block_slots
+unfolding reader_of block_subframes
 reader-new r a b c d = by-fields r.seen r.words r.bytes r.fault a b c d
   where
     by-fields : (n : ℕ) (ws bs : List ℕ) (f : Option FileFault) → n ≡ 0 → ws ≡ [] → bs ≡ [] → f ≡ None

@@ -3,7 +3,7 @@ use Rattle.std.specs.Prelude.{ℕ, suc, List, [], ◌∷◌, ◌++◌, Bool, fal
 use Rattle.std.specs.Prelude.{drop, ◌≡◌, ◌*◌, ◌/◌, ◌%◌, ◌==◌, map, if◌then◌else◌}
 use Rattle.aes3_block.specs.declared.file.FileFault.{FileFault}
 use Rattle.aes3_block.specs.declared.file.FileFault.TheVariants.{BadLength, BadCode, BadParity}
-use Rattle.aes3_frame.specs.Blocks.{block_slots}
+use Rattle.aes3_frame.specs.Blocks.{block_subframes}
 use Rattle.aes3_frame.specs.Files.{bytes_number, words_of, has_code, has_parity, payload_of}
 
 -- how many bytes a reader has taken, the words of the block begun, the bytes of the word begun, and what it refused
@@ -17,7 +17,7 @@ pub record FileReader : Type 0 where
 unfoldable pub reader_of : List ℕ → FileReader
 reader_of b = record {
   seen = length b;
-  words = drop (block_slots * (length (words_of b) / block_slots)) (words_of b);
+  words = drop (block_subframes * (length (words_of b) / block_subframes)) (words_of b);
   bytes = drop (4 * (length b / 4)) b;
   fault = None;
 }
@@ -39,7 +39,7 @@ byte_fault r x = if ends_word r then word_fault (r.seen / 4) (word_with r x) els
 
 -- whether one more byte ends a block, and that block
 abbrev pub ends_block : FileReader → Bool
-ends_block r = if ends_word r then (suc (length r.words) == block_slots) else false
+ends_block r = if ends_word r then (suc (length r.words) == block_subframes) else false
 
 abbrev pub block_with : FileReader → ℕ → Option (List (List Bool))
 block_with r x = if ends_block r then Some (map payload_of (r.words ++ word_with r x ∷ [])) else None
@@ -95,7 +95,7 @@ pub record TakesBlock (r : FileReader) (b : List ℕ) (block : List (List Bool))
 
 -- what a reader answers to the end: the fault that it refused before; else nothing may be left of a block
 abbrev pub left_of : FileReader → ℕ
-left_of r = r.seen % (4 * block_slots)
+left_of r = r.seen % (4 * block_subframes)
 
 abbrev pub end_answer : FileReader → Result (Unit {0}) FileFault
 end_answer r = answer r.fault

@@ -7,7 +7,7 @@ ghost use Rattle.aes3_cell.specs.Written.{bytes_of};
 ghost use Rattle.aes3_frame.specs.Blocks.{block_cells};
 
 use aes3_cell::{Fault, Form, Level, Sink, put_words};
-use aes3_frame::{Block, SLOTS, fill_block_cells};
+use aes3_frame::{Block, SUBFRAMES, fill_block_cells};
 
 /// Writes the cells of a block after the level `before`: the bytes of the form without its ending.
 ///
@@ -23,7 +23,7 @@ pub fn put_block<T: Sink>(
     ensures { Wrote T.taken T.failed sink.old sink.new
         (bytes_of form (block_cells before block.now)) result }
 {
-    let mut cells = [0; SLOTS];
+    let mut cells = [0; SUBFRAMES];
     fill_block_cells(before, block, &mut cells);
     put_words(form, &cells, sink)
 }

@@ -1,6 +1,6 @@
 //! Reading block files.
 use aes3_cell::RunError;
-use aes3_frame::{BLOCK_BYTES, Block, SLOTS, has_right_code, has_right_parity, zero_words};
+use aes3_frame::{BLOCK_BYTES, Block, SUBFRAMES, has_right_code, has_right_parity, zero_words};
 use arrayvec::ArrayVec;
 use std::fmt::{self, Debug, Display, Formatter, Write};
 use std::marker::Model;
@@ -50,7 +50,7 @@ impl Debug for FileFault {
 /// current word, and the fault that it has found.
 #[derive(Drop)]
 pub struct BlockFile {
-    words: ArrayVec<u32, SLOTS>,
+    words: ArrayVec<u32, SUBFRAMES>,
     word: u32,
     seen: u64,
     fault: Option<FileFault>,
@@ -78,7 +78,7 @@ impl Model for BlockFile {
 ghost use Rattle.std.specs.Prelude.{◌≡◌, ◌≢◌, ℕ, ◌<◌, ◌≤◌, ◌+◌, ◌*◌, ◌^◌, true, false, [], ◌∷◌};
 ghost use Rattle.std.specs.Prelude.{◌++◌, Some, None, IfSome, IsSome, get_or, length, map};
 ghost use Rattle.std.specs.List.{flat_map};
-ghost use Rattle.aes3_frame.specs.Blocks.{block_slots};
+ghost use Rattle.aes3_frame.specs.Blocks.{block_subframes};
 ghost use Rattle.aes3_frame.specs.Files.{is_lawful, low_bytes, payload_of, word_bytes, words_of};
 ghost use Rattle.aes3_block.specs.Readers.{FileReader, TakesBlock, TakesQuietly, answer_with};
 ghost use Rattle.aes3_block.specs.Readers.{end_answer, next_with, word_fault};
@@ -107,15 +107,15 @@ fn word_with_byte(word: u32, len: u32, byte: u8) -> u32
 }
 
 /// The block of the words, if they fill one; then no words are left.
-fn take_block(words: &mut ArrayVec<u32, SLOTS>) -> Option<Block>
+fn take_block(words: &mut ArrayVec<u32, SUBFRAMES>) -> Option<Block>
     requires { (i : ℕ) → i < length words.old.items
         → is_lawful (get_or words.old.items i 0) ≡ true }
-    ensures whole { length words.old.items ≡ SLOTS
+    ensures whole { length words.old.items ≡ SUBFRAMES
         → (result ≡ Some (map payload_of words.old.items)) × (words.new.items ≡ []) }
-    ensures begun { length words.old.items ≢ SLOTS
+    ensures begun { length words.old.items ≢ SUBFRAMES
         → (result ≡ None) × (words.new.items ≡ words.old.items) }
 {
-    if words.len() != SLOTS {
+    if words.len() != SUBFRAMES {
         return None;
     }
     match words.take().into_inner() {
@@ -125,11 +125,11 @@ fn take_block(words: &mut ArrayVec<u32, SLOTS>) -> Option<Block>
 }
 
 /// The words of a block's bytes.
-fn words_of_block(bytes: &[u8; BLOCK_BYTES]) -> [u32; SLOTS]
+fn words_of_block(bytes: &[u8; BLOCK_BYTES]) -> [u32; SUBFRAMES]
     ensures { flat_map word_bytes result ≡ bytes.now }
 {
     let mut words = zero_words();
-    for i in 0..SLOTS {
+    for i in 0..SUBFRAMES {
         let at = 4 * i;
         let word = [bytes[at], bytes[at + 1], bytes[at + 2], bytes[at + 3]];
         words[i] = u32::from_le_bytes(word);
@@ -139,12 +139,12 @@ fn words_of_block(bytes: &[u8; BLOCK_BYTES]) -> [u32; SLOTS]
 
 /// Whether all words are valid: none has a bit in slots 0 to 3, and none an odd number of ones. It
 /// checks them together, so that the compiler takes several at once.
-fn are_lawful(words: &[u32; SLOTS]) -> bool
-    ensures each { result ≡ true → (i : ℕ) → i < block_slots
+fn are_lawful(words: &[u32; SUBFRAMES]) -> bool
+    ensures each { result ≡ true → (i : ℕ) → i < block_subframes
         → is_lawful (get_or words.now i 0) ≡ true }
-    ensures owed { ((i : ℕ) → i < block_slots → is_lawful (get_or words.now i 0) ≡ true)
+    ensures owed { ((i : ℕ) → i < block_subframes → is_lawful (get_or words.now i 0) ≡ true)
         → result ≡ true }
-    ensures fits { (i : ℕ) → i < SLOTS → get_or words.now i 0 < 2 ^ 32 }
+    ensures fits { (i : ℕ) → i < SUBFRAMES → get_or words.now i 0 < 2 ^ 32 }
 {
     let mut code = 0;
     let mut odd = 0;
@@ -223,7 +223,7 @@ impl BlockFile {
             return false;
         }
         let word = u32::from_le_bytes(*bytes);
-        if self.words.len() + 1 == SLOTS || fault_of_word(word, self.seen / 4).is_some() {
+        if self.words.len() + 1 == SUBFRAMES || fault_of_word(word, self.seen / 4).is_some() {
             return false;
         }
         self.words.push(word);
@@ -241,7 +241,7 @@ impl BlockFile {
         ensures taken { IfSome result (λ block. TakesBlock self.old bytes.now block self.new) }
         ensures same { result ≡ None → self.new ≡ self.old }
         ensures owed { self.old.fault ≡ None → self.old.bytes ≡ [] → self.old.words ≡ []
-            → ((i : ℕ) → i < block_slots → is_lawful (get_or (words_of bytes.now) i 0) ≡ true)
+            → ((i : ℕ) → i < block_subframes → is_lawful (get_or (words_of bytes.now) i 0) ≡ true)
             → IsSome result }
     {
         if self.fault.is_some() || self.seen % BLOCK_BYTES as u64 != 0 {

@@ -6,7 +6,7 @@ ghost use Rattle.aes3_cell.specs.Writes.{Wrote};
 ghost use Rattle.aes3_frame.specs.Files.{block_bytes, word_bytes};
 
 use aes3_cell::{Fault, Sink, write_all};
-use aes3_frame::{BLOCK_BYTES, Block, SLOTS};
+use aes3_frame::{BLOCK_BYTES, Block, SUBFRAMES};
 
 pub(crate) fn blank_bytes() -> [u8; BLOCK_BYTES]
     ensures { length result ≡ BLOCK_BYTES }
@@ -15,9 +15,9 @@ pub(crate) fn blank_bytes() -> [u8; BLOCK_BYTES]
 }
 
 /// The bytes of words, each lowest byte first.
-fn bytes_of_words(words: &[u32; SLOTS]) -> [u8; BLOCK_BYTES]
+fn bytes_of_words(words: &[u32; SUBFRAMES]) -> [u8; BLOCK_BYTES]
     ensures bytes { result ≡ flat_map word_bytes words.now }
-    ensures fits { (i : ℕ) → i < SLOTS → get_or words.now i 0 < 2 ^ 32 }
+    ensures fits { (i : ℕ) → i < SUBFRAMES → get_or words.now i 0 < 2 ^ 32 }
 {
     let mut bytes = blank_bytes();
     for (i, word) in words.iter().enumerate() {

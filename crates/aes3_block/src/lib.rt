@@ -15,7 +15,7 @@ mod read_cells;
 mod samples_out;
 
 pub use aes3_frame::{
-    BLOCK_BYTES, BLOCK_CELLS, Block, Channel, Frame, GatheredCells, SLOTS, Subframe,
+    BLOCK_BYTES, BLOCK_CELLS, Block, Channel, Frame, GatheredCells, SUBFRAMES, Subframe,
     fill_block_cells, mark_of, wrong_parities,
 };
 pub use cells_out::{put_block, put_block_cells};

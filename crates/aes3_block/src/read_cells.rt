@@ -12,7 +12,7 @@ ghost use Rattle.aes3_slot.specs.Slots.{payload_len, subframe_runs};
 ghost use Rattle.aes3_frame.specs.Blocks.{block_cells};
 
 use aes3_cell::{Fault, Form, Level, Sink, put_words};
-use aes3_frame::{GatheredCells, PAYLOAD_LIMIT, SLOTS, wrong_in};
+use aes3_frame::{GatheredCells, PAYLOAD_LIMIT, SUBFRAMES, wrong_in};
 use aes3_slot::{Mark, mark_of, slot_bits, subframe_cells};
 
 /// A subframe's cells, inverted if `inverted` is true.
@@ -43,33 +43,33 @@ fn renewed(before: Level, mark: Mark, cells: u64) -> u64
 
 /// Puts the cells of the block of these subframes into `cells`, after the level `before`. It makes
 /// new cells for a subframe where needed.
-fn renew_each(before: Level, words: &[u64; SLOTS], cells: &mut [u64; SLOTS])
+fn renew_each(before: Level, words: &[u64; SUBFRAMES], cells: &mut [u64; SUBFRAMES])
     ensures { flat_map word_cells cells.new ≡ block_cells before
         (map (take payload_len) (read_words words.now)) }
 {
-    for (slot, word) in words.iter().enumerate() {
-        cells[slot] = renewed(before, mark_of(slot as u64), *word);
+    for (subframe, word) in words.iter().enumerate() {
+        cells[subframe] = renewed(before, mark_of(subframe as u64), *word);
     }
 }
 
 /// Puts the cells of the subframes into `cells`, all inverted if the first are. Returns whether
 /// they are then the cells of their block after the level `before`.
-fn turn_all(before: Level, words: &[u64; SLOTS], cells: &mut [u64; SLOTS]) -> bool
+fn turn_all(before: Level, words: &[u64; SUBFRAMES], cells: &mut [u64; SUBFRAMES]) -> bool
     ensures { result ≡ true → flat_map word_cells cells.new
         ≡ block_cells before (map (take payload_len) (read_words words.now)) }
 {
     let inverted = is_inverted(before, words[0]);
     let mut wrong = 0;
-    for (slot, word) in words.iter().enumerate() {
+    for (subframe, word) in words.iter().enumerate() {
         let same = turned(inverted, *word);
-        cells[slot] = same;
-        wrong |= wrong_in(before, mark_of(slot as u64), same);
+        cells[subframe] = same;
+        wrong |= wrong_in(before, mark_of(subframe as u64), same);
     }
     wrong == 0
 }
 
 /// Puts the cells of the block of these subframes into `cells`, after the level `before`.
-fn fill_read_cells(before: Level, words: &[u64; SLOTS], cells: &mut [u64; SLOTS])
+fn fill_read_cells(before: Level, words: &[u64; SUBFRAMES], cells: &mut [u64; SUBFRAMES])
     ensures { flat_map word_cells cells.new ≡ block_cells before
         (map (take payload_len) (read_words words.now)) }
 {
@@ -82,7 +82,7 @@ fn fill_read_cells(before: Level, words: &[u64; SLOTS], cells: &mut [u64; SLOTS]
 fn put_renewed<T: Sink>(
     form: Form,
     before: Level,
-    words: &[u64; SLOTS],
+    words: &[u64; SUBFRAMES],
     sink: &mut T,
 ) -> Result<(), Fault>
     requires room { T.failed sink.old + 1 < 2 ^ 64 }
@@ -90,7 +90,7 @@ fn put_renewed<T: Sink>(
         (bytes_of form (block_cells before (map (take payload_len) (read_words words.now))))
         result }
 {
-    let mut cells = [0; SLOTS];
+    let mut cells = [0; SUBFRAMES];
     fill_read_cells(before, words, &mut cells);
     put_words(form, &cells, sink)
 }
@@ -110,21 +110,21 @@ fn inverted(cells: u64) -> u64
 }
 
 /// Puts the words into `cells`, with all cells inverted.
-fn invert_all(words: &[u64; SLOTS], cells: &mut [u64; SLOTS])
+fn invert_all(words: &[u64; SUBFRAMES], cells: &mut [u64; SUBFRAMES])
     ensures { flat_map word_cells cells.new ≡ map other (flat_map word_cells words.now) }
 {
-    for (slot, word) in words.iter().enumerate() {
-        cells[slot] = inverted(*word);
+    for (subframe, word) in words.iter().enumerate() {
+        cells[subframe] = inverted(*word);
     }
 }
 
 /// Writes words of cells, with all cells inverted.
-fn put_inverted<T: Sink>(form: Form, words: &[u64; SLOTS], sink: &mut T) -> Result<(), Fault>
+fn put_inverted<T: Sink>(form: Form, words: &[u64; SUBFRAMES], sink: &mut T) -> Result<(), Fault>
     requires room { T.failed sink.old + 1 < 2 ^ 64 }
     ensures { Wrote T.taken T.failed sink.old sink.new
         (bytes_of form (map other (flat_map word_cells words.now))) result }
 {
-    let mut cells = [0; SLOTS];
+    let mut cells = [0; SUBFRAMES];
     invert_all(words, &mut cells);
     put_words(form, &cells, sink)
 }

@@ -6,7 +6,7 @@ ghost use Rattle.aes3_frame.specs.Files.{payload_of, word_bytes};
 ghost use Rattle.aes3_frame.specs.Samples.{block_samples, sample_of};
 
 use crate::file_out::blank_bytes;
-use aes3_frame::{AUDIO_LIMIT, BLOCK_BYTES, Block, SLOTS, payload_of_word};
+use aes3_frame::{AUDIO_LIMIT, BLOCK_BYTES, Block, SUBFRAMES, payload_of_word};
 
 /// The sample in a word of a block file, in the highest 24 of 32 bits.
 fn sample_of_word(word: u32) -> u32
@@ -16,7 +16,7 @@ fn sample_of_word(word: u32) -> u32
 }
 
 /// The bytes of the samples in words of a block file, each lowest byte first.
-fn bytes_of_samples(words: &[u32; SLOTS]) -> [u8; BLOCK_BYTES]
+fn bytes_of_samples(words: &[u32; SUBFRAMES]) -> [u8; BLOCK_BYTES]
     ensures { result ≡ flat_map word_bytes (map sample_of (map payload_of words.now)) }
 {
     let mut bytes = blank_bytes();

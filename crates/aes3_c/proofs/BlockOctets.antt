@@ -16,12 +16,12 @@ use Rattle.aes3_cell.specs.Packed.{octets_needed, octets_of}
 use Rattle.aes3_cell.proofs.PackedCells.{length-first_octets}
 use Rattle.aes3_cell.proofs.WrittenForms.{bytes-append, bytes-nothing}
 use Rattle.aes3_block.proofs.StreamBytes.{stream-bytes}
-use Rattle.aes3_forms_samples.specs.declared.format.SampleFormat.{SampleFormat}
+use Rattle.aes3_forms_samples.specs.declared.sample_format.SampleFormat.{SampleFormat}
 use Rattle.aes3_forms_samples.specs.Formats.{block_len, widened}
-use Rattle.aes3_frame.specs.Blocks.{block_slots, stream}
+use Rattle.aes3_frame.specs.Blocks.{block_subframes, stream}
 use Rattle.aes3_frame.specs.Files.{blocks_in, payload_of, words_of}
 use Rattle.aes3_frame.specs.Sampled.{payload_of_sample}
-use Rattle.aes3_frame.proofs.BlockLemmas.{block_slots_384}
+use Rattle.aes3_frame.proofs.BlockLemmas.{block_subframes_384}
 use Rattle.aes3_frame.proofs.Streams.{blocks-more, each27-blocks, stream-nil}
 use Rattle.aes3_c.specs.declared.block_form.BlockForm.{BlockForm}
 use Rattle.aes3_c.specs.declared.block_form.BlockForm.TheVariants.{Cells}
@@ -57,7 +57,7 @@ octets-more words octets ys i k h l before new =
 next-block : (i : ℕ) (words : List ℕ) → blocks_in (i + 1) words ≡ blocks_in i words ++ block_at i words ∷ []
 next-block i words =
     ap (λ n. blocks_in n words) (add-one i) ∙ blocks-more i words
-    ∙ ap (λ n. blocks_in i words ++ map payload_of (take n (drop (n * i) words)) ∷ []) block_slots_384
+    ∙ ap (λ n. blocks_in i words ++ map payload_of (take n (drop (n * i) words)) ∷ []) block_subframes_384
 
 -- the octets of one more block
 pub blocks-put : (form : BlockForm) (words octets ys : List ℕ) (i k : ℕ) → length ys ≡ form_len form
@@ -109,7 +109,7 @@ pub line-octets : (s : Level) (n : ℕ) (words : List ℕ)
 line-octets s zero words = sym (ap octets_of (stream-nil s) ∙ bytes-nothing Packed)
 line-octets s (suc n) words =
     let f = octets_in (Cells s) in
-    let block = map payload_of (take block_slots (drop (block_slots * n) words)) in
+    let block = map payload_of (take block_subframes (drop (block_subframes * n) words)) in
     ap (flat_map f) (blocks-more n words)
     ∙ flat_map-append f (blocks_in n words) (block ∷ [])
     ∙ ap₂ ◌++◌ (line-octets s n words) (append-nil (f block))

@@ -7,7 +7,7 @@ use Rattle.std.proofs.lemmas.List.{drop_more, get_or-append-add, get_or_append_l
 use Rattle.std.proofs.lemmas.Slice.{take-put_mid}
 use Rattle.std.proofs.Math.Seq.{take-add}
 use borrow.Rule.Slice.PartMut.{put_mid}
-use Rattle.aes3_forms_words.specs.declared.form.Words.{Words}
+use Rattle.aes3_forms_words.specs.declared.alsa_am824.Words.{Words}
 use Rattle.aes3_forms_words.specs.Forms.{own_word}
 use Rattle.aes3_forms_words.specs.Lists.{each_word}
 use Rattle.aes3_forms_words.proofs.EachWord.{each-append, length-each}

@@ -1,7 +1,7 @@
 -- How long samples in a form are.
 use Rattle.std.proofs.Common.{◌≡◌, ℕ, zero, suc, ◌*◌, List, [], ◌∷◌, length, refl, arith, length-append}
-use Rattle.aes3_forms_samples.specs.declared.format.SampleFormat.{SampleFormat}
-use Rattle.aes3_forms_samples.specs.declared.format.SampleFormat.TheVariants.{S32, S24, S24In32, S16}
+use Rattle.aes3_forms_samples.specs.declared.sample_format.SampleFormat.{SampleFormat}
+use Rattle.aes3_forms_samples.specs.declared.sample_format.SampleFormat.TheVariants.{S32, S24, S24In32, S16}
 use Rattle.aes3_forms_samples.specs.Formats.{block_len, fours, narrow_one, narrowed, sample_len}
 
 fours-len : (f : ℕ → ℕ → ℕ → ℕ → List ℕ) (k : ℕ) → ((a b c d : ℕ) → length (f a b c d) ≡ k) → (n : ℕ) (xs : List ℕ)

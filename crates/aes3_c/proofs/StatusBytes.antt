@@ -1,7 +1,8 @@
 -- The bytes of a channel status, and the fields that stand in them.
 use Rattle.std.proofs.Common.{◌≡◌, ℕ, zero, suc, ◌+◌, ◌/◌, ◌%◌, ◌^◌, ◌<◌, ◌≤◌, List, [], ◌∷◌, length, take, drop}
 use Rattle.std.proofs.Common.{get_or, refl, sym, ap, ap₂, ◌∙◌, arith}
-use Rattle.aes3_status.specs.Bits.{field, number}
+use Rattle.aes3_bits.specs.Bits.{number}
+use Rattle.aes3_status.specs.Bits.{field}
 use Rattle.aes3_status.proofs.BitFields.{drop-bytes, four-bytes}
 
 -- some items from one on

@@ -3,8 +3,8 @@ use Rattle.std.proofs.Common.{◌≡◌, ℕ, ◌+◌, List, [], take, drop, sym
 use Rattle.std.proofs.Common.{Option, Some, None, Ok, Err}
 use Rattle.std.proofs.lemmas.List.{take_all}
 use Rattle.aes3_wave.specs.declared.chunk.WaveHeader.{WaveHeader}
-use Rattle.aes3_wave.specs.declared.error.HeaderError.{HeaderError}
-use Rattle.aes3_wave.specs.declared.state.HeaderReader.{HeaderReader}
+use Rattle.aes3_wave.specs.declared.header_error.HeaderError.{HeaderError}
+use Rattle.aes3_wave.specs.declared.reader.HeaderReader.{HeaderReader}
 use Rattle.aes3_wave.specs.Following.{Follows, IsRefused, Took, header_of}
 use Rattle.aes3_wave.specs.Headers.{Judged, judged}
 use Rattle.aes3_wave.proofs.Parts.{decided-stays}

@@ -7,12 +7,12 @@ use Rattle.std.proofs.lemmas.Bool.{eqb-true}
 use Rattle.std.proofs.lemmas.List.{get_or_append_left, get_or-append-add}
 use Rattle.aes3_wave.specs.declared.chunk.Known.{Known}
 use Rattle.aes3_wave.specs.declared.chunk.WaveHeader.{WaveHeader}
-use Rattle.aes3_wave.specs.declared.error.HeaderError.{HeaderError}
-use Rattle.aes3_wave.specs.declared.format.Container.{Container}
-use Rattle.aes3_wave.specs.declared.format.Container.TheVariants.{Octets1, Octets2, Octets3, Octets4}
-use Rattle.aes3_wave.specs.declared.format.WaveFormat.{WaveFormat}
-use Rattle.aes3_wave.specs.declared.format.Width.{Width}
-use Rattle.aes3_wave.specs.declared.format.Width.TheVariants.{Bits8, Bits16, Bits20, Bits24, Bits32}
+use Rattle.aes3_wave.specs.declared.header_error.HeaderError.{HeaderError}
+use Rattle.aes3_wave.specs.declared.wave_format.Container.{Container}
+use Rattle.aes3_wave.specs.declared.wave_format.Container.TheVariants.{Octets1, Octets2, Octets3, Octets4}
+use Rattle.aes3_wave.specs.declared.wave_format.WaveFormat.{WaveFormat}
+use Rattle.aes3_wave.specs.declared.wave_format.Width.{Width}
+use Rattle.aes3_wave.specs.declared.wave_format.Width.TheVariants.{Bits8, Bits16, Bits20, Bits24, Bits32}
 use Rattle.aes3_wave.specs.Chunks.{content_len}
 use Rattle.aes3_wave.specs.Formats.{container_len}
 use Rattle.aes3_wave.specs.Headers.{header_at, judged, named, named_in, samples_len}

@@ -4,8 +4,8 @@ use Rattle.std.proofs.lemmas.Bool.{cases_eq}
 use Rattle.std.proofs.lemmas.List.{places}
 use borrow.Rule.Slice.PartMut.{put_mid}
 use Rattle.aes3_frame.specs.Files.{word_bytes}
-use Rattle.aes3_wave.specs.declared.format.WaveFormat.{WaveFormat}
-use Rattle.aes3_wave.specs.declared.samples.Channels.{Channels}
+use Rattle.aes3_wave.specs.declared.wave_format.WaveFormat.{WaveFormat}
+use Rattle.aes3_wave.specs.declared.channels.Channels.{Channels}
 use Rattle.aes3_wave.specs.Samples.{two_samples}
 use Rattle.aes3_c.specs.Wav.{ArePairs, frame_at, pair_at}
 

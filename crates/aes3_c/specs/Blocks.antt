@@ -2,11 +2,11 @@
 use Rattle.std.specs.Prelude.{ℕ, List, Bool, ◌*◌, ◌/◌, ◌==◌, ◌≡◌, ◌≢◌, ◌<◌, ◌≤◌, drop, false, get_or, if◌then◌else◌}
 use Rattle.std.specs.Prelude.{map, min, take, true}
 use Rattle.aes3_cell.specs.Packed.{octets_of}
-use Rattle.aes3_forms_samples.specs.declared.format.SampleFormat.{SampleFormat}
-use Rattle.aes3_forms_samples.specs.declared.format.SampleFormat.TheVariants.{S32, S24, S24In32, S16}
+use Rattle.aes3_forms_samples.specs.declared.sample_format.SampleFormat.{SampleFormat}
+use Rattle.aes3_forms_samples.specs.declared.sample_format.SampleFormat.TheVariants.{S32, S24, S24In32, S16}
 use Rattle.aes3_forms_samples.specs.Formats.{block_len, narrowed, widened}
-use Rattle.aes3_forms_words.specs.declared.form.Words.{Words}
-use Rattle.aes3_forms_words.specs.declared.form.Words.TheVariants.{Own, Alsa, Am824}
+use Rattle.aes3_forms_words.specs.declared.alsa_am824.Words.{Words}
+use Rattle.aes3_forms_words.specs.declared.alsa_am824.Words.TheVariants.{Own, Alsa, Am824}
 use Rattle.aes3_forms_words.specs.Forms.{own_word}
 use Rattle.aes3_forms_words.specs.Lists.{each_word, written_of}
 use Rattle.aes3_frame.specs.Blocks.{block_cells}

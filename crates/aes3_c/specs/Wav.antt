@@ -3,15 +3,15 @@ use Rattle.std.specs.Prelude.{ℕ, Bool, List, ◌+◌, ◌*◌, ◌-◌, ◌/�
 use Rattle.std.specs.Prelude.{Option, Some, None, Ok, Err, if◌then◌else◌, min, nat_lt}
 use Rattle.aes3_frame.specs.Files.{word_bytes}
 use Rattle.aes3_wave.specs.declared.chunk.WaveHeader.{WaveHeader}
-use Rattle.aes3_wave.specs.declared.error.Cause.{Cause}
-use Rattle.aes3_wave.specs.declared.error.Cause.TheVariants.{NotRiff, NotWave, ShortSizes, ShortFormat, NotPcm, NoChannels}
-use Rattle.aes3_wave.specs.declared.error.Cause.TheVariants.{WrongBits, WrongFrame, NoFormat, Ended}
-use Rattle.aes3_wave.specs.declared.format.Container.{Container}
-use Rattle.aes3_wave.specs.declared.format.Container.TheVariants.{Octets1, Octets2, Octets3, Octets4}
-use Rattle.aes3_wave.specs.declared.format.WaveFormat.{WaveFormat}
-use Rattle.aes3_wave.specs.declared.format.Width.{Width}
-use Rattle.aes3_wave.specs.declared.format.Width.TheVariants.{Bits8, Bits16, Bits20, Bits24, Bits32}
-use Rattle.aes3_wave.specs.declared.samples.Channels.{Channels}
+use Rattle.aes3_wave.specs.declared.header_error.Cause.{Cause}
+use Rattle.aes3_wave.specs.declared.header_error.Cause.TheVariants.{NotRiff, NotWave, ShortSizes, ShortFormat, NotPcm, NoChannels}
+use Rattle.aes3_wave.specs.declared.header_error.Cause.TheVariants.{WrongBits, WrongFrame, NoFormat, Ended}
+use Rattle.aes3_wave.specs.declared.wave_format.Container.{Container}
+use Rattle.aes3_wave.specs.declared.wave_format.Container.TheVariants.{Octets1, Octets2, Octets3, Octets4}
+use Rattle.aes3_wave.specs.declared.wave_format.WaveFormat.{WaveFormat}
+use Rattle.aes3_wave.specs.declared.wave_format.Width.{Width}
+use Rattle.aes3_wave.specs.declared.wave_format.Width.TheVariants.{Bits8, Bits16, Bits20, Bits24, Bits32}
+use Rattle.aes3_wave.specs.declared.channels.Channels.{Channels}
 use Rattle.aes3_wave.specs.declared.written.Depth.{Depth}
 use Rattle.aes3_wave.specs.declared.written.Depth.TheVariants.{Sixteen, TwentyFour, ThirtyTwo}
 use Rattle.aes3_wave.specs.Formats.{container_len, frame_len}

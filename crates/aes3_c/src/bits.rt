@@ -43,7 +43,7 @@ impl ChannelBits {
 /// Puts these bits of a channel, of the block of these words, into `bits`. Returns 384, or the
 /// number of the first word that is not valid, or 385 if the channel is neither 1 nor 2. In both
 /// other cases `bits` is unchanged.
-#[tactic(auto, unfolding(aes3_frame::specs::Blocks::block_slots))]
+#[tactic(auto, unfolding(aes3_frame::specs::Blocks::block_subframes))]
 fn put_bits(words: &[u32; 384], channel: u8, kind: ChannelBits, bits: &mut [u8; 24]) -> u32
     ensures { PutsBits (bits_of kind) words.now channel bits.old bits.new result }
 {
@@ -62,7 +62,7 @@ fn put_bits(words: &[u32; 384], channel: u8, kind: ChannelBits, bits: &mut [u8; 
 /// Sets these bits of a channel in the block of these words, and the parity bits; nothing else
 /// changes. Returns 384, or the number of the first word that is not valid, or 385 if the channel
 /// is neither 1 nor 2. In both other cases `words` is unchanged.
-#[tactic(auto, unfolding(aes3_frame::specs::Blocks::block_slots))]
+#[tactic(auto, unfolding(aes3_frame::specs::Blocks::block_subframes))]
 fn set_bits(words: &mut [u32; 384], channel: u8, kind: ChannelBits, bits: &[u8; 24]) -> u32
     ensures { SetsBits (with_bits_of kind) words.old words.new channel bits.now result }
 {

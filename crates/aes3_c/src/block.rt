@@ -14,7 +14,7 @@ use aes3_block::{Block, Channel, fill_block_cells};
 /// word for each subframe. Returns 384, or the number of the first word that is not valid; then
 /// `cells` is unchanged.
 #[unsafe(no_mangle)]
-#[tactic(auto, unfolding(aes3_frame::specs::Blocks::block_slots))]
+#[tactic(auto, unfolding(aes3_frame::specs::Blocks::block_subframes))]
 pub extern "C" fn aes3_encode_block(words: &[u32; 384], before: u8, cells: &mut [u64; 384]) -> u32
     ensures cells { result ≡ 384 → flat_map word_cells cells.new
         ≡ block_cells (level_of before) (map payload_of words.now) }

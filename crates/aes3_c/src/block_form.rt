@@ -11,7 +11,9 @@ ghost use Rattle.aes3_frame.specs.Files.{block_bytes};
 ghost use Rattle.aes3_frame.specs.Samples.{block_samples};
 ghost use Rattle.aes3_c.specs.Blocks.{form_len, octets_in, sample_form, words_form};
 
-use aes3_block::{BLOCK_BYTES, Block, SLOTS, bytes_of_block, fill_block_cells, samples_of_block};
+use aes3_block::{
+    BLOCK_BYTES, Block, SUBFRAMES, bytes_of_block, fill_block_cells, samples_of_block,
+};
 use aes3_cell::{Level, octets_of_word};
 use aes3_forms_samples::SampleFormat;
 use aes3_forms_words::{Words, write_words};
@@ -54,7 +56,7 @@ pub(crate) fn sample_form(number: u8) -> SampleFormat
 }
 
 /// Puts the octets of words of cells.
-fn put_octets(cells: &[u64; SLOTS], octets: &mut [u8])
+fn put_octets(cells: &[u64; SUBFRAMES], octets: &mut [u8])
     requires { length octets.old ≡ CELL_OCTETS }
     ensures { octets.new ≡ octets_of (flat_map word_cells cells.now) }
 {
@@ -68,7 +70,7 @@ fn put_cells(block: &Block, before: Level, octets: &mut [u8])
     requires { length octets.old ≡ CELL_OCTETS }
     ensures { octets.new ≡ octets_of (block_cells before block.now) }
 {
-    let mut cells = [0; SLOTS];
+    let mut cells = [0; SUBFRAMES];
     fill_block_cells(before, block, &mut cells);
     put_octets(&cells, octets);
 }

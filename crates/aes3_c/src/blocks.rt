@@ -12,14 +12,14 @@ ghost use Rattle.aes3_c.specs.declared.block_form.BlockForm.TheVariants.{Cells};
 
 use crate::block_form::BlockForm;
 use crate::level::level_of_byte;
-use aes3_block::{Block, SLOTS};
+use aes3_block::{Block, SUBFRAMES};
 
 /// Puts the block of these words.
 ///
 /// # Errors
 /// The number of the first word that no block file may have; then no octet is put.
-#[tactic(auto, unfolding(aes3_frame::specs::Blocks::block_slots))]
-fn put_block(words: &[u32; SLOTS], form: BlockForm, octets: &mut [u8]) -> Result<(), usize>
+#[tactic(auto, unfolding(aes3_frame::specs::Blocks::block_subframes))]
+fn put_block(words: &[u32; SUBFRAMES], form: BlockForm, octets: &mut [u8]) -> Result<(), usize>
     requires { length octets.old ≡ form_len form }
     ensures put { IfOk result (λ _. octets.new ≡ octets_in form (map payload_of words.now)) }
     ensures right { IfOk result (λ _. (i : ℕ) → i < 384
@@ -52,16 +52,16 @@ pub(crate) fn put_blocks(words: &[u32], form: BlockForm, octets: &mut [u8]) -> u
         ≡ drop (form_len form * (result / 384)) octets.old }
 {
     let len = form.len();
-    let count = (words.len() / SLOTS).min(octets.len() / len);
+    let count = (words.len() / SUBFRAMES).min(octets.len() / len);
     let mut at = 0;
     for i in 0..count {
-        let block = words[SLOTS * i..].first_chunk().unwrap();
+        let block = words[SUBFRAMES * i..].first_chunk().unwrap();
         if let Err(word) = put_block(block, form, &mut octets[at..at + len]) {
-            return SLOTS * i + word;
+            return SUBFRAMES * i + word;
         }
         at += len;
     }
-    SLOTS * count
+    SUBFRAMES * count
 }
 
 /// Puts the cells of the blocks of these words, one block behind the other, as octets: eight cells

@@ -10,7 +10,7 @@ ghost use Rattle.aes3_c.specs.declared.block_form.BlockForm.TheVariants.{Samples
 
 use crate::block_form::{BlockForm, sample_form};
 use crate::blocks::put_blocks;
-use aes3_block::{BLOCK_BYTES, Block, SLOTS};
+use aes3_block::{BLOCK_BYTES, Block, SUBFRAMES};
 use aes3_forms_samples::SampleFormat;
 
 /// Puts the samples of the blocks of these words in a form, the lowest octet first: 1 for 24 bits in
@@ -32,7 +32,7 @@ pub extern "C" fn aes3_samples_of_blocks(words: &[u32], form: u8, octets: &mut [
 }
 
 /// The words of the block of these samples.
-fn sampled_words(octets: &[u8], form: SampleFormat) -> [u32; SLOTS]
+fn sampled_words(octets: &[u8], form: SampleFormat) -> [u32; SUBFRAMES]
     requires { length octets.now ≡ block_len form }
     ensures payloads { map payload_of result
         ≡ map payload_of_sample (words_of (widened form octets.now)) }
@@ -60,12 +60,12 @@ pub extern "C" fn aes3_blocks_of_samples(octets: &[u8], form: u8, words: &mut [u
 {
     let format = sample_form(form);
     let len = format.block_len();
-    let count = (words.len() / SLOTS).min(octets.len() / len);
+    let count = (words.len() / SUBFRAMES).min(octets.len() / len);
     let mut at = 0;
     for i in 0..count {
         let block = sampled_words(&octets[at..at + len], format);
-        words[SLOTS * i..SLOTS * i + SLOTS].copy_from_slice(&block);
+        words[SUBFRAMES * i..SUBFRAMES * i + SUBFRAMES].copy_from_slice(&block);
         at += len;
     }
-    SLOTS * count
+    SUBFRAMES * count
 }

@@ -30,7 +30,7 @@ fn put_samples(words: &[u32; 384], samples: &mut [u32; 384])
 /// lowest 8 (AES3-1, IEC 60958-1). Returns 384, or the number of the first word that is not valid;
 /// then `samples` is unchanged.
 #[unsafe(no_mangle)]
-#[tactic(auto, unfolding(aes3_frame::specs::Blocks::block_slots))]
+#[tactic(auto, unfolding(aes3_frame::specs::Blocks::block_subframes))]
 pub extern "C" fn aes3_block_samples(words: &[u32; 384], samples: &mut [u32; 384]) -> u32
     ensures samples { result ≡ 384 → samples.new ≡ map sample_of (map payload_of words.now) }
 
@@ -66,7 +66,7 @@ fn octets_of_samples(samples: &[u32; 384]) -> [u8; BLOCK_BYTES]
 /// audio of a subframe is the highest 24 bits of its sample (AES3-1, IEC 60958-1). The lowest 8
 /// bits are ignored, and V, U and C are 0.
 #[unsafe(no_mangle)]
-#[tactic(auto, unfolding(aes3_frame::specs::Blocks::block_slots))]
+#[tactic(auto, unfolding(aes3_frame::specs::Blocks::block_subframes))]
 pub extern "C" fn aes3_block_of_samples(samples: &[u32; 384], words: &mut [u32; 384])
     ensures payloads { map payload_of words.new ≡ map payload_of_sample samples.now }
     ensures lawful { (i : ℕ) → i < 384 → is_lawful (get_or words.new i 0) ≡ true }

@@ -13,7 +13,7 @@ ghost use Rattle.aes3_c.specs.declared.block_form.BlockForm.TheVariants.{Subfram
 use crate::block_form::{BlockForm, words_form};
 use crate::blocks::put_blocks;
 use crate::wav_samples::word_of_sample;
-use aes3_block::{BLOCK_BYTES, Block, SLOTS};
+use aes3_block::{BLOCK_BYTES, Block, SUBFRAMES};
 use aes3_forms_words::Words;
 
 /// Puts the words of the blocks of these words in a form, four octets a word: 1 for ALSA's
@@ -34,12 +34,12 @@ pub extern "C" fn aes3_subframes_of_blocks(words: &[u32], form: u8, octets: &mut
 }
 
 /// The words of a block that these octets are read as.
-fn own_words(octets: &[u8], form: Words) -> [u32; SLOTS]
+fn own_words(octets: &[u8], form: Words) -> [u32; SUBFRAMES]
     requires { length octets.now ≡ BLOCK_BYTES }
     ensures { flat_map word_bytes result ≡ each_word (own_word form) 0 octets.now }
 {
-    let mut own = [0; SLOTS];
-    for slot in 0..SLOTS {
+    let mut own = [0; SUBFRAMES];
+    for slot in 0..SUBFRAMES {
         let at = 4 * slot;
         let word = [octets[at], octets[at + 1], octets[at + 2], octets[at + 3]];
         own[slot] = word_of_sample(&form.read_word(slot, word));
@@ -51,9 +51,9 @@ fn own_words(octets: &[u8], form: Words) -> [u32; SLOTS]
 ///
 /// # Errors
 /// The number of the first word that no block file may have; then no word is put.
-#[tactic(auto, unfolding(aes3_frame::specs::Blocks::block_slots))]
-fn put_words(own: &[u32; SLOTS], words: &mut [u32]) -> Result<(), usize>
-    requires { length words.old ≡ SLOTS }
+#[tactic(auto, unfolding(aes3_frame::specs::Blocks::block_subframes))]
+fn put_words(own: &[u32; SUBFRAMES], words: &mut [u32]) -> Result<(), usize>
+    requires { length words.old ≡ SUBFRAMES }
     ensures put { IfOk result (λ _. words.new ≡ own.now) }
     ensures right { IfOk result (λ _. (i : ℕ) → i < 384 → is_lawful (get_or own.now i 0) ≡ true) }
     ensures within { IfErr result (λ n. n < 384) }
@@ -88,13 +88,13 @@ pub extern "C" fn aes3_blocks_of_subframes(octets: &[u8], form: u8, words: &mut 
         ≡ drop (384 * (result / 384)) words.old }
 {
     let read = words_form(form);
-    let count = (words.len() / SLOTS).min(octets.len() / BLOCK_BYTES);
+    let count = (words.len() / SUBFRAMES).min(octets.len() / BLOCK_BYTES);
     for i in 0..count {
         let at = BLOCK_BYTES * i;
         let own = own_words(&octets[at..at + BLOCK_BYTES], read);
-        if let Err(word) = put_words(&own, &mut words[SLOTS * i..SLOTS * i + SLOTS]) {
-            return SLOTS * i + word;
+        if let Err(word) = put_words(&own, &mut words[SUBFRAMES * i..SUBFRAMES * i + SUBFRAMES]) {
+            return SUBFRAMES * i + word;
         }
     }
-    SLOTS * count
+    SUBFRAMES * count
 }

@@ -4,7 +4,7 @@ ghost use Rattle.std.specs.Prelude.{◌≡◌, ◌≢◌, ◌<◌, ◌≤◌, �
 ghost use Rattle.std.specs.Prelude.{drop, length, take};
 ghost use Rattle.std.specs.Option.{ForSome};
 ghost use Rattle.aes3_wave.specs.declared.chunk.WaveHeader.{WaveHeader};
-ghost use Rattle.aes3_wave.specs.declared.error.HeaderError.{HeaderError};
+ghost use Rattle.aes3_wave.specs.declared.header_error.HeaderError.{HeaderError};
 ghost use Rattle.aes3_wave.specs.Following.{Follows};
 ghost use Rattle.aes3_wave.specs.Headers.{judged};
 ghost use Rattle.aes3_wave.specs.Written.{written};

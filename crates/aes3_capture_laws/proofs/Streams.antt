@@ -6,7 +6,7 @@ use Rattle.std.proofs.lemmas.Bool.{cases_eq}
 use Rattle.aes3_slot.specs.declared.mark.Mark.TheVariants.{X}
 use Rattle.aes3_slot.specs.Slots.{slots_len, with_parity}
 use Rattle.aes3_slot.proofs.Subframes.{length-with_parity, odd_ones-with_parity}
-use Rattle.aes3_frame.specs.Blocks.{block_runs, block_slots, mark_at, IsBlock}
+use Rattle.aes3_frame.specs.Blocks.{block_runs, block_subframes, mark_at, IsBlock}
 use Rattle.aes3_frame.proofs.FileLaws.{each-block}
 use Rattle.aes3_frame.proofs.Runs.{Each27}
 use Rattle.aes3_lock.proofs.LawfulPieces.{each27-in, payloads_in, stream_marks, stream-runs}
@@ -31,7 +31,7 @@ x-at zero e h = absurd (omega (arith, h))
 x-at (suc j) e h = let o : j % 2 ≡ 1 = omega (arith, e) in rw o refl
 
 have-x : HaveX stream_marks
-unfolding block_slots
+unfolding block_subframes
 have-x q = go (cases_eq (q % 384) 0) (cases_eq (q % 384) 383) (cases_eq (q % 384 % 2) 0)
   where
     go : (q % 384 ≡ 0) ⊎ (q % 384 ≡ 0 → ⊥) → (q % 384 ≡ 383) ⊎ (q % 384 ≡ 383 → ⊥) → (q % 384 % 2 ≡ 0) ⊎ (q % 384 % 2 ≡ 0 → ⊥)

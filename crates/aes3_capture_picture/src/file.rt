@@ -1,7 +1,7 @@
 //! The file that a picture is written to.
 
-use std::alloc::AllocError;
-use std::fs::{self, File, OpenOptions};
+use aes3_files::PartFile;
+use std::fs::{self, File};
 use std::io::{self, Error, ErrorKind, Read, Write};
 
 /// How a picture begins.
@@ -25,56 +25,27 @@ pub enum PictureFault {
 
 /// The file that a picture is written to. Until the picture is complete, the file has another name.
 #[derive(Drop)]
-pub struct PictureFile<'a> {
-    name: &'a str,
-    /// The name until then. `None` if the name is that of something else than a file, such as a pipe
-    /// or a device.
-    part: Option<String>,
+pub struct PictureFile {
+    part: PartFile,
     file: File,
 }
 
-impl<'a> PictureFile<'a> {
+impl PictureFile {
     /// Creates the file. A file that exists and is no picture is never replaced: it may be the
     /// capture.
     ///
     /// # Errors
     /// Why it can't.
-    pub fn create(rt: &HostRuntime, name: &'a str) -> Result<Self, PictureFault> {
+    pub fn create(rt: &HostRuntime, name: &str) -> Result<Self, PictureFault> {
         if name == STANDARD {
             return Err(PictureFault::Standard);
         }
-        match fs::symlink_metadata(rt, name) {
-            Ok(kept) if !kept.is_file() => return PictureFile::open(rt, name),
-            Ok(_) => check_picture(rt, name)?,
-            Err(_) => {}
-        }
-        let part = match part_name(rt, name) {
-            Ok(part) => part,
-            Err(_) => return Err(PictureFault::Memory),
+        check_name(rt, name)?;
+        let Ok(part) = PartFile::new(rt, name) else {
+            return Err(PictureFault::Memory);
         };
-        match File::create_new(rt, part.as_str()) {
-            Ok(file) => Ok(PictureFile {
-                name,
-                part: Some(part),
-                file,
-            }),
-            Err(error) => Err(PictureFault::System(error)),
-        }
-    }
-
-    /// Opens something else than a file. A link to a file is rejected.
-    fn open(rt: &HostRuntime, name: &'a str) -> Result<Self, PictureFault> {
-        match fs::metadata(rt, name) {
-            Ok(kept) if kept.is_file() => return Err(PictureFault::Other),
-            Ok(_) => {}
-            Err(error) => return Err(PictureFault::System(error)),
-        }
-        match OpenOptions::new().write(true).open(rt, name) {
-            Ok(file) => Ok(PictureFile {
-                name,
-                part: None,
-                file,
-            }),
+        match part.create(rt) {
+            Ok(file) => Ok(PictureFile { part, file }),
             Err(error) => Err(PictureFault::System(error)),
         }
     }
@@ -84,37 +55,40 @@ impl<'a> PictureFile<'a> {
     /// # Errors
     /// The system's reason. Then the file is removed.
     pub fn finish(self, rt: &HostRuntime, text: &str) -> io::Result<()> {
-        let PictureFile { name, part, file } = self;
+        let PictureFile { part, file } = self;
         let mut file = file;
-        let written = file.write_all(text.as_bytes());
-        let Some(part) = part else {
-            return written;
-        };
-        let kept = match written {
-            Ok(()) => fs::rename(rt, part.as_str(), name),
-            Err(error) => Err(error),
-        };
-        if kept.is_err() {
-            fs::remove_file(rt, part.as_str()).unwrap_or(());
+        match file.write_all(text.as_bytes()) {
+            Ok(()) => part.keep(rt),
+            Err(error) => {
+                part.remove(rt);
+                Err(error)
+            }
         }
-        kept
     }
 
     /// Removes the file, if no picture is to be written.
     pub fn remove(self, rt: &HostRuntime) {
-        let PictureFile { part, .. } = self;
-        if let Some(part) = part {
-            fs::remove_file(rt, part.as_str()).unwrap_or(());
-        }
+        self.part.remove(rt);
     }
 }
 
-/// The name that a file has until it is complete.
-fn part_name(rt: &HostRuntime, name: &str) -> Result<String, AllocError> {
-    let mut part = String::new(rt.alloc());
-    part.push_str(name)?;
-    part.push_str(".part")?;
-    Ok(part)
+/// Checks that a picture may have this name: no file has it, or one that may be replaced, and it is
+/// no link to a file.
+fn check_name(rt: &HostRuntime, name: &str) -> Result<(), PictureFault> {
+    match fs::symlink_metadata(rt, name) {
+        Ok(kept) if kept.is_file() => check_picture(rt, name),
+        Ok(_) => check_no_file(rt, name),
+        Err(_) => Ok(()),
+    }
+}
+
+/// Checks that something else than a file is no link to a file.
+fn check_no_file(rt: &HostRuntime, name: &str) -> Result<(), PictureFault> {
+    match fs::metadata(rt, name) {
+        Ok(kept) if kept.is_file() => Err(PictureFault::Other),
+        Ok(_) => Ok(()),
+        Err(error) => Err(PictureFault::System(error)),
+    }
 }
 
 /// Checks that a file may be replaced: it is empty, or begins as a picture.

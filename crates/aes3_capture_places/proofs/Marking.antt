@@ -1,6 +1,6 @@
 -- Marks of a recovery: they are made, and they stay.
 use Rattle.std.proofs.Common.{ℕ, List, [], ◌++◌, ◌≡◌, ◌≤◌, ◌<◌, ◌+◌, ◌*◌, Option, Some, inl, inr, refl, sym, ap, ◌∙◌}
-use Rattle.std.proofs.Common.{◌≢◌, IfOk, OnErr, Result, Ok, Err, append-nil, append_assoc, arith, get_or, length, length-append, replicate, set, subst}
+use Rattle.std.proofs.Common.{◌≢◌, append-nil, append_assoc, arith, get_or, length, length-append, replicate, set, subst}
 use Rattle.std.proofs.Common.{true, true≢false}
 use Rattle.std.proofs.lemmas.Bool.{cases_lt}
 use Rattle.std.proofs.lemmas.List.{get_or-set_other, get_or-set_same}
@@ -146,11 +146,6 @@ pub marks-stay : (known : Option ℕ) (levels more : List Level) (kept : List Ma
     → ((i : ℕ) → i < 4096 → IsMark known levels (get_or kept i no_mark))
     → (i : ℕ) → i < 4096 → IsMark known (levels ++ more) (get_or kept i no_mark)
 marks-stay known levels more kept all i few = mark-stays known levels more (get_or kept i no_mark) (all i few)
-
--- a call that would have told a fault, had there been one
-pub ok-unless : {R E : Type 0} {P : Type 0} (result : Result R E) → OnErr result (0 ≡ 0 + 1) → IfOk result (λ x. P) → P
-ok-unless (Ok v) none is = is
-ok-unless (Err e) none is = absurd (omega (arith, none))
 
 -- no more samples wait than were taken
 pub waits-less : (known : Option ℕ) (levels : List Level) (octets : List ℕ) (now : Recovery)

@@ -5,18 +5,18 @@ ghost use Rattle.aes3_capture_places.specs.Marks.{IsFirst, IsLast, IsPlaced, bet
 ghost use Rattle.aes3_capture_places.specs.declared.marks.Mark.{Mark};
 
 /// How many marks are kept.
-pub const KEPT: usize = 4096;
+const KEPT: usize = 4096;
 
 /// The first `cells` cells of a line are those of the first `samples` samples.
 #[derive(Clone, Copy)]
-pub struct Mark {
+pub(crate) struct Mark {
     pub cells: u64,
     pub samples: u64,
 }
 
 /// The latest marks of a line.
 #[derive(Drop)]
-pub struct Marks {
+pub(crate) struct Marks {
     kept: [Mark; KEPT],
     /// The one that is replaced next.
     next: usize,
@@ -25,7 +25,7 @@ pub struct Marks {
 
 impl Marks {
     /// Marks of a line before its first cell and its first sample.
-    pub fn new() -> Self
+    pub(crate) fn new() -> Self
         ensures { (i : ℕ) → i < 4096 → get_or result.kept i no_mark ≡ no_mark }
     {
         Marks {
@@ -38,7 +38,7 @@ impl Marks {
     }
 
     /// Keeps a mark in place of the oldest.
-    pub fn add(&mut self, mark: Mark)
+    pub(crate) fn add(&mut self, mark: Mark)
         ensures kept { self.new.kept ≡ set self.old.kept self.old.next mark }
         ensures next { self.new.next ≡ (self.old.next + 1) % 4096 }
     {
@@ -48,7 +48,7 @@ impl Marks {
 
     /// The sample of a cell, between the last mark before the cell and the first after it. `None` if
     /// one of them is not kept.
-    pub fn sample_of(&self, cell: u64) -> Option<u64>
+    pub(crate) fn sample_of(&self, cell: u64) -> Option<u64>
         ensures place { IfSome result (IsPlaced self.now.kept cell) }
         ensures none { IfNone result (IsLast self.now.kept 4096 cell None ⊎ IsFirst self.now.kept 4096 cell None) }
     {
@@ -58,7 +58,7 @@ impl Marks {
     }
 
     /// The last mark up to the cell.
-    pub fn last_before(&self, cell: u64) -> Option<Mark>
+    pub(crate) fn last_before(&self, cell: u64) -> Option<Mark>
         ensures { IsLast self.now.kept 4096 cell result }
     {
         let mut last: Option<Mark> = None;

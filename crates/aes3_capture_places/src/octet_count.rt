@@ -7,7 +7,7 @@ use aes3_octet_log::{Given, Log};
 
 /// Counts the octets that it is given, and keeps none. It never fails.
 #[derive(Drop)]
-pub struct OctetCount {
+pub(crate) struct OctetCount {
     octets: u64,
     given: Log,
     ghost counted: { octets ≡ min (length given.octets) (2 ^ 64 - 1) },
@@ -15,7 +15,7 @@ pub struct OctetCount {
 
 impl OctetCount {
     /// A sink that was given nothing.
-    pub fn new() -> Self
+    pub(crate) fn new() -> Self
         ensures { result.given.octets ≡ [] }
     {
         OctetCount {
@@ -25,7 +25,7 @@ impl OctetCount {
     }
 
     /// How many octets it was given, 2^64 - 1 at most.
-    pub fn octets(&self) -> u64
+    pub(crate) fn octets(&self) -> u64
         ensures { result ≡ min (length self.now.given.octets) (2 ^ 64 - 1) }
     {
         self.octets

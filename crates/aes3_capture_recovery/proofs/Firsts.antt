@@ -5,7 +5,7 @@ use Rattle.std.proofs.lemmas.Nat.{div_below, le-div}
 use Rattle.aes3_capture.specs.declared.bounds.Bounds.{Bounds}
 use Rattle.aes3_capture.specs.Captures.{sum_to}
 use Rattle.aes3_capture.proofs.Telescope.{sum-next}
-use Rattle.aes3_capture_recovery.specs.declared.measure.Anchor.{Anchor}
+use Rattle.aes3_capture_recovery.specs.declared.period.Anchor.{Anchor}
 use Rattle.aes3_capture_recovery.specs.Finding.{AreCapturedRuns, AreEnds, IsFindable, IsFirst, IsSix}
 use Rattle.aes3_capture_recovery.specs.Measuring.{place_at}
 use Rattle.aes3_capture_recovery.proofs.Captured.{IsLong, between-edges, longest-has-three, run-long, three-is-some, three-not-too-long}

@@ -33,6 +33,7 @@ pub mod WordBits
 pub mod EndBytes
 pub mod Queueing
 pub mod States
+pub mod Unfailing
 pub mod Periods
 mod Captured
 mod Firsts

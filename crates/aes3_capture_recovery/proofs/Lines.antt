@@ -5,7 +5,7 @@ use Rattle.std.proofs.lemmas.Bool.{cases_lt}
 use Rattle.std.proofs.lemmas.List.{get_or-set_other, get_or-set_same}
 use Rattle.std.specs.Option.{unwrap_or}
 use Rattle.std.specs.Prelude.{Bool, IsTrue, nat_le}
-use Rattle.aes3_capture_recovery.specs.declared.measure.Anchor.{Anchor}
+use Rattle.aes3_capture_recovery.specs.declared.period.Anchor.{Anchor}
 use Rattle.aes3_capture.specs.declared.bounds.Bounds.{Bounds}
 use Rattle.aes3_capture.specs.declared.follower.Follower.{Follower}
 use Rattle.aes3_capture.specs.Captures.{IsAbout}

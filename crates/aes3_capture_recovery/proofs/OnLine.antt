@@ -14,7 +14,7 @@ use Rattle.aes3_capture_recovery.specs.Keeping.{IsKept, IsOnLine, StaysKept, Sta
 use Rattle.aes3_capture_recovery.specs.Recovering.{runs_to_end}
 use Rattle.aes3_capture_recovery.specs.RecoverySteps.{Noted, distance_of}
 use Rattle.aes3_capture_recovery.specs.Runs.{EdgeCame, NoEdgeCame, levels_in}
-use Rattle.aes3_capture_recovery.specs.declared.edges.Piece.{Piece}
+use Rattle.aes3_capture_recovery.specs.declared.levels.Piece.{Piece}
 use Rattle.aes3_capture_recovery.specs.declared.recovery.Recovery.{Recovery}
 use Rattle.aes3_capture_recovery.specs.declared.recovery.State.TheVariants.{Following}
 use Rattle.aes3_capture_recovery.proofs.Keeping.{kept-next, kept-short}

@@ -6,7 +6,7 @@ use Rattle.std.proofs.lemmas.List.{take_all}
 use Rattle.aes3_capture.specs.declared.bounds.Bounds.{Bounds}
 use Rattle.aes3_capture.specs.Captures.{AreDisplaced, IsAbout, sum_to}
 use Rattle.aes3_capture.proofs.Telescope.{apart}
-use Rattle.aes3_capture_recovery.specs.declared.measure.Anchor.{Anchor}
+use Rattle.aes3_capture_recovery.specs.declared.period.Anchor.{Anchor}
 use Rattle.aes3_capture_recovery.specs.Finding.{AllowsCells, AreCapturedRuns, AreEnds, AreOfALine, IsFirst, IsLikeAPreamble, IsPeriodOf, sums_to}
 use Rattle.aes3_capture_recovery.proofs.Captured.{IsLong, between-edges, fewer, four-long, run-long, same-lateness}
 use Rattle.aes3_capture_recovery.proofs.Firsts.{sum-grows}

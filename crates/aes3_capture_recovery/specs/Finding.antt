@@ -5,7 +5,7 @@ use Rattle.aes3_capture.specs.declared.follower.Follower.{Follower}
 use Rattle.aes3_capture.specs.Captures.{AreDisplaced, IsAbout, IsBetween, SpreadsLate, sum_to}
 use Rattle.aes3_capture.specs.Directions.{IsAt, IsBorne, IsWider}
 use Rattle.aes3_capture.specs.Following.{CountedAll}
-use Rattle.aes3_capture_recovery.specs.declared.measure.Anchor.{Anchor}
+use Rattle.aes3_capture_recovery.specs.declared.period.Anchor.{Anchor}
 use Rattle.aes3_capture_recovery.specs.Measuring.{place_at, places_from, preambles_from}
 
 -- These runs of samples have these runs of cells, each cell as `narrow` says; a follower with these bounds bears how far the edges lie

@@ -5,10 +5,10 @@ use Rattle.aes3_capture_recovery.specs.Levels.{AreWhole, bit_of_line, bits_of_sa
 use Rattle.aes3_capture_recovery.specs.Taking.{Took, TookAll}
 use Rattle.aes3_capture_recovery.specs.declared.levels.Unit.{Unit}
 use Rattle.aes3_capture_recovery.specs.declared.recovery.Recovery.{Recovery}
-use Rattle.aes3_capture_recovery.specs.declared.run.Progress.{Progress}
-use Rattle.aes3_capture_recovery.specs.declared.run.Progress.TheVariants.{Ended, Paused}
-use Rattle.aes3_capture_recovery.specs.declared.run.Refusal.{Refusal}
-use Rattle.aes3_capture_recovery.specs.declared.run.Refusal.TheVariants.{Read, Write}
+use Rattle.aes3_capture_recovery.specs.declared.recovery_run.Progress.{Progress}
+use Rattle.aes3_capture_recovery.specs.declared.recovery_run.Progress.TheVariants.{Ended, Paused}
+use Rattle.aes3_capture_recovery.specs.declared.recovery_run.Refusal.{Refusal}
+use Rattle.aes3_capture_recovery.specs.declared.recovery_run.Refusal.TheVariants.{Read, Write}
 
 -- which end failed, once, by how often each had failed before and has failed now
 abbrev pub FailedAt : Refusal → ℕ → ℕ → ℕ → ℕ → Type 0

@@ -4,27 +4,24 @@
 
 /// How far edges are from their expected positions.
 mod distances;
-/// The edges of a line among the levels of its samples.
-mod edges;
-/// The levels of a line among samples of several lines.
+/// The places of edges among the levels of many samples, found before the edges are followed.
+mod edge_places;
+/// The levels of a line among samples of several lines, and the edges among them.
 mod levels;
 /// A line followed from an edge on, from the levels of its samples to its cells.
 mod line_follower;
 /// The length of a cell and the position of a line's grid, measured from the samples between edges.
-mod measure;
-/// The places of edges among the levels of many samples, found before the edges are followed.
-mod places;
+mod period;
 /// A queue of cells for a sink.
 mod queue;
 /// Cells recovered from the levels of samples.
 mod recovery;
 /// The run from samples to cells.
-mod run;
+mod recovery_run;
 
-pub use edges::{Edges, Piece};
-pub use levels::{Unit, levels_of};
+pub use levels::{Edges, Piece, Unit, levels_of};
 pub use line_follower::{LineFollower, LineParts};
-pub use measure::{LONGEST_PERIOD, SHORTEST_PERIOD, follower_of_runs};
+pub use period::{LONGEST_PERIOD, SHORTEST_PERIOD, follower_of_runs};
 pub use queue::{CellQueue, QueueParts, bits_of_cells, put_last};
 pub use recovery::{Figures, Recovery, RecoveryParts};
-pub use run::{Progress, Refusal, feed, recover};
+pub use recovery_run::{Progress, Refusal, feed, recover};

@@ -11,14 +11,14 @@ use Rattle.aes3_capture_recovery.specs.Reading.{FailedAt, SamplesRan}
 use Rattle.aes3_capture_recovery.specs.Recovering.{Recovered}
 use Rattle.aes3_capture_recovery.specs.declared.levels.Unit.{Unit}
 use Rattle.aes3_capture_recovery.specs.declared.recovery.Recovery.{Recovery}
-use Rattle.aes3_capture_recovery.specs.declared.run.Progress.{Progress}
-use Rattle.aes3_capture_recovery.specs.declared.run.Progress.TheVariants.{Ended, Paused}
-use Rattle.aes3_capture_recovery.specs.declared.run.Refusal.{Refusal}
-use Rattle.aes3_capture_recovery.specs.declared.run.Refusal.TheVariants.{Read, Write}
+use Rattle.aes3_capture_recovery.specs.declared.recovery_run.Progress.{Progress}
+use Rattle.aes3_capture_recovery.specs.declared.recovery_run.Progress.TheVariants.{Ended, Paused}
+use Rattle.aes3_capture_recovery.specs.declared.recovery_run.Refusal.{Refusal}
+use Rattle.aes3_capture_recovery.specs.declared.recovery_run.Refusal.TheVariants.{Read, Write}
 use Rattle.aes3_capture_runs.specs.Runs.{AnswerRan, AreCellsOf, EndSaid, IsNothing, IsSaid, IsSaidBefore}
 use Rattle.aes3_capture_runs.specs.Runs.{LinesTold, memory_text, refusal_text, setting_of}
 use Rattle.aes3_capture_runs.specs.Lines.{bit_line, no_line_text}
-use Rattle.aes3_capture_runs.specs.declared.line.Job.{Job}
+use Rattle.aes3_capture_runs.specs.declared.capture_job.Job.{Job}
 use Rattle.aes3_capture_runs.proofs.Telling.{paused-apart}
 
 -- what a recovery of which nothing came takes

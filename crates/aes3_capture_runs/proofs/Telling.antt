@@ -17,10 +17,10 @@ use Rattle.aes3_capture_recovery.specs.declared.levels.Unit.{Unit}
 use Rattle.aes3_capture_recovery.specs.declared.levels.Unit.TheVariants.{Octets, Pairs}
 use Rattle.aes3_capture_recovery.specs.declared.recovery.Figures.{Figures}
 use Rattle.aes3_capture_recovery.specs.declared.recovery.Recovery.{Recovery}
-use Rattle.aes3_capture_recovery.specs.declared.run.Progress.{Progress}
-use Rattle.aes3_capture_recovery.specs.declared.run.Progress.TheVariants.{Ended, Paused}
-use Rattle.aes3_capture_recovery.specs.declared.run.Refusal.{Refusal}
-use Rattle.aes3_capture_recovery.specs.declared.run.Refusal.TheVariants.{Read, Write}
+use Rattle.aes3_capture_recovery.specs.declared.recovery_run.Progress.{Progress}
+use Rattle.aes3_capture_recovery.specs.declared.recovery_run.Progress.TheVariants.{Ended, Paused}
+use Rattle.aes3_capture_recovery.specs.declared.recovery_run.Refusal.{Refusal}
+use Rattle.aes3_capture_recovery.specs.declared.recovery_run.Refusal.TheVariants.{Read, Write}
 use Rattle.aes3_capture_recovery.proofs.SampleLevels.{levels-join, levels-nothing}
 use Rattle.aes3_capture_recovery.proofs.Taking.{took-is, took-join, took-none}
 use Rattle.aes3_capture_runs.specs.Lines.{IsFiguresLine}

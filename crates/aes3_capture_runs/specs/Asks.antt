@@ -9,7 +9,7 @@ use Rattle.aes3_cell.specs.declared.form.Form.TheVariants as form
 use Rattle.aes3_cli.specs.Options.{Options, file_by}
 use Rattle.aes3_capture_runs.specs.CellsLine.{cells_line}
 use Rattle.aes3_capture_runs.specs.Values.{bit_in, frequency_in, octets_in, period_in}
-use Rattle.aes3_capture_runs.specs.declared.line.Job.{Job}
+use Rattle.aes3_capture_runs.specs.declared.capture_job.Job.{Job}
 
 -- which of two answers a flag chooses: one where it stands, and one where it does not
 pub record IsChosen {A : Type 0} (options : Options) (flag : Text) (standing left_out answer : A) : Type 0 where

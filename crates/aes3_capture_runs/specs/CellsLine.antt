@@ -3,8 +3,8 @@ use Rattle.std.specs.Prelude.{[], ◌∷◌, codes, map}
 use Rattle.clap.specs.Walk.{Rule}
 use Rattle.clap.specs.Simple.{App}
 use Rattle.aes3_cli.specs.CommandLine.{file, flag, packed_out, program_with, text_option}
-use Rattle.aes3_capture_runs.specs.declared.argument.Argument.{Argument}
-use Rattle.aes3_capture_runs.specs.declared.argument.Argument.TheVariants.{Rate, At, Unit, Bit, PackedOut, Tell, Places, Picture, File}
+use Rattle.aes3_capture_runs.specs.declared.capture_argument.Argument.{Argument}
+use Rattle.aes3_capture_runs.specs.declared.capture_argument.Argument.TheVariants.{Rate, At, Unit, Bit, PackedOut, Tell, Places, Picture, File}
 
 -- the options and values
 abbrev pub rule : Argument → Rule

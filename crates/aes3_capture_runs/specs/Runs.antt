@@ -14,12 +14,12 @@ use Rattle.aes3_capture_recovery.specs.Taking.{RecoveredAll, WritesLine}
 use Rattle.aes3_capture_recovery.specs.declared.levels.Unit.{Unit}
 use Rattle.aes3_capture_recovery.specs.declared.recovery.Figures.{Figures}
 use Rattle.aes3_capture_recovery.specs.declared.recovery.Recovery.{Recovery}
-use Rattle.aes3_capture_recovery.specs.declared.run.Progress.{Progress}
-use Rattle.aes3_capture_recovery.specs.declared.run.Refusal.{Refusal}
-use Rattle.aes3_capture_recovery.specs.declared.run.Refusal.TheVariants.{Read, Write}
+use Rattle.aes3_capture_recovery.specs.declared.recovery_run.Progress.{Progress}
+use Rattle.aes3_capture_recovery.specs.declared.recovery_run.Refusal.{Refusal}
+use Rattle.aes3_capture_recovery.specs.declared.recovery_run.Refusal.TheVariants.{Read, Write}
 use Rattle.aes3_capture_runs.specs.Lines.{IsFiguresLine, IsFoundText, bit_line, no_line_text}
 use Rattle.aes3_capture_runs.specs.Samples.{unit_of_job}
-use Rattle.aes3_capture_runs.specs.declared.line.Job.{Job}
+use Rattle.aes3_capture_runs.specs.declared.capture_job.Job.{Job}
 use Rattle.aes3_cli.specs.declared.unread.Unread.{Unread}
 use Rattle.aes3_cli.specs.declared.unread.Unread.TheVariants as unread
 

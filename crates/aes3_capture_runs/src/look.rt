@@ -1,7 +1,7 @@
 //! What the first samples of a capture show if no line is found in it.
 
-use crate::line::unit_of;
-use crate::search::is_line;
+use crate::capture_job::unit_of;
+use crate::line_bit::is_line;
 use aes3_capture_recovery::Unit;
 use std::alloc::{AllocError, Global};
 
@@ -47,7 +47,7 @@ impl Look {
     ///
     /// # Errors
     /// `AllocError` if there is no memory.
-    pub fn why(&self, alloc: Global) -> Result<String, AllocError> {
+    pub fn reason(&self, alloc: Global) -> Result<String, AllocError> {
         let bit = bit_of(self.unit);
         let samples = self.samples;
         match (self.edges, self.toggling, self.other_unit) {

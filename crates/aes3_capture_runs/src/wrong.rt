@@ -3,7 +3,7 @@
 ghost use Rattle.std.specs.Prelude.{◌≡◌, IfOk};
 ghost use Rattle.aes3_capture_runs.specs.Faults.{IsFaultFor, reason, wrong_text};
 
-use crate::help::PROGRAM;
+use crate::capture_help::PROGRAM;
 use aes3_cli::LineFault;
 use aes3_cli::wording::add_usage;
 use std::alloc::{AllocError, Global};

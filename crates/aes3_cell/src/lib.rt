@@ -5,6 +5,8 @@
 mod attempts;
 /// A sink that gathers the bytes for another one.
 mod buffered;
+/// Reading cell text.
+mod cell_text;
 /// The counts of a run.
 mod counts;
 /// Words of cells as octets, eight words at once.
@@ -30,7 +32,7 @@ mod packed_out;
 /// Octets of packed cells as words of cells, many at once.
 mod packed_words;
 /// Why a run is rejected.
-mod refusal;
+mod run_error;
 /// Cells among separators, 64 bytes at once.
 mod scattered;
 /// A sink in memory that takes few bytes in a call, for tests.
@@ -39,14 +41,8 @@ mod short;
 mod some_cells;
 /// Sources and sinks over std's readers and writers.
 mod standard;
-/// Reading cell text.
-mod text_in;
-/// Lines of cell text.
-mod text_lines;
 /// Writing cell text.
 mod text_out;
-/// The words of cells at the front of text, with lines of any length.
-mod text_words;
 /// Words of 64 cells, their line of text and their octets.
 mod word;
 /// Words of cells written in either form.
@@ -55,6 +51,7 @@ mod written;
 pub use aes3_level::Level;
 pub use attempts::{Reader, Trouble, Writer};
 pub use buffered::BufferedSink;
+pub use cell_text::{CellText, LINES, TextFront};
 pub use counts::Counts;
 pub use endless::EndlessSource;
 pub use ends::{Fault, Sink, Source, write_all};
@@ -65,13 +62,10 @@ pub use memory::{MemorySink, MemorySource};
 pub use packed_in::PackedIn;
 pub use packed_out::PackedOut;
 pub use packed_words::words_of_octets;
-pub use refusal::{BadCell, BadPadding, RunError};
+pub use run_error::{BadCell, BadPadding, RunError};
 pub use short::ShortSink;
 pub use some_cells::SomeCells;
 pub use standard::{StdSink, StdSource};
-pub use text_in::CellText;
-pub use text_lines::LINES;
 pub use text_out::TextOut;
-pub use text_words::TextFront;
 pub use word::{LINE_LEN, line_of_word, octets_of_word, word_of_octets, word_of_text};
 pub use written::{put_ending, put_word, put_words};

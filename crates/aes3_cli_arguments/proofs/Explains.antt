@@ -6,7 +6,7 @@ use Rattle.std.proofs.lemmas.Slice.Eq.{bytes_eq-Decides}
 use Rattle.clap.specs.Walk.{Text}
 use Rattle.aes3_cli_arguments.specs.Explained.{AsksToExplain, CanBeExplained, IsExplanation, asks_to_explain}
 use Rattle.aes3_cli_arguments.specs.Jobs.{AskNothing, IsFaultOf}
-use Rattle.aes3_cli_arguments.specs.declared.job.LineFault.{LineFault}
+use Rattle.aes3_cli_arguments.specs.declared.command_job.LineFault.{LineFault}
 
 -- not more than one
 pub many : (words : List (Bor Text)) → 1 < length words → ¬ CanBeExplained (map (λ word. word.now) words)

@@ -3,9 +3,9 @@ use Rattle.std.specs.Prelude.{ℕ, Bool, List, [], ◌∷◌, ◌++◌, ◌≡�
 use Rattle.std.specs.Prelude.{false}
 use Rattle.std.specs.Str.{bytes_eq}
 use Rattle.clap.specs.Walk.{Text}
-use Rattle.aes3_cell.specs.declared.refusal.RunError.TheVariants.{Memory}
-use Rattle.aes3_cli_arguments.specs.declared.job.LineFault.{LineFault}
-use Rattle.aes3_cli_arguments.specs.declared.job.LineFault.TheVariants as fault
+use Rattle.aes3_cell.specs.declared.run_error.RunError.TheVariants.{Memory}
+use Rattle.aes3_cli_arguments.specs.declared.command_job.LineFault.{LineFault}
+use Rattle.aes3_cli_arguments.specs.declared.command_job.LineFault.TheVariants as fault
 
 -- the text writes the number of a refusal, from 1 to 15
 abbrev pub IsRefusalNumber : Text → ℕ → Type 0

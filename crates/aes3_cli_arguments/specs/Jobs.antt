@@ -17,13 +17,13 @@ use Rattle.clap.specs.declared.error.kind.ErrorKind.{ErrorKind}
 use Rattle.clap.specs.declared.error.kind.ErrorKind.TheVariants.{DisplayHelp, DisplayVersion, OutOfMemory}
 use Rattle.aes3_cell.specs.declared.form.Form.{Form}
 use Rattle.aes3_cell.specs.declared.form.Form.TheVariants as form
-use Rattle.aes3_cell.specs.declared.refusal.RunError.TheVariants.{BadStatusText, Inexact, Memory}
+use Rattle.aes3_cell.specs.declared.run_error.RunError.TheVariants.{BadStatusText, Inexact, Memory}
 use Rattle.aes3_frame.specs.declared.fill.Fill.{Fill}
 use Rattle.aes3_frame.specs.declared.fill.Fill.TheVariants.{Zero, Hold}
-use Rattle.aes3_frame.specs.declared.status.Channel.{Channel}
-use Rattle.aes3_frame.specs.declared.status.Channel.TheVariants.{First, Second}
-use Rattle.aes3_status.specs.declared.carried.CarriedBits.{CarriedBits}
-use Rattle.aes3_status.specs.declared.carried.CarriedBits.TheVariants.{Validity, User, Status}
+use Rattle.aes3_frame.specs.declared.channel.Channel.{Channel}
+use Rattle.aes3_frame.specs.declared.channel.Channel.TheVariants.{First, Second}
+use Rattle.aes3_frame.specs.declared.carried.CarriedBits.{CarriedBits}
+use Rattle.aes3_frame.specs.declared.carried.CarriedBits.TheVariants.{Validity, User, Status}
 use Rattle.aes3_status.specs.declared.change.Change.{Change}
 use Rattle.aes3_status.specs.declared.setting.Settings.{Settings}
 use Rattle.aes3_status.specs.Settings.{set_all}
@@ -31,7 +31,7 @@ use Rattle.aes3_status.specs.TakingAll.{takes_all}
 use Rattle.aes3_status_text.specs.Choices.{choices}
 use Rattle.aes3_status_text.specs.Settings.{AreSettingsOf, IsSettingsFault}
 use Rattle.aes3_status_text.specs.Untaken.{texts_of}
-use Rattle.aes3_status_text.specs.declared.typed.TypedSettings.{TypedSettings}
+use Rattle.aes3_status_text.specs.declared.typed_settings.TypedSettings.{TypedSettings}
 use Rattle.aes3_status_text.specs.declared.listed.SettingsFault.{SettingsFault}
 use Rattle.aes3_status_text.specs.declared.listed.SettingsFault.TheVariants.{Unknown, TooMany}
 use Rattle.aes3_status_text.specs.declared.detail.Detail.{Detail}
@@ -41,15 +41,15 @@ use Rattle.aes3_status_text.specs.declared.lines.Lines.TheVariants as lines
 use Rattle.aes3_status_text.specs.declared.style.Notation.{Notation}
 use Rattle.aes3_status_text.specs.declared.style.Notation.TheVariants as notation
 use Rattle.aes3_status_text.specs.declared.style.Style.{Style}
-use Rattle.aes3_forms_samples.specs.declared.format.SampleFormat.{SampleFormat}
-use Rattle.aes3_forms_samples.specs.declared.format.SampleFormat.TheVariants as format
-use Rattle.aes3_wave.specs.declared.samples.Channels.{Channels}
-use Rattle.aes3_wave.specs.declared.samples.Mono.{Mono}
-use Rattle.aes3_wave.specs.declared.samples.Mono.TheVariants as mono
+use Rattle.aes3_forms_samples.specs.declared.sample_format.SampleFormat.{SampleFormat}
+use Rattle.aes3_forms_samples.specs.declared.sample_format.SampleFormat.TheVariants as format
+use Rattle.aes3_wave.specs.declared.channels.Channels.{Channels}
+use Rattle.aes3_wave.specs.declared.channels.Mono.{Mono}
+use Rattle.aes3_wave.specs.declared.channels.Mono.TheVariants as mono
 use Rattle.aes3_wave.specs.declared.written.Depth.{Depth}
 use Rattle.aes3_wave.specs.declared.written.Depth.TheVariants.{Sixteen, TwentyFour, ThirtyTwo}
-use Rattle.aes3_forms_words.specs.declared.form.Words.{Words}
-use Rattle.aes3_forms_words.specs.declared.form.Words.TheVariants as word_form
+use Rattle.aes3_forms_words.specs.declared.alsa_am824.Words.{Words}
+use Rattle.aes3_forms_words.specs.declared.alsa_am824.Words.TheVariants as word_form
 use Rattle.aes3_cli.specs.CommandLine.{command_line, most_cells, most_frames, most_seconds}
 use Rattle.aes3_cli.specs.Options.{file_by, output_by}
 use Rattle.aes3_cli.specs.Wording.{EndsWithUsage, usage_end, usage_of}
@@ -70,8 +70,8 @@ use Rattle.aes3_cli_arguments.specs.declared.misuse.Misuse.TheVariants.{UnknownD
 use Rattle.aes3_cli_arguments.specs.declared.preset.Beginning.{Beginning}
 use Rattle.aes3_cli_arguments.specs.declared.preset.Beginning.TheVariants.{OfEachBlock, Unclaimed}
 use Rattle.aes3_cli_arguments.specs.declared.misuse.Misuse.TheVariants.{TwoDetails, UnknownWords, UnknownFormat, UnknownPreset, UnknownRate}
-use Rattle.aes3_cli_arguments.specs.declared.job.LineFault.{LineFault}
-use Rattle.aes3_cli_arguments.specs.declared.job.LineFault.TheVariants as fault
+use Rattle.aes3_cli_arguments.specs.declared.command_job.LineFault.{LineFault}
+use Rattle.aes3_cli_arguments.specs.declared.command_job.LineFault.TheVariants as fault
 
 -- the options of a command, by their names: the values that the words give them, or their defaults
 abbrev pub Options : Type 0

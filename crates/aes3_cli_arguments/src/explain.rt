@@ -4,7 +4,7 @@ ghost use Rattle.std.specs.Prelude.{◌≡◌, ◌++◌, [], ◌∷◌, List, �
 ghost use Rattle.aes3_cli_arguments.specs.Explained.{CanBeExplained, IsExplanation, IsRefusalNumber, advice_of};
 ghost use Rattle.aes3_cli_arguments.specs.Explained.{asks_to_explain};
 
-use crate::job::LineFault;
+use crate::command_job::LineFault;
 use itoa::Buffer;
 use std::alloc::{AllocError, Global};
 

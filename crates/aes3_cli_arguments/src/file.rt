@@ -2,8 +2,8 @@
 
 ghost use Rattle.std.specs.Prelude.{◌≡◌, IfErr, IfOk, None};
 
-use crate::job::LineFault;
-use crate::line::CommandLine;
+use crate::command_job::LineFault;
+use crate::command_line::CommandLine;
 
 /// The file that a line reads instead of standard input; `None` if the line is rejected.
 pub fn file_of_line<'a>(line: &Result<CommandLine<'a>, LineFault>) -> Option<&'a str>

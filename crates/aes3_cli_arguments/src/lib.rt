@@ -2,8 +2,12 @@
 //! job.
 #![tactic(auto)]
 
-/// What `to-bits` does.
-mod carried;
+/// The job of a command with its options.
+mod command_job;
+/// What the words ask for.
+mod command_line;
+/// How lines of events are written.
+mod event_style;
 /// What errors mean: the texts of `--explain`.
 mod explain;
 /// The file that a command's options name.
@@ -12,28 +16,24 @@ mod file;
 mod format;
 /// The sampling frequency for a status.
 mod frequency;
-/// The job of a command with its options.
-mod job;
 /// The layout of the octets of packed cells.
 mod layout;
-/// What the words ask for.
-mod line;
 /// Misuse of options that are valid each by itself.
 mod misuse;
 /// The status that a channel begins with.
 mod preset;
 /// The errors for invalid settings.
 mod refusals;
-/// What `to-pcm` does.
-mod samples;
+/// Settings as typed.
+mod setting_texts;
 /// What `show` does.
 mod show;
 /// Channel status in hexadecimal.
 mod status_text;
-/// How lines of events are written.
-mod style;
-/// Settings as typed.
-mod typed;
+/// What `to-bits` does.
+mod to_bits;
+/// What `to-pcm` does.
+mod to_pcm;
 /// The values that the options of a command have.
 mod value;
 /// What `watch` does.
@@ -43,9 +43,9 @@ mod wave;
 /// The form of a block file's words.
 mod words;
 
+pub use command_job::LineFault;
+pub use command_line::{CommandLine, job_of_words, line_of_words};
 pub use explain::{advice, asks_to_explain, explanation};
 pub use file::{file_of_line, output_of_line};
-pub use job::LineFault;
 pub use layout::Octets;
-pub use line::{CommandLine, job_of_words, line_of_words};
 pub use status_text::status_of_text;

@@ -7,13 +7,13 @@ ghost use Rattle.aes3_cli_arguments.specs.Jobs.{fills_valid_samples, has_exact_a
 ghost use Rattle.aes3_cli_arguments.specs.Jobs.{has_marked_unfilled, has_two_files};
 ghost use Rattle.aes3_cli_arguments.specs.Jobs.{misuse_line, misuse_text, options_of};
 
-use crate::carried::bits_of_text;
+use crate::command_job::LineFault;
+use crate::event_style::rate;
 use crate::format::has_unknown_format;
 use crate::frequency::has_unknown_rate;
-use crate::job::LineFault;
 use crate::preset::has_unknown_preset;
-use crate::samples::{fill, has_unknown_filling};
-use crate::style::rate;
+use crate::to_bits::bits_of_text;
+use crate::to_pcm::{fill, has_unknown_filling};
 use crate::value::{flag, number_if_given};
 use crate::wave::{
     has_preset_beside_use, has_unknown_channels, has_unknown_depth, has_unknown_mono,

@@ -3,7 +3,7 @@
 ghost use Rattle.std.specs.Prelude.{◌≡◌, codes};
 ghost use Rattle.aes3_cli_arguments.specs.Jobs.{AreTaken, AsksToRead, every_by, options_of};
 
-use crate::style::{rate, style};
+use crate::event_style::{rate, style};
 use crate::value::number_if_given;
 use aes3_cli_jobs::ReadWork;
 use clap::ArgMatches;

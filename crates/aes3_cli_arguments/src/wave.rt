@@ -8,9 +8,9 @@ ghost use Rattle.aes3_cli_arguments.specs.Jobs.{has_unknown_depth, has_unknown_m
 ghost use Rattle.aes3_cli_arguments.specs.Jobs.{is_professional, mono_by, mono_in, mono_named};
 ghost use Rattle.aes3_cli_arguments.specs.Jobs.{options_of, use_in, use_named};
 
+use crate::event_style::rate;
 use crate::preset::preset;
-use crate::samples::fill;
-use crate::style::rate;
+use crate::to_pcm::fill;
 use crate::value::flag;
 use aes3_cli_jobs::ReadWork;
 use aes3_wave::{Channels, Depth, Mono};

@@ -7,11 +7,12 @@ use crate::work::{ReadWork, StreamWork};
 use aes3_cell::Form;
 use aes3_forms_samples::SampleFormat;
 use aes3_forms_words::Words;
+use aes3_frame::BLOCK_BYTES;
 use aes3_status::Change;
 use aes3_wave::{Channels, Mono};
 
 /// How many bytes of a block file make a block: 384 words of four bytes.
-const BLOCK_FILE_LEN: u64 = 1536;
+const BLOCK_FILE_LEN: u64 = BLOCK_BYTES as u64;
 
 /// How many bytes of packed cells make a block: 24,576 cells, eight in each byte.
 const PACKED_LEN: u64 = 3072;

@@ -5,8 +5,8 @@ ghost use Rattle.aes3_cli_jobs.specs.Forms.{read_finds_faults, wave_depth};
 
 use aes3_forms_samples::SampleFormat;
 use aes3_forms_words::Words;
-use aes3_frame::{Channel, Fill};
-use aes3_status::{CarriedBits, Change};
+use aes3_frame::{CarriedBits, Channel, Fill};
+use aes3_status::Change;
 use aes3_status_text::{Detail, Lines, Notation, Style};
 use aes3_wave::Depth;
 

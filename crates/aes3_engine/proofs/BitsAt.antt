@@ -4,14 +4,14 @@ use Rattle.std.proofs.Common.{refl, ap, ap₂, ◌∙◌, arith, get_or-set_same
 use Rattle.std.proofs.lemmas.List.{length-set, take-set-le}
 use Rattle.aes3_bits.specs.Bits.{number}
 use Rattle.aes3_slot.specs.Slots.{IsPayload, payload_len}
-use Rattle.aes3_frame.specs.declared.status.Channel.{Channel}
-use Rattle.aes3_frame.specs.declared.status.Channel.TheVariants.{First, Second}
+use Rattle.aes3_frame.specs.declared.channel.Channel.{Channel}
+use Rattle.aes3_frame.specs.declared.channel.Channel.TheVariants.{First, Second}
 use Rattle.aes3_frame.specs.Blocks.{IsBlock}
 use Rattle.aes3_frame.specs.Samples.{sample_of}
 use Rattle.aes3_frame.specs.Subframes.{audio_len}
 use Rattle.aes3_frame.specs.Statuses.{bits_at, bits_of_bytes, bytes_in, status_len, with_bits_at}
 use Rattle.aes3_block.specs.Laws.{other_channel}
-use Rattle.aes3_frame.proofs.BlockLemmas.{block_slots_384}
+use Rattle.aes3_frame.proofs.BlockLemmas.{block_subframes_384}
 use Rattle.aes3_frame.proofs.Runs.{Each27}
 use Rattle.aes3_frame.proofs.Each.{each-payload, all-payloads}
 use Rattle.aes3_frame.proofs.StatusBits.{length-bits_of_bytes}
@@ -103,7 +103,7 @@ pub all-read : (place : ℕ) (channel : Channel) (b : List (List Bool)) (bit : B
     → bytes_in status_len (bits_at place (with_bits_at place channel b (bits_of_bytes (all_bits bit))) channel)
     ≡ all_bits bit
 all-read place channel b bit w h =
-    let n = block_slots_384 in
+    let n = block_subframes_384 in
     let c = h.count in
     let l = length-all bit in
     let k = length-bits_of_bytes (all_bits bit) in

@@ -4,9 +4,9 @@ use Rattle.std.proofs.Common.{sym, ap, ap₂, subst, ◌∙◌, ◌/◌, arith, 
 use Rattle.std.specs.Option.{unwrap_or}
 use Rattle.std.proofs.lemmas.List.{length-map, length-set}
 use Rattle.std.specs.List.{All}
-use Rattle.aes3_frame.specs.declared.status.Channel.{Channel}
-use Rattle.aes3_frame.specs.declared.status.Channel.TheVariants.{First, Second}
-use Rattle.aes3_frame.specs.Blocks.{IsBlock, block_slots}
+use Rattle.aes3_frame.specs.declared.channel.Channel.{Channel}
+use Rattle.aes3_frame.specs.declared.channel.Channel.TheVariants.{First, Second}
+use Rattle.aes3_frame.specs.Blocks.{IsBlock, block_subframes}
 use Rattle.aes3_frame.specs.Files.{payload_of}
 use Rattle.aes3_frame.specs.Statuses.{bits_of_bytes, bytes_in, status_len, status_of, status_place, with_bits, with_status}
 use Rattle.aes3_frame.proofs.Each.{all-payloads}
@@ -31,7 +31,7 @@ unfolding payload_len
 each-word [] = tt
 each-word (w ∷ words) = (length-low_bits 27 (w / 16), each-word words)
 
-pub block-of-words : (words : List ℕ) (b : List (List Bool)) → length words ≡ block_slots → map payload_of words ≡ b
+pub block-of-words : (words : List ℕ) (b : List (List Bool)) → length words ≡ block_subframes → map payload_of words ≡ b
     → IsBlock b
 block-of-words words b l e = record {
   count = ap length (sym e) ∙ length-map words payload_of ∙ l;

@@ -4,17 +4,17 @@ use Rattle.std.proofs.Common.{Option, Some, None, length, take, get_or, refl, sy
 use Rattle.std.proofs.Common.{append_assoc, append-nil}
 use Rattle.std.proofs.lemmas.List.{take_all}
 use Rattle.aes3_level.specs.declared.level.Level.TheVariants.{Low}
-use Rattle.aes3_cell.specs.declared.refusal.RunError.{RunError}
-use Rattle.aes3_cell.specs.declared.refusal.RunError.TheVariants.{BadCell, BadLength, BadCode, BadParity, Read, Write}
-use Rattle.aes3_cell.specs.declared.refusal.RunError.TheVariants.{TooLong, Memory, BadStatusText, BadPadding, BadSample}
-use Rattle.aes3_cell.specs.declared.refusal.RunError.TheVariants.{SoundHeader, Inexact}
+use Rattle.aes3_cell.specs.declared.run_error.RunError.{RunError}
+use Rattle.aes3_cell.specs.declared.run_error.RunError.TheVariants.{BadCell, BadLength, BadCode, BadParity, Read, Write}
+use Rattle.aes3_cell.specs.declared.run_error.RunError.TheVariants.{TooLong, Memory, BadStatusText, BadPadding, BadSample}
+use Rattle.aes3_cell.specs.declared.run_error.RunError.TheVariants.{SoundHeader, Inexact}
 use Rattle.aes3_cell.specs.declared.counts.Counts.{Counts}
 use Rattle.aes3_cell.specs.declared.form.Form.{Form}
 use Rattle.aes3_cell.specs.Written.{bytes_of, ending, written}
 use Rattle.aes3_cell.proofs.WrittenForms.{bytes-nothing, written-whole}
 use Rattle.aes3_block.specs.declared.file.FileFault.{FileFault}
 use Rattle.aes3_block.specs.declared.file.FileFault.TheVariants as fault
-use Rattle.aes3_frame.specs.Blocks.{block_slots, block_len, stream}
+use Rattle.aes3_frame.specs.Blocks.{block_subframes, block_len, stream}
 use Rattle.aes3_frame.specs.Files.{words_of, lawful_words, has_code, has_parity, file_blocks, file, IsBlockFile}
 use Rattle.aes3_block.specs.Readers.{FileReader, reader_of, byte_fault, block_with}
 use Rattle.aes3_block.specs.Refusals.{refusal_of}
@@ -153,9 +153,9 @@ cause-of : (form : Form) (b : List ℕ) (e : RunError) → first_fault (encoding
 unfolding first_fault
 cause-of form b e q = cause-behind form [] b e refl q
 
-pub end-cases : (form : Form) (b : List ℕ) → (((encoding form).end_fault b ≡ None) × (length b % (4 * block_slots) ≡ 0))
-    ⊎ (((encoding form).end_fault b ≡ Some (BadLength (length b % (4 * block_slots))))
-    × (0 < length b % (4 * block_slots)))
+pub end-cases : (form : Form) (b : List ℕ) → (((encoding form).end_fault b ≡ None) × (length b % (4 * block_subframes) ≡ 0))
+    ⊎ (((encoding form).end_fault b ≡ Some (BadLength (length b % (4 * block_subframes))))
+    × (0 < length b % (4 * block_subframes)))
 unfolding encoding
 end-cases form b = elim (end-none b) [
   | inl q ↦ inl (ap refused_at_end q.1, q.0)
@@ -198,14 +198,14 @@ pub no-end-cause : (form : Form) (b : List ℕ) (e : RunError) → ((k : ℕ) �
     → (encoding form).end_fault b ≡ Some e → ⊥
 no-end-cause form b e n q = elim (end-cases form b) [
   | inl r ↦ none-some _ (sym r.0 ∙ q)
-  | inr r ↦ n (length b % (4 * block_slots)) (same_Some _ _ (sym q ∙ r.0))
+  | inr r ↦ n (length b % (4 * block_subframes)) (same_Some _ _ (sym q ∙ r.0))
 ]
 
 pub length-cause : (form : Form) (b : List ℕ) (left : ℕ) → (encoding form).end_fault b ≡ Some (BadLength left)
-    → (left ≡ length b % (4 * block_slots)) × (0 < left)
+    → (left ≡ length b % (4 * block_subframes)) × (0 < left)
 length-cause form b left q = elim (end-cases form b) [
   | inl r ↦ absurd (none-some _ (sym r.0 ∙ q))
-  | inr r ↦ let e : left ≡ length b % (4 * block_slots) = same (length b % (4 * block_slots)) (sym q ∙ r.0) in
+  | inr r ↦ let e : left ≡ length b % (4 * block_subframes) = same (length b % (4 * block_subframes)) (sym q ∙ r.0) in
       (e, (let h = r.1 in omega arith))
 ]
   where
@@ -264,7 +264,7 @@ clean-file : (form : Form) (b : List ℕ) → first_fault (encoding form) b ≡ 
     → IsBlockFile b
 clean-file form b c e = record { whole = whole; lawful = (clean-lawful form b c).is }
   where
-    whole : length b % (4 * block_slots) ≡ 0
+    whole : length b % (4 * block_subframes) ≡ 0
     whole = elim (end-cases form b) [ inl q ↦ q.1 | inr q ↦ absurd (none-some _ (sym e ∙ q.0)) ]
 
 -- the counts of a run
@@ -277,7 +277,7 @@ pub counted : (b : List ℕ) (n blocks : ℕ) → n ≡ length b → blocks ≡ 
       unfinished = 0;
       marks = 0;
     }) (encode_counts b)
-unfolding encode_counts block_len block_slots
+unfolding encode_counts block_len block_subframes
 counted b n blocks e f = rw (e, f) refl
 
 pub starts : (file : FileReader) → file.seen ≡ 0 → file.words ≡ [] → file.bytes ≡ [] → file.fault ≡ None

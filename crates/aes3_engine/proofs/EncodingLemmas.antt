@@ -3,14 +3,14 @@ use Rattle.std.proofs.Common.{◌≡◌, ℕ, zero, suc, ◌+◌, ◌/◌, ◌�
 use Rattle.std.proofs.Common.{Result, Ok, Err, length, drop, refl, sym, ap, ◌∙◌, subst, arith, append-nil, append_assoc}
 use Rattle.std.proofs.Common.{length-append}
 use Rattle.aes3_level.specs.declared.level.Level.TheVariants.{Low}
-use Rattle.aes3_cell.specs.declared.refusal.RunError.{RunError}
+use Rattle.aes3_cell.specs.declared.run_error.RunError.{RunError}
 use Rattle.aes3_cell.specs.Ends.{Grew, GrewFront}
 use Rattle.aes3_cell.specs.declared.form.Form.{Form}
 use Rattle.aes3_cell.specs.Written.{bytes_of, ending}
 use Rattle.aes3_cell.proofs.Growing.{grew-none, grew-is, front-is}
 use Rattle.aes3_block.specs.declared.file.FileFault.{FileFault}
 use Rattle.aes3_block.specs.declared.file.FileFault.TheVariants as fault
-use Rattle.aes3_frame.specs.Blocks.{block_slots, block_cells}
+use Rattle.aes3_frame.specs.Blocks.{block_subframes, block_cells}
 use Rattle.aes3_frame.specs.Files.{words_of, lawful_words, file_blocks, blocks_in}
 use Rattle.aes3_block.specs.Readers.{FileReader, reader_of, byte_fault, block_with, TakesBlock, TakesQuietly}
 use Rattle.aes3_block.specs.Readers.{answer_with, next_with, end_answer}
@@ -214,9 +214,9 @@ encodes-seen h = ap (λ r. r.seen) h.reader
 
 length-blocks : (n : ℕ) (ws : List ℕ) → length (blocks_in n ws) ≡ n
 length-blocks zero ws = refl
-length-blocks (suc n) ws = ap suc (length-blocks n (drop block_slots ws))
+length-blocks (suc n) ws = ap suc (length-blocks n (drop block_subframes ws))
 
 pub few-blocks : (b : List ℕ) → AllLawful b → length (file_blocks b) ≤ length b / 4 / 384
-unfolding file_blocks block_slots
+unfolding file_blocks block_subframes
 few-blocks b h = let n = length-blocks (length (lawful_words b) / 384) (lawful_words b) in let m = ap length h.is in
     let k = length-words b in omega arith

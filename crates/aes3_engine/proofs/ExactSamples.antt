@@ -2,7 +2,7 @@
 use Rattle.std.proofs.Common.{◌≡◌, ◌≢◌, ℕ, List, [], ◌∷◌, ◌++◌, Bool, true, false, Option, Some, None, Result, Ok, Err}
 use Rattle.std.proofs.Common.{IfOk, map, refl, sym, ap, ◌∙◌, subst, append-nil, append_assoc, if◌then◌else◌}
 use Rattle.aes3_cell.specs.declared.form.Form.{Form}
-use Rattle.aes3_cell.specs.declared.refusal.RunError.{RunError}
+use Rattle.aes3_cell.specs.declared.run_error.RunError.{RunError}
 use Rattle.aes3_cell.specs.declared.counts.Counts.{Counts}
 use Rattle.aes3_cell.specs.Ends.{Grew, Told}
 use Rattle.aes3_cell.proofs.Growing.{grew-is}
@@ -17,8 +17,8 @@ use Rattle.aes3_input.specs.Driving.{CellRun}
 use Rattle.aes3_input.proofs.CellRuns.{cells-give}
 use Rattle.aes3_input.proofs.InputRuns.{run-err, run-ok, run-told}
 use Rattle.aes3_input.proofs.Items.{before-is}
-use Rattle.aes3_forms_samples.specs.declared.format.SampleFormat.{SampleFormat}
-use Rattle.aes3_forms_samples.specs.declared.format.SampleFormat.TheVariants.{S32, S24, S24In32, S16}
+use Rattle.aes3_forms_samples.specs.declared.sample_format.SampleFormat.{SampleFormat}
+use Rattle.aes3_forms_samples.specs.declared.sample_format.SampleFormat.TheVariants.{S32, S24, S24In32, S16}
 use Rattle.aes3_forms_samples.specs.Formats.{fits, narrowed}
 use Rattle.aes3_forms_samples.proofs.Formats.{narrowed-join, narrowed-none}
 use Rattle.aes3_lock_runs.specs.BlockRuns.{decided_blocks}

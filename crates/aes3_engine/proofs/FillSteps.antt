@@ -12,7 +12,7 @@ use Rattle.aes3_lock.specs.declared.report.Report.{Report}
 use Rattle.aes3_lock.specs.declared.report.Report.TheVariants.{Whole, Marked, Fault, Unfinished}
 use Rattle.aes3_input.specs.Taking.{before_end, with_end}
 use Rattle.aes3_input.proofs.Items.{before-is}
-use Rattle.aes3_forms_samples.specs.declared.format.SampleFormat.{SampleFormat}
+use Rattle.aes3_forms_samples.specs.declared.sample_format.SampleFormat.{SampleFormat}
 use Rattle.aes3_forms_samples.specs.Formats.{narrowed}
 use Rattle.aes3_forms_samples.proofs.Formats.{narrowed-join, narrowed-none}
 use Rattle.aes3_engine.proofs.PcmRuns.{block-whole, join-whole}

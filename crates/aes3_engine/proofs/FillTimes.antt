@@ -7,9 +7,9 @@ use Rattle.std.proofs.lemmas.List.{length-replicate, length-map}
 use Rattle.aes3_level.specs.declared.level.Level.{Level}
 use Rattle.aes3_frame.specs.declared.fill.Fill.{Fill}
 use Rattle.aes3_frame.specs.declared.fill.Fill.TheVariants.{Zero, Hold}
-use Rattle.aes3_frame.specs.Blocks.{block_len, block_slots, IsBlock}
+use Rattle.aes3_frame.specs.Blocks.{block_len, block_subframes, IsBlock}
 use Rattle.aes3_frame.specs.Samples.{block_samples, samples, sample_of}
-use Rattle.aes3_frame.proofs.BlockLemmas.{block_slots_384}
+use Rattle.aes3_frame.proofs.BlockLemmas.{block_subframes_384}
 use Rattle.aes3_lock.specs.declared.report.Report.{Report}
 use Rattle.aes3_lock.specs.declared.report.Report.TheVariants.{Whole, Marked, Fault, Unfinished}
 use Rattle.aes3_lock.specs.Reports.{reports, wholes, blocks}
@@ -26,7 +26,7 @@ use Rattle.aes3_frame.proofs.FileLaws.{length-bytes}
 -- blocks have their subframes
 abbrev pub Sized : List Placed → Type 0
 Sized [] = Unit {0}
-Sized (x ∷ more) = (length x.block ≡ block_slots) × Sized more
+Sized (x ∷ more) = (length x.block ≡ block_subframes) × Sized more
 
 sized : (r : List Report) → All IsBlock (wholes r) → Sized (placed r)
 sized [] h = tt
@@ -79,15 +79,15 @@ length-repeated (suc n) frame h =
     let l = length-repeated n frame h in
     omega arith
 
-length-block : (b : List (List Bool)) → length b ≡ block_slots → length (block_samples b) ≡ frame_bytes * block_frames
+length-block : (b : List (List Bool)) → length b ≡ block_subframes → length (block_samples b) ≡ frame_bytes * block_frames
 unfolding block_samples frame_bytes block_frames
 length-block b h =
     let l = length-bytes (map sample_of b) in
     let m = length-map b sample_of in
-    let n = block_slots_384 in
+    let n = block_subframes_384 in
     omega arith
 
-length-filling : (fill : Fill) (b : List (List Bool)) → length b ≡ block_slots
+length-filling : (fill : Fill) (b : List (List Bool)) → length b ≡ block_subframes
     → length (filling fill b) ≡ frame_bytes
 unfolding filling frame_bytes block_frames
 length-filling Zero b h = length-replicate {A = ℕ} 8 0
@@ -96,7 +96,7 @@ length-filling Hold b h =
     let d = length-drop (frame_bytes * (block_frames - 1)) (block_samples b) in
     omega arith
 
-length-between : (fill : Fill) (p : ℕ) (x y : Placed) → length x.block ≡ block_slots
+length-between : (fill : Fill) (p : ℕ) (x y : Placed) → length x.block ≡ block_subframes
     → length (between fill p x y)
     ≡ frame_bytes * (frames_between p y.place - (frames_between p x.place + block_frames))
 length-between fill p x y h =

@@ -8,7 +8,7 @@ use Rattle.std.proofs.lemmas.List.Elements.{filter-append}
 use Rattle.aes3_level.specs.declared.level.Level.{Level}
 use Rattle.aes3_slot.specs.Reading.{read_slots}
 use Rattle.aes3_frame.specs.declared.fill.Fill.{Fill}
-use Rattle.aes3_frame.specs.Blocks.{block_len, block_slots, zero_block, IsBlock}
+use Rattle.aes3_frame.specs.Blocks.{block_len, block_subframes, zero_block, IsBlock}
 use Rattle.aes3_frame.specs.Mending.{mended_payload, mended_behind, mended}
 use Rattle.aes3_lock.specs.declared.report.Ending.{Ending}
 use Rattle.aes3_lock.specs.declared.report.Ending.TheVariants.{Whole as EndsWhole, Marked as EndsMarked}
@@ -24,7 +24,7 @@ use Rattle.aes3_lock_runs.proofs.Reports.{decided-more, reports-more}
 use Rattle.aes3_lock_runs.specs.Reporting.{decided_by, decided_at_end}
 use Rattle.aes3_input.specs.Taking.{behind, before_end, with_end}
 use Rattle.aes3_input.proofs.Items.{before-is, before-join}
-use Rattle.aes3_forms_samples.specs.declared.format.SampleFormat.{SampleFormat}
+use Rattle.aes3_forms_samples.specs.declared.sample_format.SampleFormat.{SampleFormat}
 use Rattle.aes3_forms_samples.specs.Formats.{narrowed}
 use Rattle.aes3_forms_samples.proofs.Formats.{narrowed-join, narrowed-none}
 use Rattle.aes3_engine.specs.Filling.{Placed, placed, mended_from, given, is_marked, marked_given, filled}
@@ -42,19 +42,19 @@ mended-append fill c b [] q = refl
 mended-append fill c b (Whole at s own ∷ r) q =
     ap (λ (v : List Placed). record { place = at; block = own } ∷ v) (mended-append fill c own r q)
 mended-append fill c b (Marked at s wrong ∷ r) q =
-    let own = mended fill b (read_slots block_slots (drop at c)) in
+    let own = mended fill b (read_slots block_subframes (drop at c)) in
     ap (λ (v : List Placed). record { place = at; block = own } ∷ v) (mended-append fill c own r q)
 mended-append fill c b (Fault at cell why ∷ r) q = mended-append fill c b r q
 mended-append fill c b (Unfinished at cells ∷ r) q = mended-append fill c b r q
 
 -- more cells
 slots-stay : (at : ℕ) (c d : List Level) → at + block_len ≤ length c
-    → read_slots block_slots (drop at (c ++ d)) ≡ read_slots block_slots (drop at c)
+    → read_slots block_subframes (drop at (c ++ d)) ≡ read_slots block_subframes (drop at c)
 slots-stay at c d h =
     let l = length-drop at c in
     let n = block_len_64 in
-    ap (read_slots block_slots) (drop-append-le at c d (omega arith))
-    ∙ read_slots-append block_slots (drop at c) d (omega (arith, l, n, h))
+    ap (read_slots block_subframes) (drop-append-le at c d (omega arith))
+    ∙ read_slots-append block_subframes (drop at c) d (omega (arith, l, n, h))
 
 abbrev mended_then : Fill → List Level → List (List Bool) → ℕ → List Report → List (List Bool) → List Placed
 mended_then fill c b at r slots =
@@ -67,7 +67,7 @@ mended-stays fill c d b p (Whole at s own ∷ r) t =
     ap (λ (v : List Placed). record { place = at; block = own } ∷ v)
     (mended-stays fill c d own (at + block_len) r t.2)
 mended-stays fill c d b p (Marked at s wrong ∷ r) t =
-    let own = mended fill b (read_slots block_slots (drop at c)) in
+    let own = mended fill b (read_slots block_subframes (drop at c)) in
     ap (mended_then fill (c ++ d) b at r) (slots-stay at c d t.1)
     ∙ ap (λ (v : List Placed). record { place = at; block = own } ∷ v)
     (mended-stays fill c d own (at + block_len) r t.2)
@@ -175,9 +175,9 @@ length-read zero c = refl
 length-read (suc n) c = ap suc (length-read n (drop 64 c))
 
 length-mended : (fill : Fill) (b : List (List Bool)) (c : List Level)
-    → length (mended fill b (read_slots block_slots c)) ≡ block_slots
+    → length (mended fill b (read_slots block_subframes c)) ≡ block_subframes
 unfolding mended
-length-mended fill b c = length-behind fill _ _ (read_slots block_slots c) ∙ length-read block_slots c
+length-mended fill b c = length-behind fill _ _ (read_slots block_subframes c) ∙ length-read block_subframes c
 
 sized-from : (fill : Fill) (c : List Level) (b : List (List Bool)) (r : List Report) → All IsBlock (wholes r)
     → Sized (mended_from fill c b r)
@@ -203,7 +203,7 @@ count-from : (fill : Fill) (c : List Level) (b : List (List Bool)) (r : List Rep
 count-from fill c b [] = refl
 count-from fill c b (Whole at s own ∷ r) = let e = count-from fill c own r in omega arith
 count-from fill c b (Marked at s wrong ∷ r) =
-    let e = count-from fill c (mended fill b (read_slots block_slots (drop at c))) r in omega arith
+    let e = count-from fill c (mended fill b (read_slots block_subframes (drop at c))) r in omega arith
 count-from fill c b (Fault at cell why ∷ r) = count-from fill c b r
 count-from fill c b (Unfinished at cells ∷ r) = count-from fill c b r
 

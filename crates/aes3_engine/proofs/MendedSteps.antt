@@ -12,7 +12,7 @@ use Rattle.aes3_lock.specs.declared.report.Report.TheVariants.{Fault as Refuted,
 use Rattle.aes3_lock.specs.Following.{LockState, HeldBlock, report_in}
 use Rattle.aes3_lock.specs.Reports.{decided, reports}
 use Rattle.aes3_input.specs.Taking.{behind}
-use Rattle.aes3_forms_samples.specs.declared.format.SampleFormat.{SampleFormat}
+use Rattle.aes3_forms_samples.specs.declared.sample_format.SampleFormat.{SampleFormat}
 use Rattle.aes3_forms_samples.specs.Formats.{narrowed}
 use Rattle.aes3_forms_samples.proofs.Formats.{narrowed-none}
 use Rattle.aes3_engine.specs.declared.filling.Progress.{Progress}

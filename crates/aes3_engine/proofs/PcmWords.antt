@@ -5,13 +5,13 @@ use Rattle.std.proofs.Common.{inl, inr, sym, ap, ◌∙◌, arith}
 use Rattle.std.proofs.lemmas.List.{take_all}
 use Rattle.std.specs.Int.{div_ceil}
 use Rattle.std.proofs.lemmas.Bool.{cases_eq}
-use Rattle.aes3_frame.specs.Blocks.{block_slots}
+use Rattle.aes3_frame.specs.Blocks.{block_subframes}
 use Rattle.aes3_frame.specs.Files.{bytes_number, words_of}
 use Rattle.aes3_frame.specs.Sampled.{sampled, filled}
 use Rattle.aes3_frame.proofs.SampleBlocks.{length-filled, length-sampled, words-join, words-zeros}
 use Rattle.aes3_frame.proofs.Words.{length-words}
-use Rattle.aes3_forms_samples.specs.declared.format.SampleFormat.{SampleFormat}
-use Rattle.aes3_forms_samples.specs.declared.format.SampleFormat.TheVariants.{S32, S24, S24In32, S16}
+use Rattle.aes3_forms_samples.specs.declared.sample_format.SampleFormat.{SampleFormat}
+use Rattle.aes3_forms_samples.specs.declared.sample_format.SampleFormat.TheVariants.{S32, S24, S24In32, S16}
 use Rattle.aes3_forms_samples.specs.Formats.{block_len, frame_len, sample_len, widened}
 use Rattle.aes3_forms_samples.proofs.Formats.{length-widened, widened-join, widened-more, widened-whole, widened-zeros}
 use Rattle.aes3_engine.specs.Sampling.{words_in}
@@ -54,35 +54,35 @@ whole-samples S24 n h = omega arith
 whole-samples S24In32 n h = omega arith
 whole-samples S16 n h = omega arith
 
-slots-of : (pcm : SampleFormat) (n : ℕ) → n % block_len pcm ≡ 0 → n / sample_len pcm % block_slots ≡ 0
-unfolding block_len block_slots
+slots-of : (pcm : SampleFormat) (n : ℕ) → n % block_len pcm ≡ 0 → n / sample_len pcm % block_subframes ≡ 0
+unfolding block_len block_subframes
 slots-of S32 n h = omega arith
 slots-of S24 n h = omega arith
 slots-of S24In32 n h = omega arith
 slots-of S16 n h = omega arith
 
 pub whole-words : (pcm : SampleFormat) (b : List ℕ) → length b % block_len pcm ≡ 0
-    → length (words_in pcm b) % block_slots ≡ 0
-whole-words pcm b h = ap (λ n. n % block_slots) (length-in pcm b) ∙ slots-of pcm (length b) h
+    → length (words_in pcm b) % block_subframes ≡ 0
+whole-words pcm b h = ap (λ n. n % block_subframes) (length-in pcm b) ∙ slots-of pcm (length b) h
 
-few-slots : (pcm : SampleFormat) (n : ℕ) → n < block_len pcm → n / sample_len pcm < block_slots
-unfolding block_len block_slots
+few-slots : (pcm : SampleFormat) (n : ℕ) → n < block_len pcm → n / sample_len pcm < block_subframes
+unfolding block_len block_subframes
 few-slots S32 n h = omega arith
 few-slots S24 n h = omega arith
 few-slots S24In32 n h = omega arith
 few-slots S16 n h = omega arith
 
-pub few-words : (pcm : SampleFormat) (b : List ℕ) → length b < block_len pcm → length (words_in pcm b) < block_slots
+pub few-words : (pcm : SampleFormat) (b : List ℕ) → length b < block_len pcm → length (words_in pcm b) < block_subframes
 few-words pcm b h = let l = length-in pcm b in let f = few-slots pcm (length b) h in omega (l, f, arith)
 
-all-slots : (pcm : SampleFormat) → block_len pcm / sample_len pcm ≡ block_slots
-unfolding block_len block_slots
+all-slots : (pcm : SampleFormat) → block_len pcm / sample_len pcm ≡ block_subframes
+unfolding block_len block_subframes
 all-slots S32 = refl
 all-slots S24 = refl
 all-slots S24In32 = refl
 all-slots S16 = refl
 
-pub all-words : (pcm : SampleFormat) (b : List ℕ) → length b ≡ block_len pcm → length (words_in pcm b) ≡ block_slots
+pub all-words : (pcm : SampleFormat) (b : List ℕ) → length b ≡ block_len pcm → length (words_in pcm b) ≡ block_subframes
 all-words pcm b h = length-in pcm b ∙ ap (λ n. n / sample_len pcm) h ∙ all-slots pcm
 
 -- before the end of a header there is no whole block
@@ -113,18 +113,18 @@ one-block S16 n k h e = omega arith
 
 -- how many zeros fill a block up: n bytes are whole frames, of which m are whole blocks
 abbrev pub pad_of : SampleFormat → ℕ → ℕ
-pad_of pcm n = (block_slots - n / sample_len pcm % block_slots) % block_slots
+pad_of pcm n = (block_subframes - n / sample_len pcm % block_subframes) % block_subframes
 
 pub pad-is : (pcm : SampleFormat) (n m at : ℕ) → n % frame_len pcm ≡ 0 → m % block_len pcm ≡ 0 → n ≡ m + at
     → at < block_len pcm → 0 < at → block_len pcm - at ≡ sample_len pcm * pad_of pcm n
-unfolding block_len block_slots
+unfolding block_len block_subframes
 pad-is S32 n m at h w e l s = omega arith
 pad-is S24 n m at h w e l s = omega arith
 pad-is S24In32 n m at h w e l s = omega arith
 pad-is S16 n m at h w e l s = omega arith
 
 pub pad-none : (pcm : SampleFormat) (n : ℕ) → n % block_len pcm ≡ 0 → pad_of pcm n ≡ 0
-unfolding block_len block_slots
+unfolding block_len block_subframes
 pad-none S32 n h = omega arith
 pad-none S24 n h = omega arith
 pad-none S24In32 n h = omega arith
@@ -139,7 +139,7 @@ frame-samples S16 n h = omega arith
 pub filled-in : (pcm : SampleFormat) (b : List ℕ) → filled (words_in pcm b)
     ≡ words_in pcm b ++ replicate (pad_of pcm (length b)) 0
 filled-in pcm b =
-    ap (λ n. words_in pcm b ++ replicate ((block_slots - n % block_slots) % block_slots) 0) (length-in pcm b)
+    ap (λ n. words_in pcm b ++ replicate ((block_subframes - n % block_subframes) % block_subframes) 0) (length-in pcm b)
 
 pub pad-words : (pcm : SampleFormat) (b : List ℕ) → length b % frame_len pcm ≡ 0
     → filled (words_in pcm b) ≡ words_in pcm (b ++ replicate (sample_len pcm * pad_of pcm (length b)) 0)

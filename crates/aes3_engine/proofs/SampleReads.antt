@@ -12,12 +12,12 @@ use Rattle.std.proofs.lemmas.List.{get_or_append_left, take-append-drop, length-
 use Rattle.std.proofs.Math.Seq.{take-append-add}
 use Rattle.std.proofs.lemmas.List.{take-replicate}
 use Rattle.std.proofs.lemmas.List.{drop-drop, get_or-take, get_or_past, nil_from_length}
-use Rattle.aes3_cell.specs.declared.refusal.RunError.{RunError}
-use Rattle.aes3_cell.specs.declared.refusal.RunError.TheVariants.{BadLength, BadSample, SoundHeader}
+use Rattle.aes3_cell.specs.declared.run_error.RunError.{RunError}
+use Rattle.aes3_cell.specs.declared.run_error.RunError.TheVariants.{BadLength, BadSample, SoundHeader}
 use Rattle.aes3_cell.specs.Ends.{Grew, GrewFront}
 use Rattle.aes3_files.specs.Sound.{begins_sound}
 use Rattle.aes3_cell.proofs.Growing.{grew-none, grew-is, front-is}
-use Rattle.aes3_frame.specs.Blocks.{block_slots}
+use Rattle.aes3_frame.specs.Blocks.{block_subframes}
 use Rattle.aes3_frame.specs.Files.{bytes_number, words_of}
 use Rattle.aes3_frame.specs.Sampled.{payload_of_sample, sampled}
 use Rattle.aes3_frame.proofs.SampleBlocks.{sampled-join, sampled-short, sampled-one}
@@ -25,9 +25,9 @@ use Rattle.aes3_input.specs.Converting.{or_else, unless, fault_behind, out_behin
 use Rattle.aes3_input.specs.Running.{Fed, Stopped}
 use Rattle.aes3_input.proofs.Feeding.{front-longer}
 use Rattle.aes3_input.proofs.Outputs.{out-is, behind-clean, fault-clean, fault-first}
-use Rattle.aes3_forms_words.specs.declared.form.Words.{Words}
-use Rattle.aes3_forms_samples.specs.declared.format.SampleFormat.{SampleFormat}
-use Rattle.aes3_forms_samples.specs.declared.format.SampleFormat.TheVariants.{S32, S24, S24In32, S16}
+use Rattle.aes3_forms_words.specs.declared.alsa_am824.Words.{Words}
+use Rattle.aes3_forms_samples.specs.declared.sample_format.SampleFormat.{SampleFormat}
+use Rattle.aes3_forms_samples.specs.declared.sample_format.SampleFormat.TheVariants.{S32, S24, S24In32, S16}
 use Rattle.aes3_forms_samples.specs.Formats.{asks_exact, block_len, frame_len, sample_len}
 use Rattle.aes3_status.specs.declared.change.Change.{Change}
 use Rattle.aes3_engine.specs.Rewriting.{rewritten, rewritten_blocks}
@@ -47,7 +47,7 @@ use Rattle.std.proofs.lemmas.Option.{none-some, same_Some}
 abbrev pub made : SampleFormat → Words → Change → List ℕ → List ℕ
 made pcm form change b = sample_file form change (words_in pcm b)
 
-made-join : (form : Words) (change : Change) (ws vs : List ℕ) → length ws % block_slots ≡ 0
+made-join : (form : Words) (change : Change) (ws vs : List ℕ) → length ws % block_subframes ≡ 0
     → sample_file form change (ws ++ vs) ≡ sample_file form change ws ++ sample_file form change vs
 unfolding sample_file
 made-join form change ws vs h =
@@ -89,15 +89,15 @@ made-more pcm form change p h d w l =
     (sym (made-behind pcm form change p h w ∙ ap (λ z. made pcm form change p ++ z) (made-short pcm form change h l)
     ∙ append-nil (made pcm form change p)))
 
-count-rest : (n : ℕ) → n - block_slots * (n / block_slots) < block_slots
-unfolding block_slots
+count-rest : (n : ℕ) → n - block_subframes * (n / block_subframes) < block_subframes
+unfolding block_subframes
 count-rest n = omega arith
 
-count-whole : (n : ℕ) → block_slots * n % block_slots ≡ 0
-unfolding block_slots
+count-whole : (n : ℕ) → block_subframes * n % block_subframes ≡ 0
+unfolding block_subframes
 count-whole n = omega arith
 
-file-short : (form : Words) (change : Change) (ws : List ℕ) → length ws < block_slots → sample_file form change ws ≡ []
+file-short : (form : Words) (change : Change) (ws : List ℕ) → length ws < block_subframes → sample_file form change ws ≡ []
 unfolding sample_file
 file-short form change ws h = ap (λ bs. words_file form (rewritten_blocks change bs)) (sampled-short ws h)
 
@@ -105,13 +105,13 @@ pub file-more : (form : Words) (change : Change) (ws vs : List ℕ)
     → sample_file form change (ws ++ vs) ≡ sample_file form change ws ++ more_of (sample_file form change ws)
     (sample_file form change (ws ++ vs))
 file-more form change ws vs =
-    let k = block_slots * (length ws / block_slots) in
+    let k = block_subframes * (length ws / block_subframes) in
     let p = take k ws in
     let h = drop k ws in
     let e : p ++ h ≡ ws = take-append-drop k ws in
-    let w : length p % block_slots ≡ 0 = ap (λ n. n % block_slots) (length-take-le k ws (count-within (length ws)))
-    ∙ count-whole (length ws / block_slots) in
-    let s : length h < block_slots = subst (λ n. n < block_slots) (sym (length-drop k ws)) (count-rest (length ws)) in
+    let w : length p % block_subframes ≡ 0 = ap (λ n. n % block_subframes) (length-take-le k ws (count-within (length ws)))
+    ∙ count-whole (length ws / block_subframes) in
+    let s : length h < block_subframes = subst (λ n. n < block_subframes) (sym (length-drop k ws)) (count-rest (length ws)) in
     let m : sample_file form change (ws ++ vs) ≡ sample_file form change ws ++ sample_file form change (h ++ vs) =
     ap (λ z. sample_file form change (z ++ vs)) (sym e) ∙ ap (sample_file form change) (append_assoc p h vs)
     ∙ made-join form change p (h ++ vs) w

@@ -7,19 +7,19 @@ use Rattle.std.proofs.Common.{subst, arith, length-append}
 use Rattle.std.specs.Int.{div_ceil}
 use Rattle.std.proofs.lemmas.Bool.{cases_eq}
 use Rattle.std.proofs.lemmas.List.{take_all}
-use Rattle.aes3_cell.specs.declared.refusal.RunError.{RunError}
-use Rattle.aes3_cell.specs.declared.refusal.RunError.TheVariants.{BadCell, BadLength, BadCode, BadParity, Read, Write}
-use Rattle.aes3_cell.specs.declared.refusal.RunError.TheVariants.{TooLong, Memory, BadStatusText, BadPadding, BadSample}
-use Rattle.aes3_cell.specs.declared.refusal.RunError.TheVariants.{SoundHeader, Inexact}
+use Rattle.aes3_cell.specs.declared.run_error.RunError.{RunError}
+use Rattle.aes3_cell.specs.declared.run_error.RunError.TheVariants.{BadCell, BadLength, BadCode, BadParity, Read, Write}
+use Rattle.aes3_cell.specs.declared.run_error.RunError.TheVariants.{TooLong, Memory, BadStatusText, BadPadding, BadSample}
+use Rattle.aes3_cell.specs.declared.run_error.RunError.TheVariants.{SoundHeader, Inexact}
 use Rattle.aes3_files.specs.Sound.{begins_sound}
 use Rattle.aes3_cell.specs.declared.counts.Counts.{Counts}
-use Rattle.aes3_frame.specs.Blocks.{block_slots}
+use Rattle.aes3_frame.specs.Blocks.{block_subframes}
 use Rattle.aes3_input.specs.Converting.{or_else, fault_behind, first_fault, whole}
 use Rattle.aes3_input.specs.Running.{CleanEnd, IsFault, converted}
 use Rattle.aes3_input.proofs.InputRuns.{Gives}
-use Rattle.aes3_forms_words.specs.declared.form.Words.{Words}
+use Rattle.aes3_forms_words.specs.declared.alsa_am824.Words.{Words}
 use Rattle.aes3_status.specs.declared.change.Change as change
-use Rattle.aes3_forms_samples.specs.declared.format.SampleFormat.{SampleFormat}
+use Rattle.aes3_forms_samples.specs.declared.sample_format.SampleFormat.{SampleFormat}
 use Rattle.aes3_forms_samples.specs.Formats.{asks_exact, block_len, frame_len}
 use Rattle.aes3_engine.specs.Sampling.{pcm_words, AllExact, AreSamples, IsPcm, BadSampleAt, IsPcmCause}
 use Rattle.aes3_engine.specs.Sampling.{IsSound, words_in}
@@ -54,8 +54,8 @@ whole-samples : (pcm : SampleFormat) (exact : Bool) (form : Words) (k : change.C
 unfolding whole
 whole-samples pcm exact form k b h =
     ap₂ ◌++◌ (out-samples pcm exact form k b ∙ begun-all pcm exact form k b h) (ends-is pcm exact form k b)
-    ∙ sym (file-more form k (words_in pcm b) (replicate ((block_slots - length
-    (words_in pcm b) % block_slots) % block_slots) 0))
+    ∙ sym (file-more form k (words_in pcm b) (replicate ((block_subframes - length
+    (words_in pcm b) % block_subframes) % block_subframes) 0))
 
 -- the first fault of bytes d behind the bytes b: a sample's lowest byte, or the last of a header
 record LowBehind (exact : Bool) (b d : List ℕ) (e : RunError) : Type 0 where

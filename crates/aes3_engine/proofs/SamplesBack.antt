@@ -13,12 +13,12 @@ use Rattle.aes3_frame.proofs.SampleBlocks.{sampled-lawful, samples-filled, words
 use Rattle.aes3_input.specs.Inputs.{cells_of}
 use Rattle.aes3_lock.specs.Reports.{blocks}
 use Rattle.aes3_lock.proofs.NormalStreams.{stream-blocks}
-use Rattle.aes3_forms_words.specs.declared.form.Words.TheVariants.{Own}
+use Rattle.aes3_forms_words.specs.declared.alsa_am824.Words.TheVariants.{Own}
 use Rattle.aes3_status.specs.declared.change.Change.{Change}
 use Rattle.aes3_lock_runs.specs.BlockRuns.{written_stream}
 use Rattle.aes3_engine.specs.Rewriting.{rewritten, rewritten_blocks}
-use Rattle.aes3_forms_samples.specs.declared.format.SampleFormat.{SampleFormat}
-use Rattle.aes3_forms_samples.specs.declared.format.SampleFormat.TheVariants.{S32, S24, S24In32, S16}
+use Rattle.aes3_forms_samples.specs.declared.sample_format.SampleFormat.{SampleFormat}
+use Rattle.aes3_forms_samples.specs.declared.sample_format.SampleFormat.TheVariants.{S32, S24, S24In32, S16}
 use Rattle.aes3_forms_samples.specs.Formats.{narrowed}
 use Rattle.aes3_engine.specs.SampleLaws.{IsSampleIn, line_of_pcm, pcm_of_line}
 use Rattle.aes3_engine.specs.Sampling.{sample_file, words_in}

@@ -7,7 +7,7 @@ use Rattle.std.specs.List.{flat_map, All}
 use Rattle.std.proofs.lemmas.List.{drop_all, drop_at, take_all}
 use Rattle.aes3_bits.specs.Bits.{low_bits}
 use Rattle.aes3_bits.proofs.Bits.{length-low_bits}
-use Rattle.aes3_cell.specs.declared.refusal.RunError.{RunError}
+use Rattle.aes3_cell.specs.declared.run_error.RunError.{RunError}
 use Rattle.aes3_cell.specs.declared.counts.Counts.{Counts}
 use Rattle.aes3_cell.specs.declared.form.Form.{Form}
 use Rattle.aes3_cell.specs.Ends.{Grew, Told}
@@ -17,7 +17,7 @@ use Rattle.aes3_frame.specs.Files.{word_bytes}
 use Rattle.aes3_frame.specs.Samples.{block_samples, sample_of, samples}
 use Rattle.aes3_frame.specs.Subframes.{audio_len, bits_of}
 use Rattle.aes3_frame.proofs.StatusBits.{validity-get}
-use Rattle.aes3_forms_samples.specs.declared.format.SampleFormat.{SampleFormat}
+use Rattle.aes3_forms_samples.specs.declared.sample_format.SampleFormat.{SampleFormat}
 use Rattle.aes3_forms_samples.specs.Formats.{narrowed}
 use Rattle.aes3_engine.proofs.PcmRuns.{narrowed-whole, valid-whole}
 use Rattle.aes3_lock.specs.Reports.{blocks}

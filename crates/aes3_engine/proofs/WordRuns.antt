@@ -8,14 +8,14 @@ use Rattle.std.proofs.lemmas.Option.{none-some}
 use Rattle.std.specs.Prelude.{take_while}
 use Rattle.aes3_cell.specs.declared.counts.Counts.{Counts}
 use Rattle.aes3_cell.specs.declared.form.Form.{Form}
-use Rattle.aes3_cell.specs.declared.refusal.RunError.{RunError}
-use Rattle.aes3_cell.specs.declared.refusal.RunError.TheVariants.{BadCell, BadLength, BadCode, BadParity, Read, Write}
-use Rattle.aes3_cell.specs.declared.refusal.RunError.TheVariants.{TooLong, Memory, BadStatusText, BadPadding, BadSample}
-use Rattle.aes3_cell.specs.declared.refusal.RunError.TheVariants.{SoundHeader, Inexact}
+use Rattle.aes3_cell.specs.declared.run_error.RunError.{RunError}
+use Rattle.aes3_cell.specs.declared.run_error.RunError.TheVariants.{BadCell, BadLength, BadCode, BadParity, Read, Write}
+use Rattle.aes3_cell.specs.declared.run_error.RunError.TheVariants.{TooLong, Memory, BadStatusText, BadPadding, BadSample}
+use Rattle.aes3_cell.specs.declared.run_error.RunError.TheVariants.{SoundHeader, Inexact}
 use Rattle.aes3_cell.specs.Written.{bytes_of, ending, written}
 use Rattle.aes3_level.specs.declared.level.Level.TheVariants.{Low}
-use Rattle.aes3_forms_words.specs.declared.form.Words.{Words}
-use Rattle.aes3_forms_words.specs.declared.form.Words.TheVariants.{Own}
+use Rattle.aes3_forms_words.specs.declared.alsa_am824.Words.{Words}
+use Rattle.aes3_forms_words.specs.declared.alsa_am824.Words.TheVariants.{Own}
 use Rattle.aes3_forms_words.specs.Forms.{is_within, own_word}
 use Rattle.aes3_forms_words.specs.Lists.{from_block, most_left_out, own_of}
 use Rattle.aes3_forms_words.specs.Reading.{read_whole, whole_of}
@@ -23,7 +23,7 @@ use Rattle.aes3_forms_words.proofs.EachWord.{length-each}
 use Rattle.aes3_forms_words.proofs.OneWord.{own-fours}
 use Rattle.aes3_forms_words.proofs.Ahead.{length-own, length-own-le, own-cut, whole-length}
 use Rattle.aes3_block.specs.Readers.{FileReader}
-use Rattle.aes3_frame.specs.Blocks.{block_slots, stream}
+use Rattle.aes3_frame.specs.Blocks.{block_subframes, stream}
 use Rattle.aes3_frame.specs.Files.{IsBlockFile, blocks_in, file_blocks, has_code, has_parity, is_lawful, lawful_words}
 use Rattle.aes3_frame.specs.Files.{words_of}
 use Rattle.aes3_frame.proofs.SampleBlocks.{words-join}
@@ -65,7 +65,7 @@ same-lawful form b = ap (take_while is_lawful) (own-words form b)
 
 pub same-blocks : (form : Words) (b : List ℕ) → file_blocks (own_of form b) ≡ file_blocks (read_whole form b)
 unfolding file_blocks
-same-blocks form b = ap (λ ws. blocks_in (length ws / block_slots) ws) (same-lawful form b)
+same-blocks form b = ap (λ ws. blocks_in (length ws / block_subframes) ws) (same-lawful form b)
 
 all-same : (form : Words) (b : List ℕ) → AllLawful (read_whole form b) → AllLawful (own_of form b)
 all-same form b h = record { is = same-lawful form b ∙ h.is ∙ sym (own-words form b) }
@@ -131,7 +131,7 @@ pub whole-file : (form : Words) (output : Form) (b : List ℕ)
     → (words_reading form (encoding output)).end_fault b ≡ None → IsBlockFile (own_of form b)
 whole-file form output b c e = record { whole = whole; lawful = (clean-words form output b c).is }
   where
-    whole : length (own_of form b) % (4 * block_slots) ≡ 0
+    whole : length (own_of form b) % (4 * block_subframes) ≡ 0
     whole = elim (end-cases output (own_of form b)) [
       | inl q ↦ q.1
       | inr q ↦ absurd (none-some _ (sym e ∙ end-same form output b ∙ q.0))
@@ -254,7 +254,7 @@ left-out form (suc n) (a ∷ b ∷ c ∷ d ∷ v) = go (is_within form a) refl (
 -- what is left of the bytes beside whole blocks is left out
 pub left-out-is : (form : Words) (b : List ℕ) (n : ℕ) → length b ≡ n → IsBlockFile (own_of form b)
     → n % 1536 / 4 ≡ words_left_out form b
-unfolding block_slots
+unfolding block_subframes
 left-out-is form b n e file =
     let h = left-out form most_left_out b in
     let few = h.few in
@@ -305,7 +305,7 @@ pub end-begun : (form : Words) (output : Form) {file : FileReader} {blocks left 
     (begun b : List ℕ) (n : ℕ)
     → TakesWords form file blocks left has_begun begun b → n ≡ (file.seen + length begun) % 1536 → 0 < n
     → (words_reading form (encoding output)).end_fault b ≡ Some (BadLength n)
-unfolding block_slots
+unfolding block_subframes
 end-begun form output {file} begun b n h e s =
     let l = taken-length form begun b h in
     end-same form output b ∙ elim (end-cases output (own_of form b)) [
@@ -319,7 +319,7 @@ pub end-whole : (form : Words) (output : Form) {file : FileReader} {blocks left 
     (begun b : List ℕ)
     → TakesWords form file blocks left has_begun begun b → (file.seen + length begun) % 1536 ≡ 0
     → (words_reading form (encoding output)).end_fault b ≡ None
-unfolding block_slots
+unfolding block_subframes
 end-whole form output {file} begun b h e =
     let l = taken-length form begun b h in
     end-same form output b ∙ elim (end-cases output (own_of form b)) [

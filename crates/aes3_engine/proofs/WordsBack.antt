@@ -5,15 +5,15 @@ use Rattle.std.proofs.Common.{refl, sym, ap, ◌∙◌, arith, subst, IfOk, Resu
 use Rattle.std.specs.List.{flat_map, All}
 use Rattle.std.proofs.lemmas.Grind.{flat_map-append}
 use Rattle.std.proofs.lemmas.List.{length-map, map-append}
-use Rattle.aes3_forms_words.specs.declared.form.Words.{Words}
-use Rattle.aes3_forms_words.specs.declared.form.Words.TheVariants.{Own, Alsa, Am824}
+use Rattle.aes3_forms_words.specs.declared.alsa_am824.Words.{Words}
+use Rattle.aes3_forms_words.specs.declared.alsa_am824.Words.TheVariants.{Own, Alsa, Am824}
 use Rattle.aes3_forms_words.specs.Forms.{written_word}
 use Rattle.aes3_forms_words.specs.Lists.{each_word, next, own_of, written_of}
 use Rattle.aes3_forms_words.proofs.EachWord.{each-append}
 use Rattle.aes3_forms_words.proofs.ReadBack.{read-back}
 use Rattle.aes3_frame.specs.Blocks.{IsBlock}
 use Rattle.aes3_frame.specs.Files.{block_bytes, file, word_bytes, word_of}
-use Rattle.aes3_frame.proofs.BlockLemmas.{block_slots_384}
+use Rattle.aes3_frame.proofs.BlockLemmas.{block_subframes_384}
 use Rattle.aes3_cell.specs.declared.form.Form.{Form}
 use Rattle.aes3_cell.specs.Written.{written}
 use Rattle.aes3_level.specs.declared.level.Level.{Level}
@@ -21,7 +21,7 @@ use Rattle.aes3_level.specs.declared.level.Level.TheVariants.{Low}
 use Rattle.aes3_frame.specs.Blocks.{stream}
 use Rattle.aes3_frame.specs.Files.{file_blocks}
 use Rattle.aes3_frame.proofs.FileLaws.{file_blocks-file, length-bytes}
-use Rattle.aes3_cell.specs.declared.refusal.RunError.{RunError}
+use Rattle.aes3_cell.specs.declared.run_error.RunError.{RunError}
 use Rattle.aes3_cell.specs.Ends.{Grew, Told}
 use Rattle.aes3_cell.proofs.Growing.{grew-is}
 use Rattle.aes3_input.specs.Running.{InputRun, Movement}
@@ -72,7 +72,7 @@ block-length b h =
     let l = length-bytes (map word_of b) in
     let m = length-map b word_of in
     let n = h.count in
-    let k = block_slots_384 in
+    let k = block_subframes_384 in
     omega (arith, l, m, n, k)
 
 each-blocks : (f : ℕ → ℕ → ℕ → ℕ → ℕ → List ℕ) (bs : List (List (List Bool))) → All IsBlock bs

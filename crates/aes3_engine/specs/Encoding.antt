@@ -2,13 +2,13 @@
 use Rattle.std.specs.Prelude.{ℕ, List, [], Bool, true, false, Option, Some, None, Result, Ok, Err, ◌≡◌, ◌<◌, ◌≤◌, ◌+◌}
 use Rattle.std.specs.Prelude.{◌*◌, ◌%◌, IsTrue, length, take, get_or}
 use Rattle.aes3_level.specs.declared.level.Level.TheVariants.{Low}
-use Rattle.aes3_cell.specs.declared.refusal.RunError.{RunError}
-use Rattle.aes3_cell.specs.declared.refusal.RunError.TheVariants.{BadCell, BadLength, BadCode, BadParity, Read, Write}
-use Rattle.aes3_cell.specs.declared.refusal.RunError.TheVariants.{TooLong, Memory, BadStatusText, BadPadding, BadSample}
-use Rattle.aes3_cell.specs.declared.refusal.RunError.TheVariants.{SoundHeader, Inexact}
+use Rattle.aes3_cell.specs.declared.run_error.RunError.{RunError}
+use Rattle.aes3_cell.specs.declared.run_error.RunError.TheVariants.{BadCell, BadLength, BadCode, BadParity, Read, Write}
+use Rattle.aes3_cell.specs.declared.run_error.RunError.TheVariants.{TooLong, Memory, BadStatusText, BadPadding, BadSample}
+use Rattle.aes3_cell.specs.declared.run_error.RunError.TheVariants.{SoundHeader, Inexact}
 use Rattle.aes3_cell.specs.declared.counts.Counts.{Counts}
 use Rattle.aes3_block.specs.declared.file.FileFault.{FileFault}
-use Rattle.aes3_frame.specs.Blocks.{block_slots, block_len, block_cells, stream}
+use Rattle.aes3_frame.specs.Blocks.{block_subframes, block_len, block_cells, stream}
 use Rattle.aes3_frame.specs.Files.{words_of, lawful_words, has_code, has_parity, file_blocks, IsBlockFile}
 use Rattle.aes3_block.specs.Readers.{FileReader, reader_of, byte_fault, block_with, end_answer}
 use Rattle.aes3_block.specs.Refusals.{refusal_of}
@@ -62,7 +62,7 @@ pub record BadParityAt (b : List ℕ) (at : ℕ) : Type 0 where
 -- the bytes end inside a block
 pub record EndsInBlock (b : List ℕ) (left : ℕ) : Type 0 where
   pub lawful : AllLawful b
-  pub count : left ≡ length b % (4 * block_slots)
+  pub count : left ≡ length b % (4 * block_subframes)
   pub some : 0 < left
 
 -- why a run that read the bytes b was refused

@@ -8,7 +8,7 @@ use Rattle.aes3_input.specs.Driving.{over_cells}
 use Rattle.aes3_input.specs.Inputs.{cells_of}
 use Rattle.aes3_input.specs.Running.{Promise}
 use Rattle.aes3_input.specs.Taking.{Writing}
-use Rattle.aes3_forms_samples.specs.declared.format.SampleFormat.{SampleFormat}
+use Rattle.aes3_forms_samples.specs.declared.sample_format.SampleFormat.{SampleFormat}
 use Rattle.aes3_forms_samples.specs.Formats.{fits, narrowed}
 use Rattle.aes3_lock_runs.specs.ReportRuns.{counts_of}
 use Rattle.aes3_engine.specs.declared.exact_samples.Exact.{Exact}

@@ -5,7 +5,7 @@ use Rattle.aes3_frame.specs.Blocks.{block_len}
 use Rattle.aes3_frame.specs.Samples.{block_samples}
 use Rattle.aes3_lock.specs.declared.report.Report.{Report}
 use Rattle.aes3_input.specs.Taking.{Writing}
-use Rattle.aes3_forms_samples.specs.declared.format.SampleFormat.{SampleFormat}
+use Rattle.aes3_forms_samples.specs.declared.sample_format.SampleFormat.{SampleFormat}
 use Rattle.aes3_forms_samples.specs.Formats.{narrowed}
 use Rattle.aes3_engine.specs.declared.filling.Progress.{Progress}
 use Rattle.aes3_engine.specs.Filling.{Placed, placed, block_frames, frames_between, filling, repeated, filled_behind}

@@ -6,7 +6,7 @@ use Rattle.aes3_level.specs.declared.level.Level.{Level}
 use Rattle.aes3_slot.specs.Reading.{read_slots}
 use Rattle.aes3_frame.specs.declared.fill.Fill.{Fill}
 use Rattle.aes3_frame.specs.declared.fill.Fill.TheVariants.{Zero, Hold}
-use Rattle.aes3_frame.specs.Blocks.{block_len, block_slots, zero_block}
+use Rattle.aes3_frame.specs.Blocks.{block_len, block_subframes, zero_block}
 use Rattle.aes3_frame.specs.Mending.{mended}
 use Rattle.aes3_frame.specs.Samples.{block_samples}
 use Rattle.aes3_lock.specs.declared.report.Report.{Report}
@@ -31,8 +31,8 @@ abbrev pub mended_from : Fill → List Level → List (List Bool) → List Repor
 mended_from fill c b [] = []
 mended_from fill c b (Whole at s own ∷ r) = record { place = at; block = own } ∷ mended_from fill c own r
 mended_from fill c b (Marked at s wrong ∷ r) =
-    record { place = at; block = mended fill b (read_slots block_slots (drop at c)) }
-    ∷ mended_from fill c (mended fill b (read_slots block_slots (drop at c))) r
+    record { place = at; block = mended fill b (read_slots block_subframes (drop at c)) }
+    ∷ mended_from fill c (mended fill b (read_slots block_subframes (drop at c))) r
 mended_from fill c b (Fault at cell why ∷ r) = mended_from fill c b r
 mended_from fill c b (Unfinished at cells ∷ r) = mended_from fill c b r
 

@@ -11,7 +11,7 @@ use Rattle.aes3_lock.specs.declared.report.Report.{Report}
 use Rattle.aes3_lock.specs.Outcomes.{payloads_of}
 use Rattle.aes3_lock.specs.Reports.{decided, reports}
 use Rattle.aes3_input.specs.Taking.{Writing}
-use Rattle.aes3_forms_samples.specs.declared.format.SampleFormat.{SampleFormat}
+use Rattle.aes3_forms_samples.specs.declared.sample_format.SampleFormat.{SampleFormat}
 use Rattle.aes3_forms_samples.specs.Formats.{narrowed}
 use Rattle.aes3_engine.specs.declared.mended.MendedBlocks.{MendedBlocks}
 use Rattle.aes3_engine.specs.Filling.{Placed, given, marked_given}

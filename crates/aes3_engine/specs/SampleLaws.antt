@@ -7,10 +7,10 @@ use Rattle.aes3_frame.specs.Samples.{samples}
 use Rattle.aes3_frame.specs.Sampled.{IsSample, filled}
 use Rattle.aes3_lock.specs.Reports.{blocks}
 use Rattle.aes3_input.specs.Inputs.{cells_of}
-use Rattle.aes3_forms_samples.specs.declared.format.SampleFormat.{SampleFormat}
-use Rattle.aes3_forms_samples.specs.declared.format.SampleFormat.TheVariants.{S32, S24, S24In32, S16}
+use Rattle.aes3_forms_samples.specs.declared.sample_format.SampleFormat.{SampleFormat}
+use Rattle.aes3_forms_samples.specs.declared.sample_format.SampleFormat.TheVariants.{S32, S24, S24In32, S16}
 use Rattle.aes3_forms_samples.specs.Formats.{narrowed}
-use Rattle.aes3_forms_words.specs.declared.form.Words.TheVariants.{Own}
+use Rattle.aes3_forms_words.specs.declared.alsa_am824.Words.TheVariants.{Own}
 use Rattle.aes3_status.specs.declared.change.Change.{Change}
 use Rattle.aes3_lock_runs.specs.BlockRuns.{written_stream}
 use Rattle.aes3_engine.specs.Sampling.{pcm_words}

@@ -3,20 +3,20 @@ use Rattle.std.specs.Prelude.{ℕ, List, [], ◌∷◌, ◌++◌, Bool, true, fa
 use Rattle.std.specs.Prelude.{◌%◌}
 use Rattle.std.specs.Prelude.{◌==◌, IsTrue, length, take, drop, get_or, if◌then◌else◌}
 use Rattle.aes3_cell.specs.declared.counts.Counts.{Counts}
-use Rattle.aes3_cell.specs.declared.refusal.RunError.{RunError}
-use Rattle.aes3_cell.specs.declared.refusal.RunError.TheVariants.{BadLength, BadSample, Read, Write, TooLong}
-use Rattle.aes3_cell.specs.declared.refusal.RunError.TheVariants.{SoundHeader}
+use Rattle.aes3_cell.specs.declared.run_error.RunError.{RunError}
+use Rattle.aes3_cell.specs.declared.run_error.RunError.TheVariants.{BadLength, BadSample, Read, Write, TooLong}
+use Rattle.aes3_cell.specs.declared.run_error.RunError.TheVariants.{SoundHeader}
 use Rattle.aes3_files.specs.Sound.{begins_sound, sound_head_len}
 use Rattle.aes3_frame.specs.Files.{bytes_number, words_of}
 use Rattle.aes3_frame.specs.Sampled.{sampled, filled}
 use Rattle.aes3_input.specs.Converting.{Reading}
 use Rattle.aes3_input.specs.Running.{InputState, Promise}
-use Rattle.aes3_forms_samples.specs.declared.format.SampleFormat.{SampleFormat}
-use Rattle.aes3_forms_samples.specs.declared.format.SampleFormat.TheVariants.{S32, S24, S24In32, S16}
+use Rattle.aes3_forms_samples.specs.declared.sample_format.SampleFormat.{SampleFormat}
+use Rattle.aes3_forms_samples.specs.declared.sample_format.SampleFormat.TheVariants.{S32, S24, S24In32, S16}
 use Rattle.aes3_forms_samples.specs.Formats.{asks_exact, block_len, frame_len, widened}
 use Rattle.aes3_status.specs.declared.change.Change.{Change}
-use Rattle.aes3_forms_words.specs.declared.form.Words.{Words}
-use Rattle.aes3_forms_words.specs.declared.form.Words.TheVariants.{Own}
+use Rattle.aes3_forms_words.specs.declared.alsa_am824.Words.{Words}
+use Rattle.aes3_forms_words.specs.declared.alsa_am824.Words.TheVariants.{Own}
 use Rattle.aes3_engine.specs.Rewriting.{rewritten_blocks}
 use Rattle.aes3_engine.specs.Words.{words_file}
 

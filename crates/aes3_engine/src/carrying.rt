@@ -14,8 +14,8 @@ ghost use Rattle.aes3_engine.specs.Carrying.{all_carried, carried};
 
 use aes3_block::{Block, Channel, GatheredCells};
 use aes3_cell::{Counts, Fault, Form, RunError, Sink, Source, write_all};
+use aes3_frame::CarriedBits;
 use aes3_lock_runs::{BlockWriter, run_blocks};
-use aes3_status::CarriedBits;
 
 /// The V, U or C bits of a channel in a block, as octets.
 fn carried(block: &Block, bits: CarriedBits, channel: Channel) -> [u8; 24]

@@ -15,7 +15,7 @@ ghost use Rattle.aes3_lock.specs.Reports.{blocks, normal};
 ghost use Rattle.aes3_input.specs.Running.{FrontRan, InputRun, PieceRan, movement_of};
 ghost use Rattle.aes3_engine.specs.Encoding.{Encodes, encoded_file, encoding_state};
 
-use aes3_block::{BLOCK_BYTES, BLOCK_CELLS, Block, BlockFile, SLOTS, fill_block_cells};
+use aes3_block::{BLOCK_BYTES, BLOCK_CELLS, Block, BlockFile, SUBFRAMES, fill_block_cells};
 use aes3_cell::{Counts, Fault, Form, Level, RunError, Sink, Source, put_ending, put_words};
 use aes3_input::{Input, convert};
 
@@ -25,18 +25,18 @@ use aes3_input::{Input, convert};
 pub(crate) struct Encoder {
     pub(crate) output: Form,
     pub(crate) blocks: u64,
-    pub(crate) cells: [u64; SLOTS],
+    pub(crate) cells: [u64; SUBFRAMES],
 }
 
-pub(crate) fn blank_cells() -> [u64; SLOTS] {
-    [0; SLOTS]
+pub(crate) fn blank_cells() -> [u64; SUBFRAMES] {
+    [0; SUBFRAMES]
 }
 
 /// Makes the cells of a block in `cells`, and writes them.
 fn put_cells<T: Sink>(
     output: Form,
     block: &Block,
-    cells: &mut [u64; SLOTS],
+    cells: &mut [u64; SUBFRAMES],
     sink: &mut T,
 ) -> Result<(), Fault>
     requires room { T.failed sink.old + 1 < 2 ^ 64 }

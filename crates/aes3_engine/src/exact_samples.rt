@@ -8,7 +8,7 @@ ghost use Rattle.aes3_lock.specs.Following.{report_in};
 ghost use Rattle.aes3_lock.specs.Reports.{blocks};
 ghost use Rattle.aes3_input.specs.Inputs.{cells_of};
 ghost use Rattle.aes3_input.specs.Running.{InputRun, movement_of};
-ghost use Rattle.aes3_forms_samples.specs.declared.format.SampleFormat.TheVariants.{S16};
+ghost use Rattle.aes3_forms_samples.specs.declared.sample_format.SampleFormat.TheVariants.{S16};
 ghost use Rattle.aes3_forms_samples.specs.Formats.{narrowed};
 ghost use Rattle.aes3_engine.specs.ExactSamples.{exact_cells, exact_samples, exact_writing, first_unfit};
 ghost use Rattle.aes3_engine.specs.ExactSamples.{refused_behind, unless_refused};

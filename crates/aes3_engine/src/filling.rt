@@ -23,7 +23,7 @@ use crate::samples::put_narrowed;
 use aes3_block::{BLOCK_BYTES, Block, samples_of_block};
 use aes3_cell::{Counts, Fault, Form, RunError, Sink, Source, write_all};
 use aes3_forms_samples::SampleFormat;
-use aes3_frame::Fill;
+use aes3_frame::{FRAMES, Fill};
 use aes3_lock::{Ending, Lock};
 use aes3_lock_runs::{Reporter, run_reports};
 
@@ -32,7 +32,7 @@ const FRAME_CELLS: u64 = 128;
 
 const FRAME_BYTES: usize = 8;
 
-const BLOCK_FRAMES: u64 = 192;
+const BLOCK_FRAMES: u64 = FRAMES as u64;
 
 /// The counts of a run that fills time between blocks.
 #[derive(Clone, Copy)]

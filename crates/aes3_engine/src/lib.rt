@@ -32,12 +32,12 @@ mod word_encoding;
 /// Blocks as block files in other forms.
 mod words;
 
-pub use aes3_frame::Fill;
+pub use aes3_frame::{CarriedBits, Fill};
 pub use aes3_lock_runs::{
     BlockReporter, BlockWriter, Followed, Input, Listener, ReportListener, Reporter, Taker, Tally,
     cell, convert, drive, run_blocks, run_cells, run_reports, word,
 };
-pub use aes3_status::{CarriedBits, Change, Taken};
+pub use aes3_status::{Change, Taken};
 pub use carrying::to_bits;
 pub use encoding::encode;
 pub use exact_samples::{Exact, ExactBlocks, to_exact_pcm};

@@ -135,7 +135,7 @@ pub fn normalise<S: Source, T: Sink>(
         → Grew (T.taken sink.old) (T.taken sink.new)
         (written_stream output (given_blocks (after_changes i c (cells_of input b)) bs i j))) }
     // With up to 383 they are all that these leave at the frames of the piece, in order of place.
-    ensures left { IfOk result (λ _. (s : Level) (bs : List (List (List Bool))) (i j : ℕ)
+    ensures all_left { IfOk result (λ _. (s : Level) (bs : List (List (List Bool))) (i j : ℕ)
         (c : List Level) (b : List ℕ) → Told (S.given source.old) (S.given source.new) b
         → IsPiece s bs i j c → length (cells_of input b) ≡ length c → AreClose c (cells_of input b)
         → (found : List PlacedBlock) × AreAllLeft found s bs i c (cells_of input b)

@@ -9,7 +9,7 @@ ghost use Rattle.aes3_cell.specs.Writes.{Wrote};
 ghost use Rattle.aes3_frame.specs.Files.{words_of};
 ghost use Rattle.aes3_frame.specs.Sampled.{payload_of_sample};
 ghost use Rattle.aes3_input.specs.Running.{InputRun, movement_of};
-ghost use Rattle.aes3_forms_samples.specs.declared.format.SampleFormat.TheVariants.{S32};
+ghost use Rattle.aes3_forms_samples.specs.declared.sample_format.SampleFormat.TheVariants.{S32};
 ghost use Rattle.aes3_forms_samples.specs.Formats.{asks_exact, block_len};
 ghost use Rattle.aes3_engine.specs.Rewriting.{rewritten};
 ghost use Rattle.aes3_engine.specs.Sampling.{IsPcm, Samples, pcm_file, pcm_words, sampled_file, sampled_words};

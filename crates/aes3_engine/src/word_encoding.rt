@@ -8,14 +8,14 @@ ghost use Rattle.aes3_level.specs.declared.level.Level.{Level};
 ghost use Rattle.aes3_lock.specs.Reports.{blocks, normal};
 ghost use Rattle.aes3_input.specs.Running.{FrontRan, InputRun, PieceRan, movement_of};
 ghost use Rattle.aes3_frame.specs.Files.{IsBlockFile};
-ghost use Rattle.aes3_forms_words.specs.declared.form.Words.{Words};
+ghost use Rattle.aes3_forms_words.specs.declared.alsa_am824.Words.{Words};
 ghost use Rattle.aes3_forms_words.specs.Lists.{own_of};
 ghost use Rattle.aes3_forms_words.specs.Reading.{is_left_out};
 ghost use Rattle.aes3_engine.specs.Words.{TakesWords, WordRan, encoded_other, told_words, with_left_out};
 ghost use Rattle.aes3_engine.specs.Words.{words_counts, words_file, words_left_out, words_state};
 
 use crate::encoding::{Encoder, blank_cells, encode};
-use aes3_block::{BLOCK_BYTES, BlockFile, SLOTS};
+use aes3_block::{BLOCK_BYTES, BlockFile, SUBFRAMES};
 use aes3_cell::{Counts, Form, RunError, Sink, Source, put_ending};
 use aes3_forms_words::Words;
 use aes3_input::{Input, convert, feed_fronts};
@@ -24,7 +24,7 @@ use aes3_input::{Input, convert, feed_fronts};
 const WORD_LEN: usize = 4;
 
 /// How many words of a block can come before the next block.
-const MOST_LEFT_OUT: usize = SLOTS - 1;
+const MOST_LEFT_OUT: usize = SUBFRAMES - 1;
 
 /// The counts of a run over a block file in words of a form, and how many words it left out.
 #[derive(Clone, Copy)]
@@ -76,7 +76,7 @@ impl WordReader {
             return Ok(());
         }
         self.has_begun = true;
-        let place = (self.file.seen() / WORD_LEN as u64 % SLOTS as u64) as usize;
+        let place = (self.file.seen() / WORD_LEN as u64 % SUBFRAMES as u64) as usize;
         let own = self.words.read_word(place, word);
         feed_fronts(&mut self.file, encoder, sink, &own)
     }

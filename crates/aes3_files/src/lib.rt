@@ -1,4 +1,4 @@
-//! What a program reads: the file or standard input, and the kind of file by its first octets.
+//! The files of a program: the input and its kind by its first octets, and a file that is written.
 #![tactic(auto)]
 
 /// The file or standard input that a program reads.
@@ -7,6 +7,8 @@ mod input;
 mod kind;
 /// Packed cells by their first octets.
 mod packed;
+/// A file that a program writes, under another name until it is complete.
+mod part;
 /// A reader whose first octets are inspected before they are read.
 mod preview;
 /// The headers of sound files.
@@ -15,5 +17,6 @@ mod sound;
 pub use input::Input;
 pub use kind::FileKind;
 pub use packed::{are_packed, are_turned};
+pub use part::PartFile;
 pub use preview::Preview;
 pub use sound::{SOUND_HEAD_LEN, SoundFile};

@@ -1,8 +1,8 @@
 -- Samples in the forms of sound programs, the lowest octet first; those of 32 bits have the 24 bits of a sample in the
 -- highest ones.
 use Rattle.std.specs.Prelude.{ℕ, ◌*◌, List, [], ◌∷◌, ◌++◌, Bool, true, false, nat_lt, ◌==◌, ◌&&◌, if◌then◌else◌}
-use Rattle.aes3_forms_samples.specs.declared.format.SampleFormat.{SampleFormat}
-use Rattle.aes3_forms_samples.specs.declared.format.SampleFormat.TheVariants.{S32, S24, S24In32, S16}
+use Rattle.aes3_forms_samples.specs.declared.sample_format.SampleFormat.{SampleFormat}
+use Rattle.aes3_forms_samples.specs.declared.sample_format.SampleFormat.TheVariants.{S32, S24, S24In32, S16}
 
 -- how many octets a sample has, a frame of two and the 384 of a block
 abbrev pub sample_len : SampleFormat → ℕ

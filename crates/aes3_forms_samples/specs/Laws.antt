@@ -1,7 +1,7 @@
 -- What becomes of samples in a form that are made samples of 32 bits, and put into it again.
 use Rattle.std.specs.Prelude.{ℕ, List, ◌∷◌, true, ◌≡◌, ◌%◌, length}
-use Rattle.aes3_forms_samples.specs.declared.format.SampleFormat.{SampleFormat}
-use Rattle.aes3_forms_samples.specs.declared.format.SampleFormat.TheVariants.{S32, S24, S24In32, S16}
+use Rattle.aes3_forms_samples.specs.declared.sample_format.SampleFormat.{SampleFormat}
+use Rattle.aes3_forms_samples.specs.declared.sample_format.SampleFormat.TheVariants.{S32, S24, S24In32, S16}
 use Rattle.aes3_forms_samples.specs.Formats.{fits, narrowed, sample_len, sign_octet, widened}
 
 -- the highest octet of each word is its sign, which has to be so only where samples of 24 bits stand in 32

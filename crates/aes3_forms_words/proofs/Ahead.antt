@@ -5,7 +5,7 @@ use Rattle.std.proofs.Common.{append-nil, take-append-drop, arith, if◌then◌e
 use Rattle.std.proofs.lemmas.Bool.{cases_lt}
 use Rattle.std.proofs.lemmas.List.{length-append, length-take-le, length-drop, take_all, take_at, drop_at}
 use Rattle.std.proofs.lemmas.List.{take-append-le}
-use Rattle.aes3_forms_words.specs.declared.form.Words.{Words}
+use Rattle.aes3_forms_words.specs.declared.alsa_am824.Words.{Words}
 use Rattle.aes3_forms_words.specs.Forms.{is_within, own_word}
 use Rattle.aes3_forms_words.specs.Lists.{each_word, from_block, most_left_out, own_of}
 use Rattle.aes3_forms_words.specs.Reading.{AllLeft, AreAhead, Begun, is_left_out, read_more, read_whole, whole_of}

@@ -1,8 +1,8 @@
 -- A word in a form.
 use Rattle.std.proofs.Common.{◌≡◌, ◌<◌, ◌+◌, ◌*◌, ◌/◌, ◌%◌, ◌==◌, ℕ, Bool, true, false, [], ◌∷◌}
 use Rattle.std.proofs.Common.{length, refl, ap, ap₂, ◌∙◌, arith, if◌then◌else◌}
-use Rattle.aes3_forms_words.specs.declared.form.Words.{Words}
-use Rattle.aes3_forms_words.specs.declared.form.Words.TheVariants.{Own, Alsa, Am824}
+use Rattle.aes3_forms_words.specs.declared.alsa_am824.Words.{Words}
+use Rattle.aes3_forms_words.specs.declared.alsa_am824.Words.TheVariants.{Own, Alsa, Am824}
 use Rattle.aes3_forms_words.specs.Forms.{by_place, code, own_word, unwritten_word, written_word, with_code, without_code}
 use Rattle.aes3_forms_words.proofs.EachWord.{Fours}
 

@@ -4,8 +4,8 @@ use Rattle.std.proofs.Common.{List, [], ◌∷◌, ◌++◌, get_or, refl, sym, 
 use Rattle.std.proofs.Common.{if◌then◌else◌, ◌||◌}
 use Rattle.std.specs.Prelude.{◌⊎◌, ◌↔◌}
 use Rattle.std.proofs.lemmas.Bool.{eq-eqb, ne_eqb}
-use Rattle.aes3_forms_words.specs.declared.form.Words.{Words}
-use Rattle.aes3_forms_words.specs.declared.form.Words.TheVariants.{Own, Alsa, Am824}
+use Rattle.aes3_forms_words.specs.declared.alsa_am824.Words.{Words}
+use Rattle.aes3_forms_words.specs.declared.alsa_am824.Words.TheVariants.{Own, Alsa, Am824}
 use Rattle.aes3_forms_words.specs.Forms.{code, code_in, is_within, own_word, with_code, without_code}
 use Rattle.aes3_forms_words.specs.Forms.{written_word}
 use Rattle.aes3_forms_words.specs.Lists.{each_word, from_block, most_left_out, next, own_of, written_of}

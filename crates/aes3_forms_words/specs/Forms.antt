@@ -1,7 +1,7 @@
 -- The words of subframes in the forms of other programs: four octets each, with a code of the preamble.
 use Rattle.std.specs.Prelude.{ℕ, List, [], ◌∷◌, Bool, false, ◌+◌, ◌-◌, ◌*◌, ◌/◌, ◌%◌, ◌==◌, ◌||◌, if◌then◌else◌}
-use Rattle.aes3_forms_words.specs.declared.form.Words.{Words}
-use Rattle.aes3_forms_words.specs.declared.form.Words.TheVariants.{Own, Alsa, Am824}
+use Rattle.aes3_forms_words.specs.declared.alsa_am824.Words.{Words}
+use Rattle.aes3_forms_words.specs.declared.alsa_am824.Words.TheVariants.{Own, Alsa, Am824}
 
 -- one of three codes, by the place of a subframe in its block: of Z, of X in the first subframe of a frame, else of Y
 abbrev pub by_place : ℕ → ℕ → ℕ → ℕ → ℕ

@@ -1,7 +1,7 @@
 -- The laws of words in other forms.
 use Rattle.std.specs.Prelude.{ℕ, List, ◌≡◌, ◌<◌, ◌*◌, ◌%◌, ◌⊎◌, ◌↔◌, get_or}
-use Rattle.aes3_forms_words.specs.declared.form.Words.{Words}
-use Rattle.aes3_forms_words.specs.declared.form.Words.TheVariants.{Alsa}
+use Rattle.aes3_forms_words.specs.declared.alsa_am824.Words.{Words}
+use Rattle.aes3_forms_words.specs.declared.alsa_am824.Words.TheVariants.{Alsa}
 use Rattle.aes3_forms_words.specs.Forms.{code, code_in, own_word, written_word}
 use Rattle.aes3_forms_words.specs.Lists.{own_of, written_of}
 

@@ -1,6 +1,6 @@
 -- Octets of many words in a form.
 use Rattle.std.specs.Prelude.{ℕ, List, [], ◌∷◌, ◌++◌, ◌+◌, ◌%◌, suc, zero, if◌then◌else◌}
-use Rattle.aes3_forms_words.specs.declared.form.Words.{Words}
+use Rattle.aes3_forms_words.specs.declared.alsa_am824.Words.{Words}
 use Rattle.aes3_forms_words.specs.Forms.{is_within, own_word, written_word}
 
 -- the place behind a place: a block has 384 subframes

@@ -1,7 +1,7 @@
 -- What is read of words as they come.
 use Rattle.std.specs.Prelude.{ℕ, List, [], Bool, true, false, not, ◌&&◌, ◌≡◌, ◌++◌, ◌*◌, ◌/◌, nat_lt, take, drop}
 use Rattle.std.specs.Prelude.{length}
-use Rattle.aes3_forms_words.specs.declared.form.Words.{Words}
+use Rattle.aes3_forms_words.specs.declared.alsa_am824.Words.{Words}
 use Rattle.aes3_forms_words.specs.Forms.{is_within}
 use Rattle.aes3_forms_words.specs.Lists.{from_block, most_left_out, own_of}
 

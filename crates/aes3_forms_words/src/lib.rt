@@ -2,11 +2,11 @@
 #![tactic(auto)]
 
 /// A word in a form.
-mod form;
+mod alsa_am824;
 /// The laws of these forms.
 pub mod laws;
 /// Octets of many words.
 mod many;
 
-pub use form::Words;
+pub use alsa_am824::Words;
 pub use many::write_words;

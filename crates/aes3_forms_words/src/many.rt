@@ -4,7 +4,7 @@ ghost use Rattle.std.specs.Prelude.{◌≡◌, ℕ, ◌<◌, get_or, length};
 ghost use Rattle.aes3_forms_words.specs.Forms.{written_word};
 ghost use Rattle.aes3_forms_words.specs.Lists.{each_word, written_of};
 
-use crate::form::Words;
+use crate::alsa_am824::Words;
 
 /// How many subframes a block has.
 const BLOCK_WORDS: usize = 384;

@@ -3,15 +3,15 @@ use Rattle.std.proofs.Common.{◌≡◌, ℕ, zero, suc, ◌*◌, ◌/◌, ◌%�
 use Rattle.std.proofs.Common.{length, set, get_or, replicate, refl, sym, ap, ap₂, ◌∙◌, arith}
 use Rattle.std.proofs.lemmas.List.{map-set, get_or-map}
 use Rattle.aes3_slot.specs.Slots.{payload_len, slots_len}
-use Rattle.aes3_frame.specs.Blocks.{block_slots, zero_block}
+use Rattle.aes3_frame.specs.Blocks.{block_subframes, zero_block}
 use Rattle.aes3_frame.specs.Files.{is_lawful, payload_of}
 
-pub block_slots_384 : block_slots ≡ 384
-unfolding block_slots
-block_slots_384 = refl
+pub block_subframes_384 : block_subframes ≡ 384
+unfolding block_subframes
+block_subframes_384 = refl
 
-pub count-within : (n : ℕ) → block_slots * (n / block_slots) ≤ n
-unfolding block_slots
+pub count-within : (n : ℕ) → block_subframes * (n / block_subframes) ≤ n
+unfolding block_subframes
 count-within n = omega arith
 
 -- zeros
@@ -24,16 +24,16 @@ get_or-zeros zero i = refl
 get_or-zeros (suc n) zero = refl
 get_or-zeros (suc n) (suc i) = get_or-zeros n i
 
-pub zeros-payloads : (words : List ℕ) → words ≡ replicate block_slots 0 → map payload_of words ≡ zero_block
+pub zeros-payloads : (words : List ℕ) → words ≡ replicate block_subframes 0 → map payload_of words ≡ zero_block
 unfolding zero_block payload_len
-zeros-payloads words e = ap (map payload_of) e ∙ map-replicate payload_of block_slots 0
+zeros-payloads words e = ap (map payload_of) e ∙ map-replicate payload_of block_subframes 0
 
 pub zero-lawful : is_lawful 0 ≡ true
 unfolding slots_len
 zero-lawful = refl
 
-pub zeros-lawful : (words : List ℕ) → words ≡ replicate block_slots 0 → (i : ℕ) → is_lawful (get_or words i 0) ≡ true
-zeros-lawful words e i = ap is_lawful (ap (λ w. get_or w i 0) e ∙ get_or-zeros block_slots i) ∙ zero-lawful
+pub zeros-lawful : (words : List ℕ) → words ≡ replicate block_subframes 0 → (i : ℕ) → is_lawful (get_or words i 0) ≡ true
+zeros-lawful words e i = ap is_lawful (ap (λ w. get_or w i 0) e ∙ get_or-zeros block_subframes i) ∙ zero-lawful
 
 -- two payloads written
 pub payloads-set : (words : List ℕ) (i j v w : ℕ) (x y : List Bool) → payload_of v ≡ x → payload_of w ≡ y
@@ -55,10 +55,10 @@ payload-set words b i w place bit e h f =
     ∙ ap₂ (λ x p. set x i p) e (f ∙ ap (λ p. set p place bit) (sym (payload-at words b i e h)))
 
 -- whole blocks of words and of bytes
-pub slots-whole : (n : ℕ) → block_slots * n / block_slots ≡ n
-unfolding block_slots
+pub slots-whole : (n : ℕ) → block_subframes * n / block_subframes ≡ n
+unfolding block_subframes
 slots-whole n = omega arith
 
-pub bytes-whole : (n : ℕ) → 4 * (block_slots * n) % (4 * block_slots) ≡ 0
-unfolding block_slots
+pub bytes-whole : (n : ℕ) → 4 * (block_subframes * n) % (4 * block_subframes) ≡ 0
+unfolding block_subframes
 bytes-whole n = omega arith

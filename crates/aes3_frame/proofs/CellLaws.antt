@@ -18,9 +18,9 @@ use Rattle.aes3_slot.proofs.Subframes.{after-subframe, length-subframe, length-w
 use Rattle.aes3_slot.proofs.Index.{before-append_right, subframe-last}
 use Rattle.aes3_slot.proofs.Unique.{unique}
 use Rattle.aes3_slot.proofs.Parity.{some-unique}
-use Rattle.aes3_frame.specs.Blocks.{IsBlock, block_slots, block_len, mark_at, block_runs, block_cells, stream}
+use Rattle.aes3_frame.specs.Blocks.{IsBlock, block_subframes, block_len, mark_at, block_runs, block_cells, stream}
 use Rattle.aes3_frame.proofs.Runs.{Each27, after-runs, length-runs}
-use Rattle.aes3_frame.proofs.BlockLemmas.{block_slots_384}
+use Rattle.aes3_frame.proofs.BlockLemmas.{block_subframes_384}
 use Rattle.aes3_frame.proofs.Streams.{EachBlock27, after-stream, stream-nil}
 use Rattle.aes3_frame.proofs.FileLaws.{EachBlock, each-block}
 use Rattle.aes3_frame.proofs.Each.{each-payload}
@@ -35,7 +35,7 @@ length-block_cells s b h =
     n ∙ ap₂ ◌*◌ c w ∙ omega arith
 
 pub block_len_24576 : block_len ≡ 24576
-unfolding block_len block_slots
+unfolding block_len block_subframes
 block_len_24576 = refl
 
 -- the last cell of whole subframes
@@ -107,11 +107,11 @@ block_cells-unique s t b d h g e =
     ∙ other-other t in
     (l, same-blocks s b d h g (e ∙ ap (λ u. block_cells u d) (sym l)))
   where
-    some : (b : List (List Bool)) → length b ≡ block_slots → 0 < length b
+    some : (b : List (List Bool)) → length b ≡ block_subframes → 0 < length b
     some b h = let n = slots-some in omega arith
       where
-        slots-some : 0 < block_slots
-        slots-some = let k = block_slots_384 in omega arith
+        slots-some : 0 < block_subframes
+        slots-some = let k = block_subframes_384 in omega arith
 
 -- blocks one behind the other
 each27-blocks : (bs : List (List (List Bool))) → EachBlock bs → EachBlock27 bs

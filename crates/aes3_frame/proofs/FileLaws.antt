@@ -7,7 +7,7 @@ use Rattle.aes3_bits.specs.Bits.{low_bits, number, odd_ones}
 use Rattle.aes3_slot.specs.Slots.{IsPayload, payload_bits, slots_len, slots_bits, with_parity}
 use Rattle.aes3_bits.proofs.Bits.{number-lt, low_bits-number}
 use Rattle.aes3_slot.proofs.Subframes.{odd_ones-with_parity, length-with_parity}
-use Rattle.aes3_frame.specs.Blocks.{block_slots, IsBlock}
+use Rattle.aes3_frame.specs.Blocks.{block_subframes, IsBlock}
 use Rattle.aes3_frame.specs.Files.{word_of, word_bytes, words_of, block_bytes, file, has_code, is_lawful, payload_of}
 use Rattle.aes3_frame.specs.Files.{blocks_in, file_blocks, IsBlockFile}
 use Rattle.aes3_frame.proofs.BlockLemmas.{slots-whole, bytes-whole}
@@ -88,7 +88,7 @@ lawful-file (b ∷ bs) h = lawful-append (map word_of b) (flat_map (map word_of)
 
 -- how many words and bytes
 count-words : (bs : List (List (List Bool))) → EachBlock bs
-    → length (flat_map (map word_of) bs) ≡ block_slots * length bs
+    → length (flat_map (map word_of) bs) ≡ block_subframes * length bs
 count-words [] h = omega arith
 count-words (b ∷ bs) h =
     let l = length-append (map word_of b) (flat_map (map word_of) bs) in
@@ -102,7 +102,7 @@ length-bytes [] = refl
 length-bytes (w ∷ ws) = let e = length-append (word_bytes w) (flat_map word_bytes ws) in
     let i = length-bytes ws in omega arith
 
-pub length-file : (bs : List (List (List Bool))) → EachBlock bs → length (file bs) ≡ 4 * (block_slots * length bs)
+pub length-file : (bs : List (List (List Bool))) → EachBlock bs → length (file bs) ≡ 4 * (block_subframes * length bs)
 unfolding block_bytes
 length-file [] h = omega arith
 length-file (b ∷ bs) h =
@@ -121,9 +121,9 @@ payloads-back (p ∷ ps) h = ap₂ (λ x xs. x ∷ xs) (payload-word p h.0) (pay
 blocks-of-words : (bs : List (List (List Bool))) → EachBlock bs → blocks_in (length bs) (flat_map (map word_of) bs) ≡ bs
 blocks-of-words [] h = refl
 blocks-of-words (b ∷ bs) h =
-    let n : length (map word_of b) ≡ block_slots = length-map b word_of ∙ h.0.count in
-    ap₂ (λ x y. map payload_of x ∷ y) (take_at (map word_of b) (flat_map (map word_of) bs) block_slots n)
-    (ap (blocks_in (length bs)) (drop_at (map word_of b) (flat_map (map word_of) bs) block_slots n)
+    let n : length (map word_of b) ≡ block_subframes = length-map b word_of ∙ h.0.count in
+    ap₂ (λ x y. map payload_of x ∷ y) (take_at (map word_of b) (flat_map (map word_of) bs) block_subframes n)
+    (ap (blocks_in (length bs)) (drop_at (map word_of b) (flat_map (map word_of) bs) block_subframes n)
     ∙ blocks-of-words bs h.1)
     ∙ ap (λ x. x ∷ bs) (payloads-back b (each-payload b h.0.payloads))
 
@@ -133,9 +133,9 @@ file_blocks-file bs h =
     let e = each-block bs h in
     let w = words-of-file bs e in
     let l = lawful-words (file bs) (ap all_lawful w ∙ lawful-file bs e) ∙ w in
-    let c : length (flat_map (map word_of) bs) / block_slots ≡ length bs = ap (λ k. k / block_slots) (count-words bs e)
+    let c : length (flat_map (map word_of) bs) / block_subframes ≡ length bs = ap (λ k. k / block_subframes) (count-words bs e)
     ∙ slots-whole (length bs) in
-    ap (λ ws. blocks_in (length ws / block_slots) ws) l ∙ ap (λ k. blocks_in k (flat_map (map word_of) bs)) c
+    ap (λ ws. blocks_in (length ws / block_subframes) ws) l ∙ ap (λ k. blocks_in k (flat_map (map word_of) bs)) c
     ∙ blocks-of-words bs e
 
 pub is_block_file-file : (bs : List (List (List Bool))) → All IsBlock bs → IsBlockFile (file bs)
@@ -143,6 +143,6 @@ is_block_file-file bs h =
     let e = each-block bs h in
     let w = words-of-file bs e in
     record {
-      whole = ap (λ k. k % (4 * block_slots)) (length-file bs e) ∙ bytes-whole (length bs);
+      whole = ap (λ k. k % (4 * block_subframes)) (length-file bs e) ∙ bytes-whole (length bs);
       lawful = lawful-words (file bs) (ap all_lawful w ∙ lawful-file bs e);
     }

@@ -50,17 +50,17 @@ pub right-even : (s : Level) (n : ℕ) (words : List ℕ) → length words ≤ n
 right-even s n words l right = ap length (sym (none-odd s mark_at words (λ j g. right j (omega arith))))
 
 -- more words put behind some that are known to be right
-pub right-behind : (first s : Level) (right known slot more : ℕ) (words new : List ℕ) → AreRight first right words
-    → ((j : ℕ) → j < known → ((j < slot) × (j < right) × (first ≡ s)) ⊎ ((slot ≤ j) × (j < slot + more)))
-    → ((j : ℕ) → j < slot → get_or new j 0 ≡ get_or words j 0)
-    → ((i : ℕ) → i < more → IsRight s (mark_at (slot + i)) (get_or new (slot + i) 0)) → AreRight s known new
-right-behind first s right known slot more words new old parts same put j h =
+pub right-behind : (first s : Level) (right known subframe more : ℕ) (words new : List ℕ) → AreRight first right words
+    → ((j : ℕ) → j < known → ((j < subframe) × (j < right) × (first ≡ s)) ⊎ ((subframe ≤ j) × (j < subframe + more)))
+    → ((j : ℕ) → j < subframe → get_or new j 0 ≡ get_or words j 0)
+    → ((i : ℕ) → i < more → IsRight s (mark_at (subframe + i)) (get_or new (subframe + i) 0)) → AreRight s known new
+right-behind first s right known subframe more words new old parts same put j h =
     elim (parts j h) [
       | inl p ↦ subst (λ t. IsRight t (mark_at j) (get_or new j 0)) p.2
           (subst (IsRight first (mark_at j)) (sym (same j p.0)) (old j p.1))
       | inr p ↦
-          let e : slot + (j - slot) ≡ j = omega (arith, p.0) in
-          subst (λ k. IsRight s (mark_at k) (get_or new k 0)) e (put (j - slot) (omega (arith, p.1, p.0)))
+          let e : subframe + (j - subframe) ≡ j = omega (arith, p.0) in
+          subst (λ k. IsRight s (mark_at k) (get_or new k 0)) e (put (j - subframe) (omega (arith, p.1, p.0)))
     ]
 
 -- a list with others put into it

@@ -7,7 +7,7 @@ use Rattle.aes3_bits.specs.Bits.{odd_ones}
 use Rattle.aes3_slot.specs.Slots.{payload_len}
 use Rattle.aes3_slot.specs.ReadWords.{read_word}
 use Rattle.aes3_frame.specs.declared.fill.Fill.{Fill}
-use Rattle.aes3_frame.specs.Blocks.{block_slots}
+use Rattle.aes3_frame.specs.Blocks.{block_subframes}
 use Rattle.aes3_frame.specs.Files.{payload_of}
 use Rattle.aes3_frame.specs.Mending.{filling_payload, mended_payload, mended_behind, mended}
 
@@ -54,10 +54,10 @@ made-all fill held other words cells i all n none e =
     (take_all i words (omega arith)) none ∙ append-nil (map payload_of words))
 
 pub behind-kept : (fill : Fill) (before : List (List Bool)) (kept : List ℕ) (slots : List (List Bool))
-    → length kept ≡ block_slots → map payload_of kept ≡ before
+    → length kept ≡ block_subframes → map payload_of kept ≡ before
     → mended_behind fill (payload_of (get_or kept 382 0)) (payload_of (get_or kept 383 0)) slots
     ≡ mended fill before slots
-unfolding mended block_slots
+unfolding mended block_subframes
 behind-kept fill before kept slots n e =
     ap₂ (λ v w. mended_behind fill v w slots)
     (sym (get_or-map payload_of kept 382 0 [] (omega arith)) ∙ ap (λ b. get_or b 382 []) e)

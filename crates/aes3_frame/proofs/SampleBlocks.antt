@@ -9,9 +9,9 @@ use Rattle.std.proofs.lemmas.List.{drop-append-le, take-append-drop, take-set-le
 use Rattle.aes3_bits.specs.Bits.{low_bits, number}
 use Rattle.aes3_slot.specs.Slots.{payload_len, payload_bits}
 use Rattle.aes3_bits.proofs.Bits.{low_bits-add, length-low_bits, number-low_bits}
-use Rattle.aes3_frame.specs.declared.status.Channel.{Channel}
-use Rattle.aes3_frame.specs.declared.status.Channel.TheVariants.{First, Second}
-use Rattle.aes3_frame.specs.Blocks.{block_slots, IsBlock}
+use Rattle.aes3_frame.specs.declared.channel.Channel.{Channel}
+use Rattle.aes3_frame.specs.declared.channel.Channel.TheVariants.{First, Second}
+use Rattle.aes3_frame.specs.Blocks.{block_subframes, IsBlock}
 use Rattle.aes3_frame.specs.Files.{bytes_number, words_of, word_bytes}
 use Rattle.aes3_frame.specs.Samples.{sample_of, block_samples, samples}
 use Rattle.aes3_frame.specs.Sampled.{IsSample, payload_of_sample, sample_blocks, sampled, filled}
@@ -83,52 +83,52 @@ words-zeros (suc n) =
     ∙ ap (λ ws. 0 ∷ ws) (words-zeros n)
 
 -- the blocks of samples one behind the other
-blocks-join : (m n : ℕ) (p q : List ℕ) → length p ≡ block_slots * m
+blocks-join : (m n : ℕ) (p q : List ℕ) → length p ≡ block_subframes * m
     → sample_blocks (m + n) (p ++ q) ≡ sample_blocks m p ++ sample_blocks n q
 blocks-join zero n p q h = ap₂ (λ k v. sample_blocks k (v ++ q)) (let e : 0 + n ≡ n = omega arith in
     e) (nil_from_length p (omega arith))
 blocks-join (suc m) n p q h =
-    let le : block_slots ≤ length p = omega arith in
-    let l = length-drop block_slots p in
+    let le : block_subframes ≤ length p = omega arith in
+    let l = length-drop block_subframes p in
     ap (λ k. sample_blocks k (p ++ q)) (let e : suc m + n ≡ suc (m + n) = omega arith in e)
-    ∙ ap₂ (λ x y. map payload_of_sample x ∷ y) (take-append-le block_slots p q le)
-    (ap (sample_blocks (m + n)) (drop-append-le block_slots p q le)
-    ∙ blocks-join m n (drop block_slots p) q (omega arith))
+    ∙ ap₂ (λ x y. map payload_of_sample x ∷ y) (take-append-le block_subframes p q le)
+    (ap (sample_blocks (m + n)) (drop-append-le block_subframes p q le)
+    ∙ blocks-join m n (drop block_subframes p) q (omega arith))
 
-count-join : (m n k : ℕ) → k ≡ m + n → m % block_slots ≡ 0 → k / block_slots ≡ m / block_slots + n / block_slots
-unfolding block_slots
+count-join : (m n k : ℕ) → k ≡ m + n → m % block_subframes ≡ 0 → k / block_subframes ≡ m / block_subframes + n / block_subframes
+unfolding block_subframes
 count-join m n k e h = omega arith
 
-count-whole : (n : ℕ) → n % block_slots ≡ 0 → n ≡ block_slots * (n / block_slots)
-unfolding block_slots
+count-whole : (n : ℕ) → n % block_subframes ≡ 0 → n ≡ block_subframes * (n / block_subframes)
+unfolding block_subframes
 count-whole n h = omega arith
 
-pub sampled-join : (p q : List ℕ) → length p % block_slots ≡ 0 → sampled (p ++ q) ≡ sampled p ++ sampled q
+pub sampled-join : (p q : List ℕ) → length p % block_subframes ≡ 0 → sampled (p ++ q) ≡ sampled p ++ sampled q
 unfolding sampled
 sampled-join p q h =
     ap (λ k. sample_blocks k (p ++ q)) (count-join (length p) (length q) (length (p ++ q)) (length-append p q) h)
-    ∙ blocks-join (length p / block_slots) (length q / block_slots) p q (count-whole (length p) h)
+    ∙ blocks-join (length p / block_subframes) (length q / block_subframes) p q (count-whole (length p) h)
 
-pub sampled-short : (q : List ℕ) → length q < block_slots → sampled q ≡ []
-unfolding sampled block_slots
+pub sampled-short : (q : List ℕ) → length q < block_subframes → sampled q ≡ []
+unfolding sampled block_subframes
 sampled-short q h = ap (λ k. sample_blocks k q) (let e : length q / 384 ≡ 0 = omega arith in e)
 
-pub sampled-one : (q : List ℕ) → length q ≡ block_slots → sampled q ≡ map payload_of_sample q ∷ []
-unfolding sampled block_slots
+pub sampled-one : (q : List ℕ) → length q ≡ block_subframes → sampled q ≡ map payload_of_sample q ∷ []
+unfolding sampled block_subframes
 sampled-one q h =
     ap (λ k. sample_blocks k q) (let e : length q / 384 ≡ 1 = omega arith in e)
     ∙ ap (λ v. map payload_of_sample v ∷ []) (take_all 384 q (omega arith))
 
 length-blocks : (n : ℕ) (ws : List ℕ) → length (sample_blocks n ws) ≡ n
 length-blocks zero ws = refl
-length-blocks (suc n) ws = ap suc (length-blocks n (drop block_slots ws))
+length-blocks (suc n) ws = ap suc (length-blocks n (drop block_subframes ws))
 
 pub length-sampled : (ws : List ℕ) → length (sampled ws) ≡ length ws / 384
-unfolding sampled block_slots
+unfolding sampled block_subframes
 length-sampled ws = length-blocks (length ws / 384) ws
 
 pub length-filled : (ws : List ℕ) → length (filled ws) ≡ length ws + (384 - length ws % 384) % 384
-unfolding block_slots
+unfolding block_subframes
 length-filled ws =
     length-append ws (replicate ((384 - length ws % 384) % 384) 0)
     ∙ ap (λ k. length ws + k) (length-replicate ((384 - length ws % 384) % 384) 0)
@@ -138,23 +138,23 @@ each-sample : (ws : List ℕ) → Each27 (map payload_of_sample ws)
 each-sample [] = tt
 each-sample (w ∷ ws) = (length-payload w, each-sample ws)
 
-sample-block : (ws : List ℕ) → block_slots ≤ length ws → IsBlock (map payload_of_sample (take block_slots ws))
+sample-block : (ws : List ℕ) → block_subframes ≤ length ws → IsBlock (map payload_of_sample (take block_subframes ws))
 sample-block ws h = record {
-  count = length-map (take block_slots ws) payload_of_sample ∙ length-take-le block_slots ws h;
-  payloads = all-payloads (map payload_of_sample (take block_slots ws)) (each-sample (take block_slots ws));
+  count = length-map (take block_subframes ws) payload_of_sample ∙ length-take-le block_subframes ws h;
+  payloads = all-payloads (map payload_of_sample (take block_subframes ws)) (each-sample (take block_subframes ws));
 }
 
-blocks-lawful : (n : ℕ) (ws : List ℕ) → block_slots * n ≤ length ws → All IsBlock (sample_blocks n ws)
+blocks-lawful : (n : ℕ) (ws : List ℕ) → block_subframes * n ≤ length ws → All IsBlock (sample_blocks n ws)
 blocks-lawful zero ws h = all-nil IsBlock
 blocks-lawful (suc n) ws h =
-    let l = length-drop block_slots ws in
-    all-cons IsBlock (map payload_of_sample (take block_slots ws)) (sample_blocks n (drop block_slots ws))
+    let l = length-drop block_subframes ws in
+    all-cons IsBlock (map payload_of_sample (take block_subframes ws)) (sample_blocks n (drop block_subframes ws))
     (sample-block ws (omega arith))
-    (blocks-lawful n (drop block_slots ws) (omega arith))
+    (blocks-lawful n (drop block_subframes ws) (omega arith))
 
 pub sampled-lawful : (ws : List ℕ) → All IsBlock (sampled ws)
 unfolding sampled
-sampled-lawful ws = blocks-lawful (length ws / block_slots) ws (count-within (length ws))
+sampled-lawful ws = blocks-lawful (length ws / block_subframes) ws (count-within (length ws))
 
 -- samples of 24 bits are those of their blocks
 abbrev EachSample : List ℕ → Type 0
@@ -175,16 +175,16 @@ each-drop zero ws h = h
 each-drop (suc n) [] h = tt
 each-drop (suc n) (w ∷ ws) h = each-drop n ws h.1
 
-samples-blocks : (n : ℕ) (ws : List ℕ) → length ws ≡ block_slots * n → EachSample ws
+samples-blocks : (n : ℕ) (ws : List ℕ) → length ws ≡ block_subframes * n → EachSample ws
     → samples (sample_blocks n ws) ≡ flat_map word_bytes ws
 unfolding block_samples
 samples-blocks zero ws l h = ap (flat_map word_bytes) (sym (nil_from_length ws (omega arith)))
 samples-blocks (suc n) ws l h =
-    let k = length-drop block_slots ws in
-    ap₂ ◌++◌ (ap (flat_map word_bytes) (each-back (take block_slots ws) (each-take block_slots ws h)))
-    (samples-blocks n (drop block_slots ws) (omega arith) (each-drop block_slots ws h))
-    ∙ sym (flat_map-append word_bytes (take block_slots ws) (drop block_slots ws))
-    ∙ ap (flat_map word_bytes) (take-append-drop block_slots ws)
+    let k = length-drop block_subframes ws in
+    ap₂ ◌++◌ (ap (flat_map word_bytes) (each-back (take block_subframes ws) (each-take block_subframes ws h)))
+    (samples-blocks n (drop block_subframes ws) (omega arith) (each-drop block_subframes ws h))
+    ∙ sym (flat_map-append word_bytes (take block_subframes ws) (drop block_subframes ws))
+    ∙ ap (flat_map word_bytes) (take-append-drop block_subframes ws)
 
 each-of : (ws : List ℕ) → All IsSample ws → EachSample ws
 each-of [] h = tt
@@ -202,16 +202,16 @@ each-words (w ∷ ws) h = ap₂ (λ x xs. x ∷ xs) (bytes_number-low_bytes w h.
 pub words-back : (ws : List ℕ) → All IsSample ws → words_of (flat_map word_bytes ws) ≡ ws
 words-back ws h = each-words ws (each-of ws h)
 
-filled-whole : (n k : ℕ) → k ≡ n + (384 - n % 384) % 384 → k % block_slots ≡ 0
-unfolding block_slots
+filled-whole : (n k : ℕ) → k ≡ n + (384 - n % 384) % 384 → k % block_subframes ≡ 0
+unfolding block_subframes
 filled-whole n k e = omega arith
 
 pub samples-filled : (ws : List ℕ) → All IsSample ws → samples (sampled (filled ws)) ≡ flat_map word_bytes (filled ws)
 unfolding sampled
 samples-filled ws h =
-    samples-blocks (length (filled ws) / block_slots) (filled ws)
+    samples-blocks (length (filled ws) / block_subframes) (filled ws)
     (count-whole (length (filled ws)) (filled-whole (length ws) (length (filled ws)) (length-filled ws)))
-    (each-filled ((block_slots - length ws % block_slots) % block_slots) ws (each-of ws h))
+    (each-filled ((block_subframes - length ws % block_subframes) % block_subframes) ws (each-of ws h))
 
 -- another status leaves the samples
 place-behind : audio_len ≤ status_place

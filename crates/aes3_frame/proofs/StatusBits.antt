@@ -14,11 +14,11 @@ use Rattle.std.proofs.lemmas.List.{get_or_append_left, drop-drop}
 use Rattle.std.proofs.lemmas.Option.{slice_get-map, slice_get-get_or, slice_get_within, get_or_from_slice_get}
 use Rattle.aes3_bits.specs.Bits.{low_bits, number}
 use Rattle.aes3_bits.proofs.Bits.{length-low_bits, low_bits-at, number-lt, number-push}
-use Rattle.aes3_frame.specs.declared.status.Channel.{Channel}
-use Rattle.aes3_frame.specs.declared.status.Channel.TheVariants.{First, Second}
+use Rattle.aes3_frame.specs.declared.channel.Channel.{Channel}
+use Rattle.aes3_frame.specs.declared.channel.Channel.TheVariants.{First, Second}
 use Rattle.aes3_frame.specs.declared.subframe.Subframe.{Subframe}
 use Rattle.aes3_frame.specs.Subframes.{audio_len, bits_of}
-use Rattle.aes3_frame.specs.Statuses.{of_channel, validity_place, user_place, status_place, first_slot_of, bits_at, status_len}
+use Rattle.aes3_frame.specs.Statuses.{of_channel, validity_place, user_place, status_place, first_subframe_of, bits_at, status_len}
 use Rattle.aes3_frame.specs.Statuses.{bytes_in, bits_of_bytes, with_bits_at}
 use Rattle.aes3_frame.proofs.BitLemmas.{bit-set}
 
@@ -84,7 +84,7 @@ bits-get place b channel i p bit e g =
     ∙ ap Some g
 
 -- of the payload at its number
-channel-get : (b : List (List Bool)) (channel : Channel) (i n : ℕ) → n ≡ 2 * i + first_slot_of channel → n < length b
+pub channel-get : (b : List (List Bool)) (channel : Channel) (i n : ℕ) → n ≡ 2 * i + first_subframe_of channel → n < length b
     → slice_get (of_channel channel b) i ≡ Some (get_or b n [])
 channel-get b First i n e h =
     first-get b i (get_or b n []) (ap (slice_get b) (let f : 2 * i ≡ n = omega arith in f) ∙ slice_get-get_or b n [] h)
@@ -92,7 +92,7 @@ channel-get b Second i n e h =
     second-get b i (get_or b n []) (ap (slice_get b) (sym e) ∙ slice_get-get_or b n [] h)
 
 pub channel-bit : (place : ℕ) (b : List (List Bool)) (channel : Channel) (i n at : ℕ) (bit : Bool)
-    → n ≡ 2 * i + first_slot_of channel → n < length b → at ≡ place → get_or (get_or b n []) at false ≡ bit
+    → n ≡ 2 * i + first_subframe_of channel → n < length b → at ≡ place → get_or (get_or b n []) at false ≡ bit
     → slice_get (bits_at place b channel) i ≡ Some bit
 channel-bit place b channel i n at bit e h p g =
     bits-get place b channel i (get_or b n []) bit (channel-get b channel i n e h)
@@ -204,7 +204,7 @@ first-push place (p ∷ q ∷ b) (c ∷ bits) bit =
     rw t (ap (λ ps. set p place c ∷ q ∷ ps) (first-push place b bits bit))
 
 with_bits-push : (place : ℕ) (channel : Channel) (b : List (List Bool)) (bits : List Bool) (bit : Bool) (n : ℕ)
-    → n ≡ 2 * length bits + first_slot_of channel
+    → n ≡ 2 * length bits + first_subframe_of channel
     → set (with_bits_at place channel b bits) n (set (get_or (with_bits_at place channel b bits) n []) place bit)
     ≡ with_bits_at place channel b (bits ++ bit ∷ [])
 with_bits-push place First b bits bit n e =
@@ -221,7 +221,7 @@ with_bits-push place Second (p ∷ b) bits bit n e =
 pub frames-push : (place : ℕ) (channel : Channel) (b now next : List (List Bool)) (bits : List Bool) (i n at : ℕ)
     (bit : Bool)
     → now ≡ with_bits_at place channel b (take i bits) → slice_get bits i ≡ Some bit
-    → n ≡ 2 * i + first_slot_of channel → at ≡ place
+    → n ≡ 2 * i + first_subframe_of channel → at ≡ place
     → next ≡ set now n (set (get_or now n []) at bit)
     → next ≡ with_bits_at place channel b (take (i + 1) bits)
 frames-push place channel b now next bits i n at bit e g k p q =

@@ -8,7 +8,7 @@ use Rattle.aes3_level.specs.declared.level.Level.{Level}
 use Rattle.aes3_level.specs.Cells.{line, after}
 use Rattle.aes3_level.specs.Words.{word_len}
 use Rattle.aes3_level.proofs.Runs.{line-append, after-append}
-use Rattle.aes3_frame.specs.Blocks.{block_slots, mark_at, block_runs, block_cells, stream}
+use Rattle.aes3_frame.specs.Blocks.{block_subframes, mark_at, block_runs, block_cells, stream}
 use Rattle.aes3_frame.specs.Files.{payload_of, blocks_in, lawful_words, file_blocks}
 use Rattle.aes3_frame.proofs.Runs.{Each27, each27-payloads, after-runs, length-runs}
 
@@ -53,33 +53,33 @@ stream-push s bs b h =
 -- the blocks of words
 pub each27-blocks : (n : ℕ) (ws : List ℕ) → EachBlock27 (blocks_in n ws)
 each27-blocks zero ws = tt
-each27-blocks (suc n) ws = (each27-payloads (take block_slots ws), each27-blocks n (drop block_slots ws))
+each27-blocks (suc n) ws = (each27-payloads (take block_subframes ws), each27-blocks n (drop block_subframes ws))
 
-pub blocks-front : (n : ℕ) (ws vs : List ℕ) → block_slots * n ≤ length ws → blocks_in n (ws ++ vs) ≡ blocks_in n ws
+pub blocks-front : (n : ℕ) (ws vs : List ℕ) → block_subframes * n ≤ length ws → blocks_in n (ws ++ vs) ≡ blocks_in n ws
 blocks-front zero ws vs h = refl
 blocks-front (suc n) ws vs h =
-    let le : block_slots ≤ length ws = omega arith in
-    ap₂ (λ x y. map payload_of x ∷ y) (take-append-le block_slots ws vs le)
-    (ap (blocks_in n) (drop-append-le block_slots ws vs le)
-    ∙ blocks-front n (drop block_slots ws) vs (let l = length-drop block_slots ws in omega arith))
+    let le : block_subframes ≤ length ws = omega arith in
+    ap₂ (λ x y. map payload_of x ∷ y) (take-append-le block_subframes ws vs le)
+    (ap (blocks_in n) (drop-append-le block_subframes ws vs le)
+    ∙ blocks-front n (drop block_subframes ws) vs (let l = length-drop block_subframes ws in omega arith))
 
 pub blocks-more : (n : ℕ) (ws : List ℕ)
-    → blocks_in (suc n) ws ≡ blocks_in n ws ++ map payload_of (take block_slots (drop (block_slots * n) ws)) ∷ []
-blocks-more zero ws = ap (λ k. map payload_of (take block_slots (drop k ws)) ∷ [])
-    (let e : 0 ≡ block_slots * 0 = omega arith in e)
+    → blocks_in (suc n) ws ≡ blocks_in n ws ++ map payload_of (take block_subframes (drop (block_subframes * n) ws)) ∷ []
+blocks-more zero ws = ap (λ k. map payload_of (take block_subframes (drop k ws)) ∷ [])
+    (let e : 0 ≡ block_subframes * 0 = omega arith in e)
 blocks-more (suc n) ws =
-    ap (λ z. map payload_of (take block_slots ws) ∷ z)
-    (blocks-more n (drop block_slots ws)
-    ∙ ap (λ k. blocks_in n (drop block_slots ws) ++ map payload_of (take block_slots k) ∷ [])
-    (drop-drop (block_slots * n) block_slots ws
-    ∙ ap (λ k. drop k ws) (let e : block_slots + block_slots * n ≡ block_slots * suc n = omega arith in e)))
+    ap (λ z. map payload_of (take block_subframes ws) ∷ z)
+    (blocks-more n (drop block_subframes ws)
+    ∙ ap (λ k. blocks_in n (drop block_subframes ws) ++ map payload_of (take block_subframes k) ∷ [])
+    (drop-drop (block_subframes * n) block_subframes ws
+    ∙ ap (λ k. drop k ws) (let e : block_subframes + block_subframes * n ≡ block_subframes * suc n = omega arith in e)))
 
 pub each27-whole : (b : List ℕ) → EachBlock27 (file_blocks b)
 unfolding file_blocks
-each27-whole b = each27-blocks (length (lawful_words b) / block_slots) (lawful_words b)
+each27-whole b = each27-blocks (length (lawful_words b) / block_subframes) (lawful_words b)
 
 pub file_blocks-nil : file_blocks [] ≡ []
-unfolding file_blocks lawful_words block_slots
+unfolding file_blocks lawful_words block_subframes
 file_blocks-nil = refl
 
 pub stream-nil : (s : Level) → stream s [] ≡ []

@@ -7,19 +7,19 @@ use Rattle.aes3_slot.specs.Slots.{payload_len, IsPayload, with_parity, runs_of}
 unfoldable pub use Rattle.aes3_slot.specs.Slots.{mark_at}
 
 -- how many subframes and how many cells a block has
-unfoldable pub block_slots : ℕ
-block_slots = 384
+unfoldable pub block_subframes : ℕ
+block_subframes = 384
 
 unfoldable pub block_len : ℕ
-block_len = 64 * block_slots
+block_len = 64 * block_subframes
 
 pub record IsBlock (b : List (List Bool)) : Type 0 where
-  pub count : length b ≡ block_slots
+  pub count : length b ≡ block_subframes
   pub payloads : All IsPayload b
 
 -- the block all of whose bits are 0
 unfoldable pub zero_block : List (List Bool)
-zero_block = replicate block_slots (replicate payload_len false)
+zero_block = replicate block_subframes (replicate payload_len false)
 
 -- the runs of a block, its cells after level s, and the cells of blocks one behind the other
 abbrev pub block_runs : List (List Bool) → List ℕ

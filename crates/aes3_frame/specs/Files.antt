@@ -4,7 +4,7 @@ use Rattle.std.specs.Prelude.{take, drop, take_while}
 use Rattle.std.specs.List.{flat_map}
 use Rattle.aes3_bits.specs.Bits.{number, odd_ones}
 use Rattle.aes3_slot.specs.Slots.{payload_bits, slots_bits, with_parity}
-use Rattle.aes3_frame.specs.Blocks.{block_slots}
+use Rattle.aes3_frame.specs.Blocks.{block_subframes}
 
 -- the word of a payload: slots 0 to 3 are zero, slot 31 is the parity bit
 abbrev pub word_of : List Bool → ℕ
@@ -56,13 +56,13 @@ lawful_words bytes = take_while is_lawful (words_of bytes)
 -- the first n blocks of words
 abbrev pub blocks_in : ℕ → List ℕ → List (List (List Bool))
 blocks_in zero words = []
-blocks_in (suc n) words = map payload_of (take block_slots words) ∷ blocks_in n (drop block_slots words)
+blocks_in (suc n) words = map payload_of (take block_subframes words) ∷ blocks_in n (drop block_subframes words)
 
 -- the blocks that stand whole in bytes before the first word that is not lawful
 unfoldable pub file_blocks : List ℕ → List (List (List Bool))
-file_blocks bytes = blocks_in (length (lawful_words bytes) / block_slots) (lawful_words bytes)
+file_blocks bytes = blocks_in (length (lawful_words bytes) / block_subframes) (lawful_words bytes)
 
 -- bytes that are a block file: whole blocks of lawful words
 pub record IsBlockFile (bytes : List ℕ) : Type 0 where
-  pub whole : length bytes % (4 * block_slots) ≡ 0
+  pub whole : length bytes % (4 * block_subframes) ≡ 0
   pub lawful : lawful_words bytes ≡ words_of bytes

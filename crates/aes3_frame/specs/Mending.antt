@@ -4,7 +4,7 @@ use Rattle.aes3_bits.specs.Bits.{odd_ones}
 use Rattle.aes3_slot.specs.Slots.{payload_len}
 use Rattle.aes3_frame.specs.declared.fill.Fill.{Fill}
 use Rattle.aes3_frame.specs.declared.fill.Fill.TheVariants.{Zero, Hold}
-use Rattle.aes3_frame.specs.Blocks.{block_slots}
+use Rattle.aes3_frame.specs.Blocks.{block_subframes}
 
 -- what fills a subframe: zeros, or the payload of the one before it in its channel
 abbrev pub filling_payload : Fill → List Bool → List Bool
@@ -24,4 +24,4 @@ mended_behind fill held other (bits ∷ slots) =
 -- those of a block's subframes behind another block
 unfoldable pub mended : Fill → List (List Bool) → List (List Bool) → List (List Bool)
 mended fill before slots =
-    mended_behind fill (get_or before (block_slots - 2) []) (get_or before (block_slots - 1) []) slots
+    mended_behind fill (get_or before (block_subframes - 2) []) (get_or before (block_subframes - 1) []) slots

@@ -2,10 +2,10 @@
 use Rattle.std.specs.Prelude.{ℕ, zero, suc, List, [], ◌∷◌, Bool, false, ◌+◌, map, take, drop, slice_index_or, slice_set}
 use Rattle.std.specs.List.{flat_map}
 use Rattle.aes3_bits.specs.Bits.{low_bits, number}
-use Rattle.aes3_frame.specs.declared.carried.Carried.{Carried}
-use Rattle.aes3_frame.specs.declared.carried.Carried.TheVariants.{Validity, User, Status}
-use Rattle.aes3_frame.specs.declared.status.Channel.{Channel}
-use Rattle.aes3_frame.specs.declared.status.Channel.TheVariants.{First, Second}
+use Rattle.aes3_frame.specs.declared.carried.CarriedBits.{CarriedBits}
+use Rattle.aes3_frame.specs.declared.carried.CarriedBits.TheVariants.{Validity, User, Status}
+use Rattle.aes3_frame.specs.declared.channel.Channel.{Channel}
+use Rattle.aes3_frame.specs.declared.channel.Channel.TheVariants.{First, Second}
 use Rattle.aes3_frame.specs.Subframes.{audio_len}
 
 -- the payloads of a channel: payloads are of the first and the second channel in turn, so behind one the two change
@@ -16,9 +16,9 @@ of_channel First (p ∷ ps) = p ∷ of_channel Second ps
 of_channel Second (p ∷ ps) = of_channel First ps
 
 -- the number of a channel's first payload; each of its others stands two behind the one before
-abbrev pub first_slot_of : Channel → ℕ
-first_slot_of First = 0
-first_slot_of Second = 1
+abbrev pub first_subframe_of : Channel → ℕ
+first_subframe_of First = 0
+first_subframe_of Second = 1
 
 -- where V, U and C stand in a payload: behind the audio, in this order
 unfoldable pub validity_place : ℕ
@@ -30,7 +30,7 @@ user_place = audio_len + 1
 unfoldable pub status_place : ℕ
 status_place = audio_len + 2
 
-abbrev pub place_of : Carried → ℕ
+abbrev pub place_of : CarriedBits → ℕ
 place_of Validity = validity_place
 place_of User = user_place
 place_of Status = status_place

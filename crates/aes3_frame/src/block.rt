@@ -1,56 +1,60 @@
 //! Blocks, also made of samples in the form of sound programs.
-use aes3_slot::SUBFRAME_CELLS;
+use aes3_slot::{SUBFRAME_CELLS, slot_bits};
 use std::marker::Model;
 
 /// How many frames a block has.
 pub const FRAMES: usize = 192;
 
 /// How many subframes a block has.
-pub const SLOTS: usize = 384;
+pub const SUBFRAMES: usize = 384;
 
 /// How many cells a block has.
-pub const BLOCK_CELLS: u64 = SUBFRAME_CELLS * SLOTS as u64;
+pub const BLOCK_CELLS: u64 = SUBFRAME_CELLS * SUBFRAMES as u64;
 
 /// How many bytes a block has in a block file.
-pub const BLOCK_BYTES: usize = 4 * SLOTS;
+pub const BLOCK_BYTES: usize = 4 * SUBFRAMES;
 
 /// A block: 192 frames that begin with preamble Z (AES3-3, IEC 60958-1).
 ///
 /// A contract sees it as its 384 payloads in order of transmission, channel 1 first.
 #[derive(Drop)]
 pub struct Block {
-    words: [u32; SLOTS],
+    words: [u32; SUBFRAMES],
 }
 
 impl Model for Block {
     ghost use Rattle.std.specs.Prelude.{List, Bool, ℕ, ◌<◌, ◌≡◌, true, get_or, map};
     ghost use Rattle.aes3_frame.specs.Files.{is_lawful, payload_of};
-    ghost use Rattle.aes3_frame.specs.Blocks.{block_slots};
+    ghost use Rattle.aes3_frame.specs.Blocks.{block_subframes};
 
     ghost Value = { List (List Bool) };
 
     ghost view = { λ b. map payload_of b.words };
 
-    ghost invariant = { λ b. (i : ℕ) → i < block_slots → is_lawful (get_or b.words i 0) ≡ true };
+    ghost invariant = { λ b. (i : ℕ) → i < block_subframes → is_lawful (get_or b.words i 0) ≡ true };
 }
 
 ghost use Rattle.std.specs.Prelude.{◌≡◌, ◌<◌, ◌+◌, ◌*◌, ℕ, IfErr, IfOk, Some, true, false, get_or};
-ghost use Rattle.std.specs.Prelude.{[], length, map, replicate, slice_get, slice_index_or, slice_set};
-ghost use Rattle.aes3_frame.specs.Blocks.{block_slots, zero_block};
+ghost use Rattle.std.specs.Prelude.{[], length, map, replicate, slice_get, slice_index_or, slice_set, take};
+ghost use Rattle.aes3_frame.specs.Blocks.{block_subframes, zero_block};
 ghost use Rattle.aes3_frame.specs.Files.{is_lawful, payload_of, words_of};
 ghost use Rattle.aes3_frame.specs.Subframes.{bits_of};
 ghost use Rattle.aes3_frame.specs.Sampled.{payload_of_sample};
+ghost use Rattle.aes3_slot.specs.ReadWords.{read_word, read_words};
+ghost use Rattle.aes3_slot.specs.Slots.{payload_len};
 
+use crate::file_word::{
+    PAYLOAD_LIMIT, has_right_code, has_right_parity, payload_of_word, with_bit, word_of_payload,
+};
 use crate::frame::Frame;
 use crate::subframe::Subframe;
-use crate::word::{has_right_code, has_right_parity, payload_of_word, with_bit, word_of_payload};
 
 /// Words of payloads that are 0.
-#[tactic(auto, unfolding(crate::specs::Blocks::block_slots))]
-pub fn zero_words() -> [u32; SLOTS]
-    ensures { result ≡ replicate block_slots 0 }
+#[tactic(auto, unfolding(crate::specs::Blocks::block_subframes))]
+pub fn zero_words() -> [u32; SUBFRAMES]
+    ensures { result ≡ replicate block_subframes 0 }
 {
-    [0; SLOTS]
+    [0; SUBFRAMES]
 }
 
 /// Whether a word is valid in a block file.
@@ -60,12 +64,12 @@ pub(crate) fn is_lawful_word(word: u32) -> bool
     has_right_code(word) && has_right_parity(word)
 }
 
-/// Sample `slot` of a block.
-fn sample_at(bytes: &[u8; BLOCK_BYTES], slot: usize) -> u32
-    requires { slot < SLOTS }
-    ensures { result ≡ get_or (words_of bytes.now) slot 0 }
+/// Sample `subframe` of a block.
+fn sample_at(bytes: &[u8; BLOCK_BYTES], subframe: usize) -> u32
+    requires { subframe < SUBFRAMES }
+    ensures { result ≡ get_or (words_of bytes.now) subframe 0 }
 {
-    let at = 4 * slot;
+    let at = 4 * subframe;
     u32::from_le_bytes([bytes[at], bytes[at + 1], bytes[at + 2], bytes[at + 3]])
 }
 
@@ -75,6 +79,14 @@ fn word_of_sample(sample: u32) -> u32
     ensures payload { payload_of result ≡ payload_of_sample sample }
 {
     word_of_payload(sample >> 8)
+}
+
+/// The valid word of the payload that a subframe's 64 cells carry.
+pub(crate) fn word_of_cells(cells: u64) -> u32
+    ensures lawful { is_lawful result ≡ true }
+    ensures payload { payload_of result ≡ take payload_len (read_word cells) }
+{
+    word_of_payload(slot_bits(cells) % PAYLOAD_LIMIT)
 }
 
 impl Block {
@@ -94,10 +106,22 @@ impl Block {
         ensures { result ≡ map payload_of_sample (words_of bytes.now) }
     {
         let mut words = zero_words();
-        for slot in 0..SLOTS {
-            words[slot] = word_of_sample(sample_at(bytes, slot));
+        for subframe in 0..SUBFRAMES {
+            words[subframe] = word_of_sample(sample_at(bytes, subframe));
         }
         Block::of_words(words)
+    }
+
+    /// The block whose payloads these subframes carry, 64 cells each, the earliest in bit 0.
+    /// Preambles and parity bits are ignored.
+    pub fn of_cells(words: &[u64; SUBFRAMES]) -> Block
+        ensures { result ≡ map (take payload_len) (read_words words.now) }
+    {
+        let mut lawful = zero_words();
+        for (subframe, cells) in words.iter().enumerate() {
+            lawful[subframe] = word_of_cells(*cells);
+        }
+        Block::of_words(lawful)
     }
 
     /// A copy of the block.
@@ -129,27 +153,27 @@ impl Block {
         self.words[2 * i + 1] = word_of_payload(frame.second.payload());
     }
 
-    /// Sets the bit at `place` of payload `slot`. All other bits are unchanged.
+    /// Sets the bit at `place` of payload `subframe`. All other bits are unchanged.
     #[inline(always)]
-    pub(crate) fn set_bit(&mut self, slot: usize, place: u32, value: bool)
-        requires slot { slot < SLOTS }
+    pub(crate) fn set_bit(&mut self, subframe: usize, place: u32, value: bool)
+        requires subframe { subframe < SUBFRAMES }
         requires place { place < 27 }
         ensures { self.new
-            ≡ slice_set self.old slot (slice_set (slice_index_or self.old slot []) place value) }
+            ≡ slice_set self.old subframe (slice_set (slice_index_or self.old subframe []) place value) }
     {
-        self.words[slot] = with_bit(self.words[slot], place, value);
+        self.words[subframe] = with_bit(self.words[subframe], place, value);
     }
 
     /// The block of these words of a block file.
     ///
     /// # Errors
     /// The number of the first word that is not valid.
-    #[tactic(auto, unfolding(crate::specs::Blocks::block_slots))]
-    pub fn try_of_words(words: &[u32; SLOTS]) -> Result<Block, usize>
+    #[tactic(auto, unfolding(crate::specs::Blocks::block_subframes))]
+    pub fn try_of_words(words: &[u32; SUBFRAMES]) -> Result<Block, usize>
         ensures block { IfOk result (λ b. b ≡ map payload_of words.now) }
-        ensures lawful { IfOk result (λ _. (i : ℕ) → i < block_slots
+        ensures lawful { IfOk result (λ _. (i : ℕ) → i < block_subframes
             → is_lawful (get_or words.now i 0) ≡ true) }
-        ensures within { IfErr result (λ n. n < block_slots) }
+        ensures within { IfErr result (λ n. n < block_subframes) }
         ensures unlawful { IfErr result (λ n. is_lawful (get_or words.now n 0) ≡ false) }
         ensures first { IfErr result (λ n. (i : ℕ) → i < n
             → is_lawful (get_or words.now i 0) ≡ true) }
@@ -163,17 +187,17 @@ impl Block {
     }
 
     /// The block of valid words.
-    pub fn of_words(words: [u32; SLOTS]) -> Block
-        requires { (i : ℕ) → i < block_slots → is_lawful (get_or words i 0) ≡ true }
+    pub fn of_words(words: [u32; SUBFRAMES]) -> Block
+        requires { (i : ℕ) → i < block_subframes → is_lawful (get_or words i 0) ≡ true }
         ensures { result ≡ map payload_of words }
     {
         Block { words }
     }
 
     /// The words of the block in a block file.
-    pub fn words(&self) -> &[u32; SLOTS]
-        ensures count { length result.now ≡ block_slots }
-        ensures lawful { (i : ℕ) → i < block_slots → is_lawful (get_or result.now i 0) ≡ true }
+    pub fn words(&self) -> &[u32; SUBFRAMES]
+        ensures count { length result.now ≡ block_subframes }
+        ensures lawful { (i : ℕ) → i < block_subframes → is_lawful (get_or result.now i 0) ≡ true }
         ensures payloads { map payload_of result.now ≡ self.now }
     {
         &self.words

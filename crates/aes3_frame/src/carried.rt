@@ -1,10 +1,14 @@
 //! The V, U and C bits that the frames of a block carry after their audio, as bytes.
 
-/// The bits of a subframe after its audio.
-#[derive(Clone, Copy)]
-pub enum Carried {
+/// The bits that each subframe carries after its audio, 192 of each kind for a channel in a block
+/// (AES3-1, IEC 60958-1).
+#[derive(Clone, Copy, PartialEq, Eq)]
+pub enum CarriedBits {
+    /// V, which is 0 if the sample is valid.
     Validity,
+    /// U, the user data.
     User,
+    /// C, the channel status.
     Status,
 }
 
@@ -12,12 +16,12 @@ ghost use Rattle.std.specs.Prelude.{◌≡◌, ◌≤◌, ◌<◌, ◌*◌, Some
 ghost use Rattle.aes3_bits.specs.Bits.{number};
 ghost use Rattle.aes3_frame.specs.Ones.{ones_in};
 ghost use Rattle.aes3_frame.specs.Statuses.{bits_at, bits_of_bytes, bytes_in, place_of, status_len};
-ghost use Rattle.aes3_frame.specs.Statuses.{first_slot_of, validity_of, user_of, with_bits_at};
+ghost use Rattle.aes3_frame.specs.Statuses.{first_subframe_of, validity_of, user_of, with_bits_at};
 ghost use Rattle.aes3_frame.specs.Statuses.{with_validity, with_user, status_of, with_status};
 
 use crate::block::{Block, FRAMES};
-use crate::status::{Channel, STATUS_LEN};
-use crate::word::bit_of_word;
+use crate::channel::{Channel, STATUS_LEN};
+use crate::file_word::bit_of_word;
 
 impl Block {
     /// The validity bits of a channel (AES3-1, IEC 60958-1): bit `i % 8` of byte `i / 8` is the V
@@ -26,7 +30,7 @@ impl Block {
     pub fn validity(&self, channel: Channel) -> [u8; STATUS_LEN]
         ensures { result ≡ validity_of self.now channel }
     {
-        self.bytes(Carried::Validity, channel)
+        self.bytes(CarriedBits::Validity, channel)
     }
 
     /// Sets the validity bits of a channel. Everything else is unchanged but the parity bits that
@@ -35,7 +39,7 @@ impl Block {
     pub fn set_validity(&mut self, channel: Channel, bytes: &[u8; STATUS_LEN])
         ensures { self.new ≡ with_validity self.old channel bytes.now }
     {
-        self.set_bytes(Carried::Validity, channel, bytes);
+        self.set_bytes(CarriedBits::Validity, channel, bytes);
     }
 
     /// The user data bits of a channel (AES3-1, IEC 60958-1): bit `i % 8` of byte `i / 8` is the U
@@ -44,7 +48,7 @@ impl Block {
     pub fn user(&self, channel: Channel) -> [u8; STATUS_LEN]
         ensures { result ≡ user_of self.now channel }
     {
-        self.bytes(Carried::User, channel)
+        self.bytes(CarriedBits::User, channel)
     }
 
     /// Sets the user data bits of a channel. Everything else is unchanged but the parity bits that
@@ -53,7 +57,7 @@ impl Block {
     pub fn set_user(&mut self, channel: Channel, bytes: &[u8; STATUS_LEN])
         ensures { self.new ≡ with_user self.old channel bytes.now }
     {
-        self.set_bytes(Carried::User, channel, bytes);
+        self.set_bytes(CarriedBits::User, channel, bytes);
     }
 
     /// The channel status of a channel (AES3-2, IEC 60958-1): bit `i % 8` of byte `i / 8` is the C
@@ -62,7 +66,7 @@ impl Block {
     pub fn channel_status(&self, channel: Channel) -> [u8; STATUS_LEN]
         ensures { result ≡ status_of self.now channel }
     {
-        self.bytes(Carried::Status, channel)
+        self.bytes(CarriedBits::Status, channel)
     }
 
     /// Sets the channel status of a channel. Everything else is unchanged but the parity bits that
@@ -71,12 +75,12 @@ impl Block {
     pub fn set_channel_status(&mut self, channel: Channel, status: &[u8; STATUS_LEN])
         ensures { self.new ≡ with_status self.old channel status.now }
     {
-        self.set_bytes(Carried::Status, channel, status);
+        self.set_bytes(CarriedBits::Status, channel, status);
     }
 
     /// The V, U or C bits of a channel's frames as bytes.
     #[inline(always)]
-    pub(crate) fn bytes(&self, bit: Carried, channel: Channel) -> [u8; STATUS_LEN]
+    pub(crate) fn bytes(&self, bit: CarriedBits, channel: Channel) -> [u8; STATUS_LEN]
         ensures { result ≡ bytes_in status_len (bits_at (place_of bit) self.now channel) }
     {
         let mut bytes = [0; STATUS_LEN];
@@ -88,12 +92,12 @@ impl Block {
 
     /// Sets the V, U or C bits of a channel's frames.
     #[inline(always)]
-    pub(crate) fn set_bytes(&mut self, bit: Carried, channel: Channel, bytes: &[u8; STATUS_LEN])
+    pub(crate) fn set_bytes(&mut self, bit: CarriedBits, channel: Channel, bytes: &[u8; STATUS_LEN])
         ensures { self.new ≡ with_bits_at (place_of bit) channel self.old
             (bits_of_bytes bytes.now) }
     {
         let place = place_in_payload(bit);
-        let first = first_slot(channel);
+        let first = channel.first_subframe();
         // Byte by byte, so that each bit of a byte has a shift that is known at compile time. The
         // frames are set in order.
         for k in 0..STATUS_LEN {
@@ -106,7 +110,7 @@ impl Block {
 
     /// Byte `k` of these bits.
     #[inline(always)]
-    fn byte(&self, bit: Carried, channel: Channel, k: usize) -> u8
+    fn byte(&self, bit: CarriedBits, channel: Channel, k: usize) -> u8
         requires { k < STATUS_LEN }
         ensures { result
             ≡ number (take 8 (drop (8 * k) (bits_at (place_of bit) self.now channel))) }
@@ -120,12 +124,12 @@ impl Block {
 
     /// The V, U or C bit of a channel in frame `i`.
     #[inline(always)]
-    fn bit(&self, bit: Carried, channel: Channel, i: usize) -> bool
+    fn bit(&self, bit: CarriedBits, channel: Channel, i: usize) -> bool
         requires { i < FRAMES }
         ensures { slice_get (bits_at (place_of bit) self.now channel) i ≡ Some result }
     {
         bit_of_word(
-            self.words()[2 * i + first_slot(channel)],
+            self.words()[2 * i + channel.first_subframe()],
             place_in_payload(bit),
         )
     }
@@ -133,26 +137,14 @@ impl Block {
 
 /// The place of the bit in a payload.
 #[inline(always)]
-fn place_in_payload(bit: Carried) -> u32
+fn place_in_payload(bit: CarriedBits) -> u32
     ensures place { result ≡ place_of bit }
     ensures bound { result < 27 }
 {
     match bit {
-        Carried::Validity => 24,
-        Carried::User => 25,
-        Carried::Status => 26,
-    }
-}
-
-/// The first payload of a channel; each later one is two payloads after the one before.
-#[inline(always)]
-fn first_slot(channel: Channel) -> usize
-    ensures slot { result ≡ first_slot_of channel }
-    ensures bound { result < 2 }
-{
-    match channel {
-        Channel::First => 0,
-        Channel::Second => 1,
+        CarriedBits::Validity => 24,
+        CarriedBits::User => 25,
+        CarriedBits::Status => 26,
     }
 }
 

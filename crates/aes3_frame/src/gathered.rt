@@ -1,5 +1,5 @@
 //! The cells of a block's subframes, gathered from a line and judged.
-use crate::block::{Block, SLOTS, zero_words};
+use crate::block::{Block, SUBFRAMES, zero_words};
 use aes3_level::Level;
 use aes3_slot::{Mark, mark_of, wrong_cells};
 use std::marker::Model;
@@ -12,7 +12,7 @@ use std::simd::prelude::*;
 /// first subframes with right parity, so that they aren't judged again.
 #[derive(Drop)]
 pub struct GatheredCells {
-    words: [u64; SLOTS],
+    words: [u64; SUBFRAMES],
     before: Level,
     right: usize,
 }
@@ -38,12 +38,12 @@ ghost use Rattle.aes3_bits.specs.Bits.{odd_ones};
 ghost use Rattle.aes3_slot.specs.ReadWords.{read_word, read_words};
 ghost use Rattle.aes3_slot.specs.Slots.{payload_len, subframe_runs};
 ghost use Rattle.aes3_slot.specs.Rules.{at};
-ghost use Rattle.aes3_frame.specs.Blocks.{block_cells, block_slots, mark_at};
+ghost use Rattle.aes3_frame.specs.Blocks.{block_cells, block_subframes, mark_at};
 ghost use Rattle.aes3_frame.specs.Files.{is_lawful, payload_of};
 ghost use Rattle.aes3_frame.specs.Gathered.{IsRight, with_first};
 
-use crate::slots::wrong_parities;
-use crate::word::{payload_of_word, word_of_payload};
+use crate::file_word::{payload_of_word, word_of_payload};
+use crate::parity::wrong_parities;
 
 /// Not zero if a subframe's last cell differs from the level `before`, as it does if its parity is
 /// wrong.
@@ -66,29 +66,37 @@ pub fn wrong_in(before: Level, mark: Mark, cells: u64) -> u64
 }
 
 /// How many of the first words are right after the level `before`, once `more` right ones are put
-/// from `slot` on. Until then `right` of them were right after the level `first`.
-fn right_behind(right: usize, first: Level, slot: usize, before: Level, more: usize) -> usize
-    requires { slot + more ≤ SLOTS }
+/// from `subframe` on. Until then `right` of them were right after the level `first`.
+fn right_behind(right: usize, first: Level, subframe: usize, before: Level, more: usize) -> usize
+    requires { subframe + more ≤ SUBFRAMES }
     ensures { (j : ℕ) → j < result
-        → ((j < slot) × (j < right) × (first ≡ before)) ⊎ ((slot ≤ j) × (j < slot + more)) }
+        → ((j < subframe) × (j < right) × (first ≡ before)) ⊎ ((subframe ≤ j) × (j < subframe + more)) }
 {
-    let known = if first == before { right.min(slot) } else { 0 };
-    if known == slot { slot + more } else { known }
+    let known = if first == before {
+        right.min(subframe)
+    } else {
+        0
+    };
+    if known == subframe {
+        subframe + more
+    } else {
+        known
+    }
 }
 
-/// Puts eight words into `words` from `slot` on.
-fn put_eight(words: &mut [u64; SLOTS], slot: usize, subframes: &[u64; 8])
-    requires { slot + 8 ≤ SLOTS }
-    ensures { words.new ≡ with_first slot words.old subframes.now 8 }
+/// Puts eight words into `words` from `subframe` on.
+fn put_eight(words: &mut [u64; SUBFRAMES], subframe: usize, subframes: &[u64; 8])
+    requires { subframe + 8 ≤ SUBFRAMES }
+    ensures { words.new ≡ with_first subframe words.old subframes.now 8 }
 {
     for (i, cells) in subframes.iter().enumerate() {
-        words[slot + i] = *cells;
+        words[subframe + i] = *cells;
     }
 }
 
 /// Puts four words into `words` from `at` on.
-fn put_four(words: &mut [u32; SLOTS], at: usize, four: &[u32; 4])
-    requires { at + 4 ≤ SLOTS }
+fn put_four(words: &mut [u32; SUBFRAMES], at: usize, four: &[u32; 4])
+    requires { at + 4 ≤ SUBFRAMES }
     ensures { words.new ≡ with_first at words.old four.now 4 }
 {
     for (i, word) in four.iter().enumerate() {
@@ -96,7 +104,7 @@ fn put_four(words: &mut [u32; SLOTS], at: usize, four: &[u32; 4])
     }
 }
 
-/// The bits of slots 4 to 31 of a subframe, from its 64 cells. Each is at the place of its slot in
+/// The bits of slots 4 to 31 of a subframe, from its 64 cells. Each is at the place of its subframe in
 /// a word of a block file, but the octets of that word are two octets apart.
 fn octets_apart(cells: u64) -> u64
     ensures none { (i : ℕ) → i < 4 → bit_at result i ≡ 0 }
@@ -179,13 +187,13 @@ fn words_of_four(cells: &[u64; 4], even: bool) -> [u32; 4]
 /// The block of these subframes, from their cells. If `even` is true, the parity bits that were
 /// read are known to be right and are kept.
 #[inline(always)]
-fn block_of_fours(words: &[u64; SLOTS], even: bool) -> Block
-    requires { even ≡ true → (i : ℕ) → i < block_slots
+fn block_of_fours(words: &[u64; SUBFRAMES], even: bool) -> Block
+    requires { even ≡ true → (i : ℕ) → i < block_subframes
         → odd_ones (read_word (get_or words.now i 0)) ≡ false }
     ensures { result ≡ map (take payload_len) (read_words words.now) }
 {
     let mut lawful = zero_words();
-    for i in 0..SLOTS / 4 {
+    for i in 0..SUBFRAMES / 4 {
         let at = 4 * i;
         let four = [words[at], words[at + 1], words[at + 2], words[at + 3]];
         put_four(&mut lawful, at, &words_of_four(&four, even));
@@ -196,15 +204,15 @@ fn block_of_fours(words: &[u64; SLOTS], even: bool) -> Block
 impl GatheredCells {
     /// Words all of whose cells are low.
     pub fn new() -> Self
-        ensures { result ≡ replicate block_slots 0 }
+        ensures { result ≡ replicate block_subframes 0 }
     {
-        GatheredCells::of_words(&[0; SLOTS])
+        GatheredCells::of_words(&[0; SUBFRAMES])
     }
 
     /// Gathered cells with these words.
-    pub fn of_words(words: &[u64; SLOTS]) -> Self
+    pub fn of_words(words: &[u64; SUBFRAMES]) -> Self
         ensures words { result ≡ words.now }
-        ensures len { length result ≡ block_slots }
+        ensures len { length result ≡ block_subframes }
     {
         GatheredCells {
             words: *words,
@@ -214,43 +222,43 @@ impl GatheredCells {
     }
 
     /// Replaces all words by these.
-    pub fn keep_all(&mut self, words: &[u64; SLOTS])
+    pub fn keep_all(&mut self, words: &[u64; SUBFRAMES])
         ensures words { self.new ≡ words.now }
-        ensures len { length self.new ≡ block_slots }
+        ensures len { length self.new ≡ block_subframes }
     {
         self.words = *words;
         self.right = 0;
     }
 
     /// The words, 64 cells each.
-    pub fn words(&self) -> &[u64; SLOTS]
+    pub fn words(&self) -> &[u64; SUBFRAMES]
         ensures { result.now ≡ self.now }
     {
         &self.words
     }
 
-    /// Keeps the cells of subframe `slot`; `before` is the level before the first of them.
-    pub fn keep(&mut self, slot: usize, before: Level, cells: u64)
-        requires { slot < SLOTS }
-        ensures { self.new ≡ set self.old slot cells }
+    /// Keeps the cells of subframe `subframe`; `before` is the level before the first of them.
+    pub fn keep(&mut self, subframe: usize, before: Level, cells: u64)
+        requires { subframe < SUBFRAMES }
+        ensures { self.new ≡ set self.old subframe cells }
     {
-        let more = usize::from(wrong_in(before, mark_of(slot as u64), cells) == 0);
-        self.right = right_behind(self.right, self.before, slot, before, more);
+        let more = usize::from(wrong_in(before, mark_of(subframe as u64), cells) == 0);
+        self.right = right_behind(self.right, self.before, subframe, before, more);
         self.before = before;
-        self.words[slot] = cells;
+        self.words[subframe] = cells;
     }
 
-    /// Keeps the cells of eight subframes from `slot` on. Each must be right after the level
+    /// Keeps the cells of eight subframes from `subframe` on. Each must be right after the level
     /// `before`.
-    pub fn keep_eight(&mut self, slot: usize, before: Level, subframes: &[u64; 8])
-        requires within { slot + 8 ≤ SLOTS }
-        requires right { (i : ℕ) → i < 8 → IsRight before (mark_at (slot + i))
+    pub fn keep_eight(&mut self, subframe: usize, before: Level, subframes: &[u64; 8])
+        requires within { subframe + 8 ≤ SUBFRAMES }
+        requires right { (i : ℕ) → i < 8 → IsRight before (mark_at (subframe + i))
             (get_or subframes.now i 0) }
-        ensures { self.new ≡ with_first slot self.old subframes.now 8 }
+        ensures { self.new ≡ with_first subframe self.old subframes.now 8 }
     {
-        self.right = right_behind(self.right, self.before, slot, before, 8);
+        self.right = right_behind(self.right, self.before, subframe, before, 8);
         self.before = before;
-        put_eight(&mut self.words, slot, subframes);
+        put_eight(&mut self.words, subframe, subframes);
     }
 
     /// A level after which the words are exactly a block's cells with right parity, if it is known.
@@ -258,7 +266,7 @@ impl GatheredCells {
         ensures { IfSome result (λ s. flat_map word_cells self.now
             ≡ block_cells s (map (take payload_len) (read_words self.now))) }
     {
-        if self.right >= SLOTS {
+        if self.right >= SUBFRAMES {
             Some(self.before)
         } else {
             None
@@ -272,7 +280,7 @@ impl GatheredCells {
         ensures { result ≡ map (take payload_len) (read_words self.now) }
     {
         // Two loops: one loop that tested each time would read the cells through memory.
-        if self.right >= SLOTS {
+        if self.right >= SUBFRAMES {
             block_of_fours(&self.words, true)
         } else {
             block_of_fours(&self.words, false)
@@ -284,7 +292,7 @@ impl GatheredCells {
     pub fn wrong_parities(&self) -> u16
         ensures { result ≡ length (filter odd_ones (read_words self.now)) }
     {
-        if self.right >= SLOTS {
+        if self.right >= SUBFRAMES {
             0
         } else {
             wrong_parities(&self.words)

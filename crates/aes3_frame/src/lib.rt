@@ -4,11 +4,15 @@
 
 /// A block: the words of its 384 subframes, also made of samples.
 mod block;
+/// The cells of a block, made four subframes at a time.
+mod block_cells;
 /// The validity, user and channel status bits of a channel, read and set as 24 bytes, and how many
 /// of them are 1.
 mod carried;
-/// The cells of a block, made four subframes at a time.
-mod cells;
+/// The two channels of a line.
+mod channel;
+/// A word of a block file: bit `n` is time slot `n`.
+mod file_word;
 /// What fills the place of frames that no block has.
 mod fill;
 /// A frame: its two subframes.
@@ -17,23 +21,19 @@ mod frame;
 mod gathered;
 /// Blocks in which some subframes have a wrong parity bit.
 mod mending;
-/// The words of subframes read from their cells, and how many have odd parity.
-mod slots;
-/// The two channels of a line.
-mod status;
+/// The parity of subframes, and how many of them have a wrong parity bit.
+mod parity;
 /// What a subframe carries.
 mod subframe;
-/// A word of a block file: bit `n` is time slot `n`.
-mod word;
 
 pub use aes3_slot::mark_of;
-pub use block::{BLOCK_BYTES, BLOCK_CELLS, Block, SLOTS, zero_words};
-pub use carried::ones_in;
-pub use cells::fill_block_cells;
+pub use block::{BLOCK_BYTES, BLOCK_CELLS, Block, FRAMES, SUBFRAMES, zero_words};
+pub use block_cells::fill_block_cells;
+pub use carried::{CarriedBits, ones_in};
+pub use channel::Channel;
+pub use file_word::{PAYLOAD_LIMIT, has_right_code, has_right_parity, payload_of_word};
 pub use fill::Fill;
 pub use frame::Frame;
 pub use gathered::{GatheredCells, wrong_in};
-pub use slots::wrong_parities;
-pub use status::Channel;
+pub use parity::wrong_parities;
 pub use subframe::{AUDIO_LIMIT, Subframe};
-pub use word::{PAYLOAD_LIMIT, has_right_code, has_right_parity, payload_of_word};

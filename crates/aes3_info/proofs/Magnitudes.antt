@@ -10,12 +10,12 @@ use Rattle.std.specs.Prelude.{slice_get}
 use Rattle.aes3_bits.specs.Bits.{number}
 use Rattle.aes3_bits.proofs.Bits.{number-low_bits}
 use Rattle.aes3_slot.specs.Slots.{payload_bits}
-use Rattle.aes3_frame.specs.declared.status.Channel.{Channel}
-use Rattle.aes3_frame.specs.declared.status.Channel.TheVariants.{First, Second}
+use Rattle.aes3_frame.specs.declared.channel.Channel.{Channel}
+use Rattle.aes3_frame.specs.declared.channel.Channel.TheVariants.{First, Second}
 use Rattle.aes3_frame.specs.Files.{payload_of}
-use Rattle.aes3_frame.specs.Statuses.{first_slot_of, of_channel}
+use Rattle.aes3_frame.specs.Statuses.{first_subframe_of, of_channel}
 use Rattle.aes3_frame.proofs.Samples.{audio-bits}
-use Rattle.aes3_frame.proofs.StatusBits.{first-get, second-get}
+use Rattle.aes3_frame.proofs.StatusBits.{channel-get}
 use Rattle.aes3_info.specs.Facts.{greatest, magnitude, magnitude_of, magnitudes, more_energy, most_energy, square}
 
 -- of the audio of a payload kept as a number
@@ -24,22 +24,14 @@ unfolding magnitude
 magnitude-bits n =
     ap magnitude_of (sym (ap number (audio-bits n) ∙ number-low_bits 24 (n % 2 ^ 24) (omega arith)))
 
--- the payload of a channel's frame
-channel-get : (b : List (List Bool)) (channel : Channel) (i n : ℕ) → n ≡ 2 * i + first_slot_of channel → n < length b
-    → slice_get (of_channel channel b) i ≡ Some (get_or b n [])
-channel-get b First i n e h =
-    first-get b i (get_or b n []) (ap (slice_get b) (let f : 2 * i ≡ n = omega arith in f) ∙ slice_get-get_or b n [] h)
-channel-get b Second i n e h =
-    second-get b i (get_or b n []) (ap (slice_get b) (sym e) ∙ slice_get-get_or b n [] h)
-
 -- the magnitude of a channel's frame, by its word
-audio-get : (b : List (List Bool)) (channel : Channel) (i n : ℕ) → n ≡ 2 * i + first_slot_of channel → n < length b
+audio-get : (b : List (List Bool)) (channel : Channel) (i n : ℕ) → n ≡ 2 * i + first_subframe_of channel → n < length b
     → get_or (map magnitude (of_channel channel b)) i 0 ≡ magnitude (get_or b n [])
 audio-get b channel i n e h =
     get_or_from_slice_get (map magnitude (of_channel channel b)) i (magnitude (get_or b n [])) 0
     (slice_get-map magnitude (of_channel channel b) i ∙ ap (option_map magnitude) (channel-get b channel i n e h))
 
-pub word-magnitude : (words : List ℕ) (channel : Channel) (i n : ℕ) → n ≡ 2 * i + first_slot_of channel
+pub word-magnitude : (words : List ℕ) (channel : Channel) (i n : ℕ) → n ≡ 2 * i + first_subframe_of channel
     → n < length words
     → magnitude (payload_of (get_or words n 0)) ≡ get_or (magnitudes channel (map payload_of words)) i 0
 unfolding magnitudes

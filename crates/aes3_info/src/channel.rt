@@ -8,9 +8,9 @@ ghost use Rattle.aes3_info.specs.Facts.{channel_facts, differs, first_with, grea
 ghost use Rattle.aes3_info.specs.Facts.{more_energy, square, with_block};
 
 use crate::more::{more, more_energy};
-use crate::samples::{FRAMES, magnitude_at, square};
-use aes3_block::{Block, Channel, SLOTS};
-use aes3_frame::ones_in;
+use crate::samples::{magnitude_at, square};
+use aes3_block::{Block, Channel, SUBFRAMES};
+use aes3_frame::{FRAMES, ones_in};
 
 /// The counts of a channel of whole blocks.
 #[derive(Clone, Copy)]
@@ -66,7 +66,7 @@ impl ChannelFacts {
     }
 
     /// Counts the samples of a channel of a whole block, given its words.
-    fn count_samples(&mut self, words: &[u32; SLOTS], channel: Channel)
+    fn count_samples(&mut self, words: &[u32; SUBFRAMES], channel: Channel)
         ensures first { self.new.first ≡ self.old.first }
         ensures latest { self.new.latest ≡ self.old.latest }
         ensures changes { self.new.changes ≡ self.old.changes }

@@ -5,9 +5,7 @@ ghost use Rattle.aes3_lock_gaps.specs.Gaps.{behind_full, full_count, full_gaps, 
 ghost use Rattle.aes3_info.specs.Facts.{both_gaps, gap_facts};
 
 use crate::more::more;
-
-/// How many cells a block has (AES3-3).
-pub(crate) const BLOCK_CELLS: u64 = 24_576;
+use aes3_frame::BLOCK_CELLS;
 
 /// How many gaps there are, and how many cells they have.
 #[derive(Clone, Copy)]

@@ -16,12 +16,13 @@ ghost use Rattle.aes3_info.specs.Infos.{with_samples};
 
 use crate::channel::ChannelFacts;
 use crate::facts::Facts;
-use crate::gaps::{BLOCK_CELLS, GapFacts, behind_full};
+use crate::gaps::{GapFacts, behind_full};
 use crate::more::more;
 use crate::page::put_page;
 use crate::reports::ReportFacts;
 use aes3_block::Channel;
 use aes3_cell::{Counts, Fault, Form, RunError, Sink, Source};
+use aes3_frame::BLOCK_CELLS;
 use aes3_lock::{Ending, Lock};
 use aes3_lock_runs::{Listener, run_cells};
 use aes3_status_text::Notation;

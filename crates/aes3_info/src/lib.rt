@@ -4,14 +4,14 @@
 
 /// The counts of a channel.
 mod channel;
+/// Levels below full scale.
+mod decibels;
 /// All facts on the page.
 mod facts;
 /// The counts of the gaps between whole blocks.
 mod gaps;
 /// Counting cells as they come, and the page at their end.
 mod inspector;
-/// Levels below full scale.
-mod level;
 /// Counts that stop at the greatest number.
 mod more;
 /// The page, field by field.

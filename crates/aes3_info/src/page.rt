@@ -12,12 +12,13 @@ ghost use Rattle.aes3_info.specs.Pages.{seconds_value, silence_value, status_fie
 ghost use Rattle.aes3_info.specs.Pages.{time_fields, unknown};
 
 use crate::channel::ChannelFacts;
+use crate::decibels::{level_of, times};
 use crate::facts::Facts;
-use crate::level::{level_of, times};
 use crate::rate::rate_of;
 use crate::samples::square;
 use aes3_block::Channel;
 use aes3_cell::{Fault, Sink, write_all};
+use aes3_frame::FRAMES;
 use aes3_status_text::{LINE_LEN, Line, Notation, put_status};
 
 /// How many bytes the name of a field has at most.
@@ -36,7 +37,7 @@ const FRAME_CELLS: u64 = 128;
 const FULL_POWER: u128 = 1 << 46;
 
 /// How many samples of a channel a block has.
-const FRAMES: u64 = 192;
+const SAMPLES: u64 = FRAMES as u64;
 
 /// The number of a channel.
 fn digit_of(channel: Channel) -> &'static str
@@ -407,7 +408,7 @@ fn put_silence(line: &mut Line, notation: Notation, channel: Channel, whole: u64
 fn full_energy(whole: u64) -> u128
     ensures { result ≡ full_energy whole }
 {
-    times(times(FULL_POWER, FRAMES), whole)
+    times(times(FULL_POWER, SAMPLES), whole)
 }
 
 /// The fields of a channel of `whole` whole blocks after its status.

@@ -54,7 +54,12 @@ fn word_of_octet(octet: u8) -> u64
 }
 
 /// Passes the first `used` cells of an octet to the taker.
-fn hand_on<T: Sink, K: Taker>(taker: &mut K, sink: &mut T, octet: u8, used: u8) -> Result<(), Fault>
+fn take_octet_cells<T: Sink, K: Taker>(
+    taker: &mut K,
+    sink: &mut T,
+    octet: u8,
+    used: u8,
+) -> Result<(), Fault>
     requires few { used ≤ 8 }
     requires room { T.failed sink.old + 1 < 2 ^ 64 }
     requires following { (c : List Level) × (length c + 8 ≤ 2 ^ 43)
@@ -66,7 +71,7 @@ fn hand_on<T: Sink, K: Taker>(taker: &mut K, sink: &mut T, octet: u8, used: u8) 
 }
 
 /// Passes the first `used` cells of an octet to the taker, and then the end.
-fn hand_on_last<T: Sink, K: Taker>(
+fn take_last_octet<T: Sink, K: Taker>(
     taker: &mut K,
     sink: &mut T,
     octet: u8,
@@ -79,7 +84,7 @@ fn hand_on_last<T: Sink, K: Taker>(
     ensures { EndCellsRan (K.state taker.old) (K.state taker.new) (octet_front used octet)
         (movement_of T.taken T.failed sink.old sink.new) result }
 {
-    hand_on(taker, sink, octet, used)?;
+    take_octet_cells(taker, sink, octet, used)?;
     taker.finish(sink)
 }
 
@@ -98,7 +103,7 @@ fn take_octet<T: Sink, K: Taker>(
         (movement_of T.taken T.failed sink.old sink.new) result }
 {
     match input.packed.feed_byte(octet) {
-        Some(whole) => match hand_on(taker, sink, whole, 8) {
+        Some(whole) => match take_octet_cells(taker, sink, whole, 8) {
             Ok(()) => {
                 input.cells += 8;
                 Ok(())
@@ -198,7 +203,7 @@ impl<K: Taker> Input<K> for PackedInput {
         match self.packed.end() {
             Ok(last) => {
                 let (octet, used) = last.unwrap_or((0, 0));
-                match hand_on_last(taker, sink, octet, used) {
+                match take_last_octet(taker, sink, octet, used) {
                     Ok(()) => {
                         self.cells += u64::from(used);
                         Ok(())

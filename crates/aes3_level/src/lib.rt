@@ -6,8 +6,8 @@ mod cells;
 /// The two levels of a line.
 mod level;
 /// Bits of a word.
-mod word;
+mod word_bits;
 
 pub use cells::Cells;
 pub use level::Level;
-pub use word::even_bits;
+pub use word_bits::even_bits;

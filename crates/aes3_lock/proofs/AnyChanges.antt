@@ -19,7 +19,7 @@ use Rattle.aes3_lock.proofs.Apart.{length-changed, at-changed, at-others, other-
 use Rattle.aes3_lock.proofs.DamageLaws.{stands-local}
 use Rattle.aes3_lock.proofs.Distances.{block-kept, block-level, other-same}
 use Rattle.aes3_lock.proofs.Exchanged.{Between, between-true, true-between, exchanged-block, exchanged-cells}
-use Rattle.aes3_frame.proofs.BlockLemmas.{block_slots_384}
+use Rattle.aes3_frame.proofs.BlockLemmas.{block_subframes_384}
 
 -- the first of the places, and those behind it where its cell is changed back
 abbrev First : ℕ → ℕ → List Level → List Level → Type 0
@@ -99,7 +99,7 @@ module _ (s : Level) (b d : List (List Bool)) (h : IsBlock b) (g : IsBlock d) wh
   mark-alike : (x : ℕ) → x < block_len → x % 64 < 8 → at (block_cells s b) x ≡ at (block_cells s d) x
   mark-alike x l o =
       let m = block_len_24576 in
-      let i = block_slots_384 in
+      let i = block_subframes_384 in
       let u = length-block_cells s b h in
       let v = length-block_cells s d g in
       (block-kept s b h x (omega arith)).preamble o
@@ -128,7 +128,7 @@ module _ (s : Level) (b d : List (List Bool)) (h : IsBlock b) (g : IsBlock d) wh
   last-alike : (x : ℕ) → x < block_len → x % 64 ≡ 63 → at (block_cells s b) x ≡ at (block_cells s d) x
   last-alike x l o =
       let m = block_len_24576 in
-      let i = block_slots_384 in
+      let i = block_subframes_384 in
       let e : 64 * (suc x / 64) ≡ suc x = omega arith in
       ap (before s (block_cells s b)) (sym e) ∙ block-level s b h (suc x / 64) (omega arith)
       ∙ sym (block-level s d g (suc x / 64) (omega arith))
@@ -243,7 +243,7 @@ places-tell (x ∷ y ∷ ys) s b d h g e =
 last-of : (b : List (List Bool)) (s : Level) (c : List Level) → StandsClosed b s c → at c (block_len - 1) ≡ s
 last-of b s c z =
     let m = block_len_24576 in
-    let i = block_slots_384 in
+    let i = block_subframes_384 in
     let e : 64 * 384 ≡ suc (block_len - 1) = omega arith in
     sym (get_or-take block_len c (block_len - 1) Low (omega arith)) ∙ ap (λ c. at c (block_len - 1)) z.cells
     ∙ ap (before s (block_cells s b)) (sym e) ∙ block-level s b z.block 384 (omega arith)

@@ -8,7 +8,7 @@ use Rattle.aes3_slot.specs.Slots.{payload_len, with_parity}
 use Rattle.aes3_slot.specs.Rules.{Each28}
 use Rattle.aes3_slot.proofs.Parity.{split-parity}
 use Rattle.aes3_slot.proofs.Subframes.{odd_ones-with_parity}
-use Rattle.aes3_frame.specs.Blocks.{block_slots, IsBlock}
+use Rattle.aes3_frame.specs.Blocks.{block_subframes, IsBlock}
 use Rattle.aes3_frame.proofs.Runs.{Each27}
 use Rattle.aes3_lock.specs.Outcomes.{payloads_of, wrong_parities}
 use Rattle.aes3_frame.proofs.Each.{all-payloads}
@@ -55,7 +55,7 @@ slots-right (bits ∷ more) e w = go (cases_Bool (odd_ones bits)) (slots-right m
         let z : wrong_parities more ≡ 0 = rw o at w in
         ap₂ (λ x y. x ∷ y) (with_parity-payloads bits e.0 o) (rest z)
 
-pub block-payloads : (slots : List (List Bool)) → length slots ≡ block_slots → Each28 slots
+pub block-payloads : (slots : List (List Bool)) → length slots ≡ block_subframes → Each28 slots
     → IsBlock (payloads_of slots)
 block-payloads slots n e =
     record {

@@ -8,7 +8,7 @@ use Rattle.aes3_level.proofs.Runs.{other_ne}
 use Rattle.aes3_slot.specs.Rules.{at, shape}
 use Rattle.aes3_slot.proofs.Distance.{own-cell, stands-from}
 use Rattle.aes3_slot.proofs.OwnPreambles.{begins, shape-first}
-use Rattle.aes3_frame.specs.Blocks.{mark_at, block_slots, block_cells, stream, IsBlock}
+use Rattle.aes3_frame.specs.Blocks.{mark_at, block_subframes, block_cells, stream, IsBlock}
 use Rattle.aes3_frame.proofs.FileLaws.{EachBlock}
 use Rattle.aes3_lock.proofs.Distances.{block-level, block-mark, mark-second}
 use Rattle.aes3_lock.proofs.LawfulPieces.{stream_marks, stream-kept, stream-length, stream-level, stream-aligned}
@@ -98,7 +98,7 @@ module _ (s : Level) (bs : List (List (List Bool))) (h : EachBlock bs) where
 
     -- in the last subframe: its parity is even
     in-last : 24512 < m → ⊥
-    unfolding block_slots
+    unfolding block_subframes
     in-last a =
         let x = before-it 0 (lit< tt) (omega arith) in
         let z = x.0 in

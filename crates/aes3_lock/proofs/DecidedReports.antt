@@ -6,7 +6,7 @@ use Rattle.std.proofs.lemmas.Bool.{cases_lt, cases_Bool}
 use Rattle.std.proofs.lemmas.List.Elements.{filter-append}
 use Rattle.aes3_level.specs.declared.level.Level.{Level}
 use Rattle.aes3_slot.specs.Reading.{read_slots}
-use Rattle.aes3_frame.specs.Blocks.{block_slots, block_len}
+use Rattle.aes3_frame.specs.Blocks.{block_subframes, block_len}
 use Rattle.aes3_slot.specs.Preambles.{entry}
 use Rattle.aes3_lock.specs.Candidates.{begins_block, front}
 use Rattle.aes3_lock.specs.Outcomes.{Outcome, whole, marked, outcome, block_outcome, wrong_parities, payloads_of}
@@ -44,7 +44,7 @@ module _ (p n : ℕ) (c : List Level) (l : n ≡ p + length c) where
       go (unclosed x y z e) = ap (λ o. is_decided n (report_of p o)) e
       go (closed x z e) =
           ap (λ o. is_decided n (report_of p o)) e
-          ∙ block-passes p n (entry c) (read_slots block_slots c) false
+          ∙ block-passes p n (entry c) (read_slots block_subframes c) false
           (ne_eqb (p + block_len) n (λ q. omega (arith, l, x, h)))
 
   fails : begins_block c ≡ true → length c ≤ front (entry c) c → is_decided n (report_of p (outcome c)) ≡ false
@@ -59,7 +59,7 @@ module _ (p n : ℕ) (c : List Level) (l : n ≡ p + length c) where
       go (unclosed x y z e) = absurd (omega arith)
       go (closed x z e) =
           ap (λ o. is_decided n (report_of p o)) e
-          ∙ block-passes p n (entry c) (read_slots block_slots c) true
+          ∙ block-passes p n (entry c) (read_slots block_subframes c) true
           (eq-eqb (p + block_len) n (let v = w in omega (arith, l, x, h, v)))
 
   -- at one place

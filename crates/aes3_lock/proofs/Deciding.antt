@@ -14,7 +14,7 @@ use Rattle.aes3_slot.specs.Reading.{same, read_slots, read_bits}
 use Rattle.aes3_slot.proofs.Index.{before-append_left}
 use Rattle.aes3_slot.proofs.RuleTests.{same-refl}
 use Rattle.aes3_slot.proofs.OwnPreambles.{only-Z, stands-at}
-use Rattle.aes3_frame.specs.Blocks.{mark_at, block_slots, block_len}
+use Rattle.aes3_frame.specs.Blocks.{mark_at, block_subframes, block_len}
 pub use Rattle.aes3_frame.proofs.CellLaws.{block_len_24576}
 use Rattle.aes3_lock.specs.declared.report.Report.{Report}
 use Rattle.aes3_slot.specs.Preambles.{entry}
@@ -24,7 +24,7 @@ use Rattle.aes3_lock.specs.Reports.{told, decided_at, open_at, decided_from}
 use Rattle.aes3_lock.proofs.Fronts.{front-is, front-stays, kept-from-keeps}
 use Rattle.aes3_slot.proofs.Beginnings.{begins-stands, begins-room, entry-append, begins-append}
 
-pub block_len_64 : block_len ≡ 64 * block_slots
+pub block_len_64 : block_len ≡ 64 * block_subframes
 unfolding block_len
 block_len_64 = refl
 
@@ -47,7 +47,7 @@ outcome_by s f n b slots =
     (cond (ltb f block_len) (unfinished f) (block_outcome s slots))
 
 pub outcome_is : (c : List Level) → outcome c ≡ outcome_by (entry c) (front (entry c) c) (length c)
-    (same (at c (front (entry c) c)) (before (entry c) c (front (entry c) c))) (read_slots block_slots c)
+    (same (at c (front (entry c) c)) (before (entry c) c (front (entry c) c))) (read_slots block_subframes c)
 unfolding outcome
 outcome_is c = refl
 
@@ -83,11 +83,11 @@ outcome-stays c d o h =
     outcome_is (c ++ d)
     ∙ ap (λ s. outcome_by s (front (entry (c ++ d)) (c ++ d)) (length (c ++ d))
     (same (at (c ++ d) (front (entry (c ++ d)) (c ++ d)))
-    (before (entry (c ++ d)) (c ++ d) (front (entry (c ++ d)) (c ++ d)))) (read_slots block_slots (c ++ d))) e0
-    ∙ ap₂ (λ n b. outcome_by (entry c) n (length (c ++ d)) b (read_slots block_slots (c ++ d))) ef b
+    (before (entry (c ++ d)) (c ++ d) (front (entry (c ++ d)) (c ++ d)))) (read_slots block_subframes (c ++ d))) e0
+    ∙ ap₂ (λ n b. outcome_by (entry c) n (length (c ++ d)) b (read_slots block_subframes (c ++ d))) ef b
     ∙ outcome_by-same (entry c) f (length (c ++ d)) (length c) (same (at c f) (before (entry c) c f))
-    (read_slots block_slots (c ++ d)) (read_slots block_slots c)
-    (omega (arith, l, h)) h (λ g. read_slots-append block_slots c d (omega (arith, block_len_64, g, h)))
+    (read_slots block_subframes (c ++ d)) (read_slots block_subframes c)
+    (omega (arith, l, h)) h (λ g. read_slots-append block_subframes c d (omega (arith, block_len_64, g, h)))
     ∙ sym (outcome_is c)
 
 -- the tests of decided_at
@@ -143,7 +143,7 @@ keeps-first c i h z =
     rw (q, r, t, e) (same-refl _)
 
 pub block-room : 8 < block_len
-unfolding block_len block_slots
+unfolding block_len block_subframes
 block-room = lit< tt
 
 pub front-eight : (c : List Level) → begins_block c ≡ true → 8 ≤ front (entry c) c

@@ -13,7 +13,7 @@ use Rattle.aes3_slot.specs.Slots.{with_parity}
 use Rattle.aes3_slot.specs.Rules.{at, before, shape, AllKept}
 use Rattle.aes3_slot.proofs.Bridge.{kept-runs}
 use Rattle.aes3_slot.proofs.Distance.{preamble-apart, two-apart, own-cell}
-use Rattle.aes3_frame.specs.Blocks.{mark_at, block_slots, block_len, block_cells, stream, IsBlock}
+use Rattle.aes3_frame.specs.Blocks.{mark_at, block_subframes, block_len, block_cells, stream, IsBlock}
 use Rattle.aes3_frame.proofs.FileLaws.{EachBlock}
 use Rattle.aes3_frame.proofs.Each.{each-payload}
 use Rattle.aes3_frame.proofs.CellLaws.{each28, length-block_cells, block_len_24576}
@@ -24,14 +24,14 @@ use Rattle.aes3_lock.proofs.LawfulPieces.{stream_marks, stream-kept, stream-leng
 use Rattle.aes3_lock.proofs.StandingBlocks.{first-mark}
 use Rattle.aes3_slot.proofs.OwnPreambles.{shape-first}
 use Rattle.aes3_slot.proofs.Marks.{mark_at-odd}
-use Rattle.aes3_frame.proofs.BlockLemmas.{block_slots_384}
+use Rattle.aes3_frame.proofs.BlockLemmas.{block_subframes_384}
 
 -- a block by the rule, and the level before each of its subframes
 pub block-kept : (t : Level) (d : List (List Bool)) → IsBlock d → AllKept mark_at t (block_cells t d)
 unfolding block_cells
 block-kept t d g = kept-runs mark_at t (map with_parity d) (each28 d (each-payload d g.payloads))
 
-pub block-level : (t : Level) (d : List (List Bool)) → IsBlock d → (k : ℕ) → k ≤ block_slots
+pub block-level : (t : Level) (d : List (List Bool)) → IsBlock d → (k : ℕ) → k ≤ block_subframes
     → before t (block_cells t d) (64 * k) ≡ t
 unfolding block_cells
 block-level t d g k l = let n = g.count in runs-level mark_at t d (each-payload d g.payloads) k (omega arith)
@@ -42,7 +42,7 @@ pub block-mark : (t : Level) (d : List (List Bool)) → IsBlock d → (j k : ℕ
 block-mark t d g j k l o =
     let n = length-block_cells t d g in
     let b = block_len_24576 in
-    let i = block_slots_384 in
+    let i = block_subframes_384 in
     own-cell mark_at t (block_cells t d) (block-kept t d g) j k (omega arith) o
     ∙ ap (shape (mark_at j) k) (block-level t d g j (omega arith))
 
@@ -136,7 +136,7 @@ module _ (s : Level) (bs : List (List (List Bool))) (h : EachBlock bs) (t : Leve
 
   -- where a subframe begins that isn't the first of a block two preambles are other ones
   pub off-blocks : p % 64 ≡ 0 → 0 < p % 24576 → 4 ≤ apart (take block_len (drop p (stream s bs))) (block_cells t d)
-  unfolding block_slots
+  unfolding block_subframes
   off-blocks a off =
       two (other-mark (p / 64) 0 (omega arith) (omega arith) first)
       (other-mark (p / 64) (384 - p / 64 % 384) (omega arith) (omega arith) next)
@@ -144,9 +144,9 @@ module _ (s : Level) (bs : List (List (List Bool))) (h : EachBlock bs) (t : Leve
       first : stream_marks (p / 64 + 0) ≡ mark_at 0 → ⊥
       first e =
           let f : p / 64 + 0 ≡ p / 64 = omega arith in
-          go ((p / 64) % block_slots) refl (ap stream_marks (sym f) ∙ e)
+          go ((p / 64) % block_subframes) refl (ap stream_marks (sym f) ∙ e)
         where
-          go : (r : ℕ) → (p / 64) % block_slots ≡ r → mark_at r ≡ mark_at 0 → ⊥
+          go : (r : ℕ) → (p / 64) % block_subframes ≡ r → mark_at r ≡ mark_at 0 → ⊥
           go zero q z = omega arith
           go (suc r) q z = later-marks r (z ∙ first-mark)
 
@@ -224,7 +224,7 @@ module _ (s : Level) (bs : List (List (List Bool))) (h : EachBlock bs) (t : Leve
   block-first : (j : ℕ) → j < 384 → at (block_cells t d) (64 * j + 0) ≡ other t
   block-first j l =
       let n = block_len_24576 in
-      let i = block_slots_384 in
+      let i = block_subframes_384 in
       let v = length-block_cells t d g in
       own-cell mark_at t (block_cells t d) (block-kept t d g) j 0 (omega arith) (lit< tt)
       ∙ ap (shape (mark_at j) 0) (block-level t d g j (omega arith)) ∙ shape-first (mark_at j) t
@@ -255,7 +255,7 @@ module _ (s : Level) (bs : List (List (List Bool))) (h : EachBlock bs) (t : Leve
 
   -- where a subframe begins that isn't the first of a frame all preambles are other ones
   pub off-frames : (p % 128 ≡ 0 → ⊥) → 384 ≤ apart (take block_len (drop p (stream s bs))) (block_cells t d)
-  unfolding block_slots
+  unfolding block_subframes
   off-frames n = go (cases_eq (p % 64) 0)
     where
       odd : (p / 64) % 2 ≡ 1 → (j : ℕ) → stream_marks (p / 64 + j) ≡ mark_at j → ⊥

@@ -23,7 +23,7 @@ use Rattle.aes3_slot.proofs.RuleTests.{same-true}
 use Rattle.aes3_slot.proofs.Fronts.{front-before}
 use Rattle.aes3_slot.proofs.ReadSubframes.{length-word}
 use Rattle.aes3_slot.proofs.WrongCells.{true-from_zero}
-use Rattle.aes3_frame.specs.Blocks.{mark_at, block_slots, block_len}
+use Rattle.aes3_frame.specs.Blocks.{mark_at, block_subframes, block_len}
 use Rattle.aes3_frame.specs.Gathered.{IsRight, with_first}
 use Rattle.aes3_frame.proofs.GatheredWords.{length-with_first}
 use Rattle.aes3_frame.proofs.ReadCells.{right-subframe, none-wrong, even-by-last}
@@ -221,7 +221,7 @@ begun-few k t c f s = subst (λ n. k.subframe < 2 ^ (n % 64)) (sym (offset k t c
 
 -- words ws that make the subframes xs whole, which are right
 module _ (k : LockState) (t : Candidate) (c : List Level) (ws xs : List ℕ) (f : Follows k c) (s : k.candidate ≡ Some t)
-    (lw : length k.words ≡ block_slots)
+    (lw : length k.words ≡ block_subframes)
     (count : length ws ≡ 8) (fit : (i : ℕ) → get_or ws i 0 < 2 ^ 64) (room : k.seen - t.at + 512 ≤ block_len)
     (joined : (i : ℕ) → i < 8
     → word_cells (get_or xs i 0) ≡ begun_before ((k.seen - t.at) % 64) k.subframe ws i ++ take
@@ -420,7 +420,7 @@ front-fits ws words at l e f i = go (cases_lt i 8)
 
 -- the same where their marks are told as those of earlier slots, n before
 pub eight-later : (k : LockState) (t : Candidate) (c : List Level) (ws xs : List ℕ) → Follows k c → k.candidate ≡ Some t
-    → length k.words ≡ block_slots
+    → length k.words ≡ block_subframes
     → length ws ≡ 8 → ((i : ℕ) → get_or ws i 0 < 2 ^ 64) → (slot n len : ℕ) → 0 < slot → n % 2 ≡ 0
     → (k.seen - t.at) / 64 ≡ slot + n → (k.seen - t.at) % 64 ≡ len
     → k.seen - t.at + 512 ≤ block_len

@@ -11,7 +11,7 @@ use Rattle.aes3_slot.specs.Reading.{same, read_slots}
 use Rattle.aes3_slot.proofs.RuleTests.{same-true, same-refl}
 use Rattle.aes3_slot.proofs.Bridge.{read-runs}
 use Rattle.aes3_slot.proofs.Unique.{read_slots-line}
-use Rattle.aes3_frame.specs.Blocks.{mark_at, block_slots, block_len}
+use Rattle.aes3_frame.specs.Blocks.{mark_at, block_subframes, block_len}
 use Rattle.aes3_slot.specs.Preambles.{entry}
 use Rattle.aes3_lock.specs.Candidates.{front}
 use Rattle.aes3_lock.specs.Outcomes.{Outcome, fault, unfinished, outcome, block_outcome}
@@ -35,7 +35,7 @@ pub data Ending (c : List Level) : Type 0 where
   unclosed : front (entry c) c ≡ block_len → block_len < length c → at c block_len ≡ at c (block_len - 1)
       → outcome c ≡ fault block_len → Ending c
   closed : front (entry c) c ≡ block_len → IsClosed c
-      → outcome c ≡ block_outcome (entry c) (read_slots block_slots c) → Ending c
+      → outcome c ≡ block_outcome (entry c) (read_slots block_subframes c) → Ending c
 
 outcome_by : ℕ → ℕ → Bool → Outcome → Outcome
 outcome_by f n b block =
@@ -45,7 +45,7 @@ outcome_by f n b block =
 outcome-by : (c : List Level)
     → outcome c ≡ outcome_by (front (entry c) c) (length c)
     (same (at c (front (entry c) c)) (before (entry c) c (front (entry c) c)))
-    (block_outcome (entry c) (read_slots block_slots c))
+    (block_outcome (entry c) (read_slots block_subframes c))
 unfolding outcome outcome_by
 outcome-by c = refl
 
@@ -79,7 +79,7 @@ ending c = go (cases_lt f block_len) (cases_lt f (length c)) (cases_Bool b)
     b = same (at c (front (entry c) c)) (before (entry c) c (front (entry c) c))
 
     o : Outcome
-    o = block_outcome (entry c) (read_slots block_slots c)
+    o = block_outcome (entry c) (read_slots block_subframes c)
 
     r : IsFront (entry c) c (front (entry c) c)
     r = front-is (entry c) c
@@ -116,7 +116,7 @@ ending c = go (cases_lt f block_len) (cases_lt f (length c)) (cases_Bool b)
         closed (omega arith) (record { turns = λ l z. omega arith }) (outcome-by c ∙ by-block f (length c) b o h g)
 
 -- where a block's number of cells keep the rule, they are those of the subframes read from them
-pub read-stands : (s : Level) (c : List Level) → front s c ≡ block_len → SubframesStand (read_slots block_slots c) s c
+pub read-stands : (s : Level) (c : List Level) → front s c ≡ block_len → SubframesStand (read_slots block_subframes c) s c
 read-stands s c h = stand r.0 r.1 r.2 r.3
   where
     kept : AllKept mark_at s (take block_len c)
@@ -127,19 +127,19 @@ read-stands s c h = stand r.0 r.1 r.2 r.3
         kept-from-keeps s (take block_len c) i
         (keeps-take s c block_len i (omega (arith, n, g)) (omega (arith, n, g)) ∙ f.kept i (omega (arith, n, g)))
 
-    r : (slots : List (List Bool)) × (length slots ≡ block_slots) × Each28 slots
+    r : (slots : List (List Bool)) × (length slots ≡ block_subframes) × Each28 slots
         × (take block_len c ≡ line s (runs_of mark_at slots))
     r =
         let w = (front-is s c).within in
-        read-runs mark_at block_slots s (take block_len c) (length-take-le block_len c (omega arith)
+        read-runs mark_at block_subframes s (take block_len c) (length-take-le block_len c (omega arith)
         ∙ block_len_64) kept
 
-    stand : (slots : List (List Bool)) → length slots ≡ block_slots → Each28 slots
+    stand : (slots : List (List Bool)) → length slots ≡ block_subframes → Each28 slots
         → take block_len c ≡ line s (runs_of mark_at slots)
-        → SubframesStand (read_slots block_slots c) s c
+        → SubframesStand (read_slots block_subframes c) s c
     stand slots n e cells =
-        let q : read_slots block_slots c ≡ slots =
-        ap (read_slots block_slots) (sym (take-append-drop block_len c) ∙ ap (λ x. x ++ drop block_len c) cells)
+        let q : read_slots block_subframes c ≡ slots =
+        ap (read_slots block_subframes) (sym (take-append-drop block_len c) ∙ ap (λ x. x ++ drop block_len c) cells)
         ∙ ap (λ n. read_slots n (line s (runs_of mark_at slots) ++ drop block_len c)) (sym n)
         ∙ read_slots-line mark_at s slots (drop block_len c) e in
         record {

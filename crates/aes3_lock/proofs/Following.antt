@@ -10,7 +10,7 @@ use Rattle.aes3_level.specs.Words.{low_cells}
 use Rattle.aes3_slot.specs.ReadWords.{read_words}
 use Rattle.aes3_slot.specs.Rules.{at, before, rule}
 use Rattle.aes3_slot.specs.Reading.{same, read_slots}
-use Rattle.aes3_frame.specs.Blocks.{mark_at, block_slots, block_len}
+use Rattle.aes3_frame.specs.Blocks.{mark_at, block_subframes, block_len}
 use Rattle.aes3_lock.specs.declared.candidate.Candidate.{Candidate}
 use Rattle.aes3_slot.specs.Preambles.{entry}
 use Rattle.aes3_lock.specs.Candidates.{begins_block, keeps, front}
@@ -193,7 +193,7 @@ goes-on k k' t u c d f s h kept seen recent e same-at same-before g =
 
 -- the cell ends the candidate in hand
 pub push-last : (k k' : LockState) (t : Candidate) (c : List Level) (l : Level) → Follows k c
-    → length k.words ≡ block_slots → k.candidate ≡ Some t
+    → length k.words ≡ block_subframes → k.candidate ≡ Some t
     → (k.seen - t.at < block_len → rule mark_at (k.seen - t.at) l t.level (at k.recent 7) ≡ false)
     → k'.seen ≡ k.seen + 1 → k'.recent ≡ eight_with k.recent l → k'.candidate ≡ begun k'.seen k'.recent
     → k'.recent ≡ low_cells 8 k'.subframe → k'.subframe < 2 ^ 8
@@ -235,12 +235,12 @@ push-last k k' t c l f lw s r e1 e2 e3 e4 e5 = (
         (ended t.before (k.seen - t.at) (same l (at k.recent 7)) (read_words k.words))
     ends = open-decides (drop t.at c) l (hand-open k t c f s) wrong
         ∙ ap Some (ap₂
-        (λ s b. ended s (length (drop t.at c)) (same l b) (read_slots block_slots (drop t.at c ++ l ∷ [])))
+        (λ s b. ended s (length (drop t.at c)) (same l b) (read_slots block_subframes (drop t.at c ++ l ∷ [])))
         (sym in-hand.first) (sym (previous k t c f s (entry (drop t.at c))))
-        ∙ same-slots (length (drop t.at c)) (same l (at k.recent 7)) (read_slots block_slots (drop t.at c ++ l ∷ []))
+        ∙ same-slots (length (drop t.at c)) (same l (at k.recent 7)) (read_slots block_subframes (drop t.at c ++ l ∷ []))
         (read_words k.words)
         (λ g. let b = block_len_64 in
-        read_slots-append block_slots (drop t.at c) (l ∷ []) (omega (arith, b, g))
+        read_slots-append block_subframes (drop t.at c) (l ∷ []) (omega (arith, b, g))
         ∙ sym (words-whole k.words (drop t.at c) lw g in-hand.gathered.whole))
         ∙ ap (λ o. ended t.before o (same l (at k.recent 7)) (read_words k.words)) (sym off))
 
@@ -263,7 +263,7 @@ finish-none k c f s = reports-split 0 c ∙ ap (λ x. decided_from 0 c ++ x) (fi
     none = rw s at f.candidate
 
 -- the end, where one is
-pub finish-open : (k : LockState) (t : Candidate) (c : List Level) → Follows k c → length k.words ≡ block_slots
+pub finish-open : (k : LockState) (t : Candidate) (c : List Level) → Follows k c → length k.words ≡ block_subframes
     → k.candidate ≡ Some t
     → reports c ≡ decided c ++ report_of t.at (left t.before (k.seen - t.at) (read_words k.words)) ∷ []
 unfolding reports decided
@@ -294,7 +294,7 @@ finish-open k t c f lw s = reports-split 0 c
     says : outcome (drop t.at c) ≡ left t.before (k.seen - t.at) (read_words k.words)
     says = outcome_is (drop t.at c)
         ∙ at-end (entry (drop t.at c)) (front (entry (drop t.at c)) (drop t.at c))
-        (length (drop t.at c)) _ (read_slots block_slots (drop t.at c)) (read_words k.words) o.all
+        (length (drop t.at c)) _ (read_slots block_subframes (drop t.at c)) (read_words k.words) o.all
         (λ g. sym (words-whole k.words (drop t.at c) lw g in-hand.gathered.whole))
         ∙ ap₂ (λ s n. left s n (read_words k.words)) (sym in-hand.first) (sym off)
 

@@ -17,7 +17,7 @@ use Rattle.aes3_slot.specs.Rules.{at, shape}
 use Rattle.aes3_slot.proofs.Distance.{own-cell}
 use Rattle.aes3_slot.proofs.Index.{length-mark}
 use Rattle.aes3_slot.proofs.Subframes.{line-slots, length-subframe}
-use Rattle.aes3_frame.specs.Blocks.{mark_at, block_slots, block_len, block_cells, stream, IsBlock}
+use Rattle.aes3_frame.specs.Blocks.{mark_at, block_subframes, block_len, block_cells, stream, IsBlock}
 use Rattle.aes3_frame.proofs.Runs.{Each27}
 use Rattle.aes3_frame.proofs.Each.{each-payload, all-payloads}
 use Rattle.aes3_frame.proofs.FileLaws.{EachBlock}
@@ -29,7 +29,7 @@ use Rattle.aes3_lock.proofs.LawfulPieces.{stream-length, stream-level}
 use Rattle.aes3_lock.proofs.PlacesApart.{Has}
 use Rattle.aes3_lock.proofs.StandingBlocks.{first-mark}
 use Rattle.aes3_slot.proofs.Marks.{mark_at-odd}
-use Rattle.aes3_frame.proofs.BlockLemmas.{block_slots_384}
+use Rattle.aes3_frame.proofs.BlockLemmas.{block_subframes_384}
 use Rattle.aes3_frame.proofs.CellLaws.{block_len_24576}
 
 -- behind its preamble a subframe's cells are told by its payload
@@ -161,18 +161,18 @@ module _ (s : Level) (bs : List (List (List Bool))) (h : EachBlock bs) (p : ℕ)
       let f = frame in
       omega arith
 
-  from-is : block_from p bs ≡ take block_slots (drop (p / 64) (payloads_in bs))
-  from-is = ap (λ ps. take block_slots (drop (p / 64) ps)) (payloads-flat bs)
+  from-is : block_from p bs ≡ take block_subframes (drop (p / 64) (payloads_in bs))
+  from-is = ap (λ ps. take block_subframes (drop (p / 64) ps)) (payloads-flat bs)
 
   pub from-block : IsBlock (block_from p bs)
   from-block =
       let e = enough in
-      let k = block_slots_384 in
+      let k = block_subframes_384 in
       let l = length-drop (p / 64) (payloads_in bs) in
       subst IsBlock (sym from-is)
       (record {
-        count = length-take-le block_slots (drop (p / 64) (payloads_in bs)) (omega arith);
-        payloads = All-take IsPayload block_slots (drop (p / 64) (payloads_in bs))
+        count = length-take-le block_subframes (drop (p / 64) (payloads_in bs)) (omega arith);
+        payloads = All-take IsPayload block_subframes (drop (p / 64) (payloads_in bs))
             (All-drop IsPayload (p / 64) (payloads_in bs) (all-payloads (payloads_in bs) (each27-in bs h)));
       })
 
@@ -182,13 +182,13 @@ module _ (s : Level) (bs : List (List (List Bool))) (h : EachBlock bs) (p : ℕ)
   unfolding block_cells
   slot-alike j r l o =
       let e = enough in
-      let k = block_slots_384 in
+      let k = block_subframes_384 in
       let f = frame in
       let g = from-block in
       let n = g.count in
       let i : p + (64 * j + (8 + r)) ≡ 64 * (p / 64 + j) + (8 + r) = omega arith in
       let q : get_or (block_from p bs) j [] ≡ get_or (payloads_in bs) (p / 64 + j) [] =
-      ap (λ ps. get_or ps j []) from-is ∙ get_or-take block_slots (drop (p / 64) (payloads_in bs)) j [] (omega arith)
+      ap (λ ps. get_or ps j []) from-is ∙ get_or-take block_subframes (drop (p / 64) (payloads_in bs)) j [] (omega arith)
       ∙ get_or-drop (p / 64) (payloads_in bs) j [] in
       ap₂ at (stream-line s bs h) i
       ∙ payload-cell stream_marks s (payloads_in bs) (each27-in bs h) (p / 64 + j) r (omega arith) o
@@ -212,7 +212,7 @@ module _ (s : Level) (bs : List (List (List Bool))) (h : EachBlock bs) (p : ℕ)
   own-mark j r l o = block-mark s (block_from p bs) from-block j r l o
 
   stream-number : (j m : ℕ) → (p / 64 + j) % 384 ≡ m → stream_marks (p / 64 + j) ≡ mark_at m
-  unfolding block_slots
+  unfolding block_subframes
   stream-number j m e = ap mark_at e
 
   marks-alike : (j : ℕ) → j < 384 → ((p % 24576 ≡ 0 → ⊥) → (j ≡ 0 → ⊥) × (p % 24576 + 64 * j ≡ 24576 → ⊥))

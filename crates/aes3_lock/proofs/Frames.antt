@@ -32,7 +32,7 @@ use Rattle.aes3_lock.proofs.Distances.{block-level}
 use Rattle.aes3_lock.proofs.Exchanged.{Between}
 use Rattle.aes3_lock.proofs.FrameBlocks.{IsPreambleCell, has-preamble, from-block, own-alike, own-unlike}
 use Rattle.aes3_lock.proofs.PlacesApart.{Has, places-has, has-places}
-use Rattle.aes3_frame.proofs.BlockLemmas.{block_slots_384}
+use Rattle.aes3_frame.proofs.BlockLemmas.{block_subframes_384}
 use Rattle.aes3_slot.proofs.Distance.{equal-or}
 
 module _ (s : Level) (bs : List (List (List Bool))) (i j : ℕ) (c e : List Level) (p : IsPiece s bs i j c)
@@ -100,7 +100,7 @@ module _ (s : Level) (bs : List (List (List Bool))) (i j : ℕ) (c e : List Leve
         closed = record {
           turns = λ o z.
               let m = block_len_24576 in
-              let k = block_slots_384 in
+              let k = block_subframes_384 in
               let n = piece-length in
               let w = p.within in
               let a = framed-length in

@@ -6,7 +6,7 @@ use Rattle.aes3_level.specs.declared.level.Level.{Level}
 use Rattle.aes3_level.specs.Words.{word_cells}
 use Rattle.aes3_slot.specs.Reading.{read_bits, read_slots}
 use Rattle.aes3_slot.specs.ReadWords.{read_words}
-use Rattle.aes3_frame.specs.Blocks.{block_slots, block_len}
+use Rattle.aes3_frame.specs.Blocks.{block_subframes, block_len}
 use Rattle.aes3_lock.specs.Following.{Filled}
 use Rattle.aes3_lock.proofs.Deciding.{block_len_64}
 
@@ -24,8 +24,8 @@ words-from (suc n) (w ∷ words) d l h f =
     ∙ ap (take 64) (ap (λ i. drop i d) (let y : 64 * suc j ≡ 64 + 64 * j = omega arith in y)
     ∙ sym (drop-drop (64 * j) 64 d))))
 
-pub words-whole : (words : List ℕ) (d : List Level) → length words ≡ block_slots → block_len ≤ length d → Filled words d
-    → read_words words ≡ read_slots block_slots d
+pub words-whole : (words : List ℕ) (d : List Level) → length words ≡ block_subframes → block_len ≤ length d → Filled words d
+    → read_words words ≡ read_slots block_subframes d
 words-whole words d lw h f =
     let b = block_len_64 in
-    words-from block_slots words d lw (omega (arith, b, h)) (λ j g. f j g (omega (arith, b, g, h)))
+    words-from block_subframes words d lw (omega (arith, b, h)) (λ j g. f j g (omega (arith, b, g, h)))

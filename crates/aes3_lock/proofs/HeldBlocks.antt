@@ -7,7 +7,7 @@ use Rattle.aes3_level.specs.declared.level.Level.{Level}
 use Rattle.aes3_level.specs.Words.{low_cells}
 use Rattle.aes3_slot.specs.Reading.{read_slots}
 use Rattle.aes3_slot.specs.ReadWords.{read_words}
-use Rattle.aes3_frame.specs.Blocks.{block_slots, block_len}
+use Rattle.aes3_frame.specs.Blocks.{block_subframes, block_len}
 use Rattle.aes3_lock.specs.declared.candidate.Candidate.{Candidate}
 use Rattle.aes3_lock.specs.declared.report.Ending.{Ending}
 use Rattle.aes3_lock.specs.declared.report.Ending.TheVariants.{Whole, Marked, Fault, Unfinished}
@@ -39,18 +39,18 @@ pub more-held : (words : List ℕ) (c : List Level) (a b w : ℕ) (o : Option En
 more-held words c a b w o h = subst (λ v. HeldBlock words v o) (parts c a b w) h
 
 -- the candidate in hand, where a block's cells have come of it
-module _ (k : LockState) (t : Candidate) (c : List Level) (f : Follows k c) (n : length k.words ≡ block_slots)
+module _ (k : LockState) (t : Candidate) (c : List Level) (f : Follows k c) (n : length k.words ≡ block_subframes)
     (s : k.candidate ≡ Some t) where
   held : (d : List Level) (at : ℕ) → at ≡ t.at → block_len ≤ k.seen - t.at
-      → read_words k.words ≡ read_slots block_slots (drop at (c ++ d))
+      → read_words k.words ≡ read_slots block_subframes (drop at (c ++ d))
   held d at e h =
       let o = offset k t c f s in
       let w = (hand k t c f s).within in
       let l = block_len_64 in
       words-whole k.words (drop t.at c) n (omega (arith, o, h)) (hand k t c f s).gathered.whole
-      ∙ sym (read_slots-append block_slots (drop t.at c) d (omega (arith, o, l, h)))
-      ∙ ap (read_slots block_slots) (sym (drop-append-le t.at c d (omega (arith, w))))
-      ∙ ap (λ p. read_slots block_slots (drop p (c ++ d))) (sym e)
+      ∙ sym (read_slots-append block_subframes (drop t.at c) d (omega (arith, o, l, h)))
+      ∙ ap (read_slots block_subframes) (sym (drop-append-le t.at c d (omega (arith, w))))
+      ∙ ap (λ p. read_slots block_subframes (drop p (c ++ d))) (sym e)
 
   abbrev reading : List (List Bool)
   reading = read_words k.words
@@ -85,8 +85,8 @@ module _ (k : LockState) (t : Candidate) (c : List Level) (f : Follows k c) (n :
       go (inl g) = let z = lt-ltb (k.seen - t.at) block_len g in absurd (none _ _ (rw z at q))
       go (inr g) = g
 
-  here : (at : ℕ) → at ≡ t.at → block_len ≤ k.seen - t.at → reading ≡ read_slots block_slots (drop at c)
-  here at e h = held [] at e h ∙ ap (λ v. read_slots block_slots (drop at v)) (append-nil c)
+  here : (at : ℕ) → at ≡ t.at → block_len ≤ k.seen - t.at → reading ≡ read_slots block_subframes (drop at c)
+  here at e h = held [] at e h ∙ ap (λ v. read_slots block_subframes (drop at v)) (append-nil c)
 
   pub held-end : (e : Ending) → ending_report reading e ≡ report_of t.at (left t.before (k.seen - t.at) reading)
       → HeldBlock k.words c (Some e)

@@ -32,7 +32,7 @@ use Rattle.aes3_lock.proofs.Places.{gather, collect-gather, gather-add}
 use Rattle.aes3_lock.proofs.InsertedCells.{length-inserted, inserted-before, inserted-there, inserted-behind}
 use Rattle.aes3_lock.proofs.InsertedCells.{drop-inserted, run-cell, last-cell, in-middle, in-last, begun, in-run}
 use Rattle.aes3_lock.proofs.InsertedCells.{of-run, as-stream}
-use Rattle.aes3_frame.proofs.BlockLemmas.{block_slots_384}
+use Rattle.aes3_frame.proofs.BlockLemmas.{block_subframes_384}
 use Rattle.aes3_slot.proofs.Distance.{equal-or}
 
 module _ (s : Level) (bs : List (List (List Bool))) (h : EachBlock bs) (k : ℕ) (x : Level)
@@ -86,7 +86,7 @@ module _ (s : Level) (bs : List (List (List Bool))) (h : EachBlock bs) (k : ℕ)
       unclosed : 24512 ≤ k - q → ⊥
       unclosed a =
           let m = block_len_24576 in
-          let j = block_slots_384 in
+          let j = block_subframes_384 in
           let n = grown-length in
           let b = length-drop q grown in
           let f = few in

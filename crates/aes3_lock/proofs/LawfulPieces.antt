@@ -15,7 +15,7 @@ use Rattle.aes3_slot.proofs.Bridge.{kept-runs}
 use Rattle.aes3_slot.proofs.Aligned.{aligned, aligned-own}
 use Rattle.aes3_slot.proofs.OwnPreambles.{stands-room}
 use Rattle.aes3_slot.proofs.Distance.{stands-from}
-use Rattle.aes3_frame.specs.Blocks.{mark_at, block_slots, block_runs, stream}
+use Rattle.aes3_frame.specs.Blocks.{mark_at, block_subframes, block_runs, stream}
 use Rattle.aes3_frame.proofs.Runs.{Each27}
 use Rattle.aes3_frame.proofs.FileLaws.{EachBlock}
 use Rattle.aes3_lock.proofs.Viability.{length-runs_of}
@@ -35,7 +35,7 @@ pub each27-in : (bs : List (List (List Bool))) → EachBlock bs → Each27 (payl
 each27-in [] h = tt
 each27-in (b ∷ bs) h = each27-append b (payloads_in bs) (each-payload b h.0.payloads) (each27-in bs h.1)
 
-pub length-in : (bs : List (List (List Bool))) → EachBlock bs → length (payloads_in bs) ≡ block_slots * length bs
+pub length-in : (bs : List (List (List Bool))) → EachBlock bs → length (payloads_in bs) ≡ block_subframes * length bs
 length-in [] h = omega arith
 length-in (b ∷ bs) h =
     let a = length-append b (payloads_in bs) in
@@ -45,14 +45,14 @@ length-in (b ∷ bs) h =
 
 -- the preambles of a stream's subframes by their number
 abbrev pub stream_marks : ℕ → Mark
-stream_marks j = mark_at (j % block_slots)
+stream_marks j = mark_at (j % block_subframes)
 
-slot-within : (j : ℕ) → j < block_slots → j % block_slots ≡ j
-unfolding block_slots
+slot-within : (j : ℕ) → j < block_subframes → j % block_subframes ≡ j
+unfolding block_subframes
 slot-within j h = omega arith
 
-slot-behind : (n j : ℕ) → n ≡ block_slots → (n + j) % block_slots ≡ j % block_slots
-unfolding block_slots
+slot-behind : (n j : ℕ) → n ≡ block_subframes → (n + j) % block_subframes ≡ j % block_subframes
+unfolding block_subframes
 slot-behind n j e = omega arith
 
 runs-same : (m n : ℕ → Mark) (ps : List (List Bool)) → ((j : ℕ) → j < length ps → m j ≡ n j)
@@ -76,7 +76,7 @@ pub stream-runs : (bs : List (List (List Bool))) → EachBlock bs
     → flat_map block_runs bs ≡ runs_of stream_marks (map with_parity (payloads_in bs))
 stream-runs [] h = refl
 stream-runs (b ∷ bs) h =
-    let n : length (map with_parity b) ≡ block_slots = length-map b with_parity ∙ h.0.count in
+    let n : length (map with_parity b) ≡ block_subframes = length-map b with_parity ∙ h.0.count in
     ap (λ r. block_runs b ++ r) (stream-runs bs h.1)
     ∙ sym (runs-append stream_marks mark_at stream_marks (map with_parity b) (map with_parity (payloads_in bs))
     (λ j o. ap mark_at (slot-within j (omega arith)))
@@ -113,23 +113,23 @@ module _ (s : Level) (bs : List (List (List Bool))) (h : EachBlock bs) where
       subst (AllKept stream_marks s) (sym (stream-line s bs h))
       (kept-runs stream_marks s (map with_parity (payloads_in bs)) (each28 (payloads_in bs) (each27-in bs h)))
 
-  pub stream-length : length (stream s bs) ≡ 64 * (block_slots * length bs)
+  pub stream-length : length (stream s bs) ≡ 64 * (block_subframes * length bs)
   stream-length =
       ap length (stream-line s bs h)
       ∙ length-runs_of stream_marks s (map with_parity (payloads_in bs)) (each28 (payloads_in bs) (each27-in bs h))
       ∙ ap (λ n. 64 * n) (length-map (payloads_in bs) with_parity ∙ length-in bs h)
 
-  pub stream-level : (k : ℕ) → k ≤ block_slots * length bs → before s (stream s bs) (64 * k) ≡ s
+  pub stream-level : (k : ℕ) → k ≤ block_subframes * length bs → before s (stream s bs) (64 * k) ≡ s
   stream-level k l =
       let n = length-in bs h in
       ap (λ c. before s c (64 * k)) (stream-line s bs h)
       ∙ runs-level stream_marks s (payloads_in bs) (each27-in bs h) k (omega arith)
 
   -- a preamble stands where a subframe begins
-  pub stream-stands : (k : ℕ) → k < block_slots * length bs → StandsMark (stream_marks k) s (stream s bs) (64 * k)
+  pub stream-stands : (k : ℕ) → k < block_subframes * length bs → StandsMark (stream_marks k) s (stream s bs) (64 * k)
   stream-stands k l =
       let n = stream-length in
-      let m : 64 * suc k ≤ 64 * (block_slots * length bs) = omega arith in
+      let m : 64 * suc k ≤ 64 * (block_subframes * length bs) = omega arith in
       stands-from (stream_marks k) s (stream s bs) (64 * k) (omega arith) (λ i g.
       let a : (64 * k + i) / 64 ≡ k = omega arith in
       let b : (64 * k + i) % 64 ≡ i = omega arith in

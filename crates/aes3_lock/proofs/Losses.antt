@@ -28,7 +28,7 @@ use Rattle.aes3_lock.proofs.Distances.{block-level, block-mark}
 use Rattle.aes3_lock.proofs.LawfulPieces.{stream-aligned}
 use Rattle.aes3_lock.proofs.Lost.{without-before, without-behind}
 use Rattle.aes3_lock.proofs.StandingBlocks.{first-mark}
-use Rattle.aes3_frame.proofs.BlockLemmas.{block_slots_384}
+use Rattle.aes3_frame.proofs.BlockLemmas.{block_subframes_384}
 use Rattle.aes3_lock.proofs.InsertedCells.{first-run, run-cell}
 
 -- the cells that are left are those of the list, each at most n places later, and none back
@@ -164,7 +164,7 @@ module _ (s : Level) (bs : List (List (List Bool))) (i j : ℕ) (c : List Level)
       ∙ h.cell (q + x) (inside x l) ∙ streamed piece (q + x + f (q + x)) (h.within (q + x) (inside x l))
 
   last-cell : at (block_cells t d) 24575 ≡ t
-  last-cell = let k = block_slots_384 in block-level t d z.block 384 (omega arith)
+  last-cell = let k = block_subframes_384 in block-level t d z.block 384 (omega arith)
 
   -- at most three cells are lost, so one of four preambles has no lost cell
   still : (m : ℕ) × (m < 4) × (f (q + 64 * m) ≡ f (q + (64 * m + 7)))

@@ -11,7 +11,7 @@ use Rattle.aes3_level.specs.Words.{low_cells}
 use Rattle.aes3_slot.specs.Rules.{at, before, rule}
 use Rattle.aes3_slot.specs.Reading.{same, read_slots}
 use Rattle.aes3_slot.specs.ReadWords.{read_words}
-use Rattle.aes3_frame.specs.Blocks.{mark_at, block_slots, block_len}
+use Rattle.aes3_frame.specs.Blocks.{mark_at, block_subframes, block_len}
 use Rattle.aes3_lock.specs.declared.report.Report.{Report}
 use Rattle.aes3_lock.specs.declared.candidate.Candidate.{Candidate}
 use Rattle.aes3_slot.specs.Preambles.{entry}
@@ -87,7 +87,7 @@ module _ (s : Level) (c : List Level) (subframe new : ℕ) (words : List ℕ) (l
         (next-inside level subframe new words s (take o c) o (at c o) l cells few w.gathered n);
   }
 
-  pub walk-whole : length words ≡ block_slots → o % 64 ≡ 63
+  pub walk-whole : length words ≡ block_subframes → o % 64 ≡ 63
       → Walked s c 0 (set words (o / 64) new) (at c o) (at c o) (o + 1)
   walk-whole lw l = record {
     few = omega arith;
@@ -140,16 +140,16 @@ walk-all s c subframe words level previous o w e = walk-front s c subframe words
     (λ g. absurd (omega (arith, g, e)))
 
 -- the outcome by the bits that were gathered
-module _ (c : List Level) (words : List ℕ) (lw : length words ≡ block_slots)
+module _ (c : List Level) (words : List ℕ) (lw : length words ≡ block_subframes)
     (f : Filled words (take (front (entry c) c) c)) where
-  read-all : block_len ≤ front (entry c) c → read_slots block_slots c ≡ read_words words
+  read-all : block_len ≤ front (entry c) c → read_slots block_subframes c ≡ read_words words
   read-all h =
       let w = (front-is (entry c) c).within in
       let n : length (take (front (entry c) c) c) ≡ front (entry c) c =
       length-take-le (front (entry c) c) c (omega (arith, w)) in
       let b = block_len_64 in
-      ap (read_slots block_slots) (sym (take-append-drop (front (entry c) c) c))
-      ∙ read_slots-append block_slots (take (front (entry c) c) c) (drop (front (entry c) c) c) (omega (arith, n, b, h))
+      ap (read_slots block_subframes) (sym (take-append-drop (front (entry c) c) c))
+      ∙ read_slots-append block_subframes (take (front (entry c) c) c) (drop (front (entry c) c) c) (omega (arith, n, b, h))
       ∙ sym (words-whole words (take (front (entry c) c) c) lw (omega (arith, n, h)) f)
 
   pub outcome-ended : front (entry c) c < length c
@@ -162,7 +162,7 @@ module _ (c : List Level) (words : List ℕ) (lw : length words ≡ block_slots)
 
       go : (front (entry c) c < block_len) ⊎ (block_len ≤ front (entry c) c)
           → outcome_by (entry c) (front (entry c) c) (length c)
-          (same (at c (front (entry c) c)) (before (entry c) c (front (entry c) c))) (read_slots block_slots c)
+          (same (at c (front (entry c) c)) (before (entry c) c (front (entry c) c))) (read_slots block_subframes c)
           ≡ ended (entry c) (front (entry c) c)
           (same (at c (front (entry c) c)) (before (entry c) c (front (entry c) c))) (read_words words)
       go (inl g) = let u = lt-ltb _ _ g in rw (t, u) refl
@@ -176,7 +176,7 @@ module _ (c : List Level) (words : List ℕ) (lw : length words ≡ block_slots)
 
       go : (front (entry c) c < block_len) ⊎ (block_len ≤ front (entry c) c)
           → outcome_by (entry c) (front (entry c) c) (length c)
-          (same (at c (front (entry c) c)) (before (entry c) c (front (entry c) c))) (read_slots block_slots c)
+          (same (at c (front (entry c) c)) (before (entry c) c (front (entry c) c))) (read_slots block_subframes c)
           ≡ left (entry c) (front (entry c) c) (read_words words)
       go (inl g) = let u = lt-ltb _ _ g in rw (t, u) refl
       go (inr g) = let u = le-ltb _ _ g in let r = read-all g in rw (t, u, r) refl
@@ -184,7 +184,7 @@ module _ (c : List Level) (words : List ℕ) (lw : length words ≡ block_slots)
 -- by the values that the code has
 module _ (c : List Level) (s : Level) (words : List ℕ) (f : ℕ) (p : Level) (es : s ≡ entry c) (ef : f ≡ front s c)
     (ep : p ≡ before s c f)
-    (k : Filled words (take f c)) (lw : length words ≡ block_slots) where
+    (k : Filled words (take f c)) (lw : length words ≡ block_subframes) where
   front-entry : f ≡ front (entry c) c
   front-entry = ef ∙ ap (λ s. front s c) es
 

@@ -11,7 +11,7 @@ use Rattle.aes3_level.specs.declared.level.Level.TheVariants.{Low}
 use Rattle.aes3_slot.specs.Rules.{at, before, rule}
 use Rattle.aes3_slot.specs.Reading.{same, read_slots}
 use Rattle.aes3_slot.proofs.Index.{before-append_left}
-use Rattle.aes3_frame.specs.Blocks.{mark_at, block_slots, block_len}
+use Rattle.aes3_frame.specs.Blocks.{mark_at, block_subframes, block_len}
 use Rattle.aes3_slot.specs.Preambles.{entry}
 use Rattle.aes3_lock.specs.Candidates.{keeps, front, begins_block}
 use Rattle.aes3_lock.specs.Steps.{ended, left}
@@ -156,7 +156,7 @@ module _ (d : List Level) (l : Level) (o : IsOpen d) where
 
   pub open-decides : (k : length d < block_len → keeps (entry d) (d ++ l ∷ []) (length d) ≡ false)
       → decided_at (d ++ l ∷ []) ≡ Some
-      (ended (entry d) (length d) (same l (before (entry d) d (length d))) (read_slots block_slots (d ++ l ∷ [])))
+      (ended (entry d) (length d) (same l (before (entry d) d (length d))) (read_slots block_subframes (d ++ l ∷ [])))
   open-decides k =
       let f = front-at-last k in
       let n = length-append d (l ∷ []) in
@@ -170,12 +170,12 @@ module _ (d : List Level) (l : Level) (o : IsOpen d) where
       ∙ ap Some (outcome_is (d ++ l ∷ [])
       ∙ ap₂ (λ s f. outcome_by s f (length (d ++ l ∷ []))
       (same (at (d ++ l ∷ []) f) (before (entry (d ++ l ∷ [])) (d ++ l ∷ []) f))
-      (read_slots block_slots (d ++ l ∷ [])))
+      (read_slots block_subframes (d ++ l ∷ [])))
       same-entry f
-      ∙ ap₂ (λ n b. outcome_by (entry d) (length d) n b (read_slots block_slots (d ++ l ∷ []))) m b
+      ∙ ap₂ (λ n b. outcome_by (entry d) (length d) n b (read_slots block_subframes (d ++ l ∷ []))) m b
       ∙ ap (λ t. cond t
-      (ended (entry d) (length d) (same l (before (entry d) d (length d))) (read_slots block_slots (d ++ l ∷ [])))
-      (left (entry d) (length d) (read_slots block_slots (d ++ l ∷ []))))
+      (ended (entry d) (length d) (same l (before (entry d) d (length d))) (read_slots block_subframes (d ++ l ∷ [])))
+      (left (entry d) (length d) (read_slots block_subframes (d ++ l ∷ []))))
       (lt-ltb (length d) (suc (length d)) (omega arith)))
 
 -- what is in hand with the last cell was in hand before it

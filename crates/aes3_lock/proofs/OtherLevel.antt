@@ -11,12 +11,12 @@ use Rattle.aes3_slot.specs.declared.mark.Mark.{Mark}
 use Rattle.aes3_slot.specs.declared.mark.Mark.TheVariants.{X, Y, Z}
 use Rattle.aes3_slot.specs.Rules.{at, before, shape}
 use Rattle.aes3_slot.proofs.Distance.{own-cell}
-use Rattle.aes3_frame.specs.Blocks.{mark_at, block_slots, block_cells, IsBlock}
+use Rattle.aes3_frame.specs.Blocks.{mark_at, block_subframes, block_cells, IsBlock}
 use Rattle.aes3_frame.proofs.CellLaws.{length-block_cells, block_len_24576}
 use Rattle.aes3_lock.specs.Damage.{apart}
 use Rattle.aes3_lock.proofs.Apart.{count-apart, count-parts}
 use Rattle.aes3_lock.proofs.Distances.{block-kept, block-level, part-cell, part-length}
-use Rattle.aes3_frame.proofs.BlockLemmas.{block_slots_384}
+use Rattle.aes3_frame.proofs.BlockLemmas.{block_subframes_384}
 
 -- cell k of a preamble after the other level is the other one
 shape-other : (m : Mark) (k : ℕ) (s : Level) → k < 8 → shape m k (other s) ≡ other (shape m k s)
@@ -59,7 +59,7 @@ mark-end Z High = refl
 
 behind-mark : (t : Level) (d : List (List Bool)) → IsBlock d → (j : ℕ) → j < 384
     → at (block_cells t d) (64 * j + 8) ≡ other t
-unfolding block_slots
+unfolding block_subframes
 behind-mark t d g j l =
     let n = block_len_24576 in
     let dl = length-block_cells t d g in
@@ -71,7 +71,7 @@ behind-mark t d g j l =
     ∙ mark-end (mark_at j) t)
 
 last-cell : (t : Level) (d : List (List Bool)) → IsBlock d → (j : ℕ) → j < 384 → at (block_cells t d) (64 * j + 63) ≡ t
-unfolding block_slots
+unfolding block_subframes
 last-cell t d g j l =
     let e : 64 * suc j ≡ suc (64 * j + 63) = omega arith in
     ap (before t (block_cells t d)) (sym e) ∙ block-level t d g (suc j) (omega arith)
@@ -87,7 +87,7 @@ other-level s b d h g = count-parts 10 384 (block_cells s b) (block_cells (other
         → 10 ≤ apart (take 64 (drop (64 * j) (block_cells s b))) (take 64 (drop (64 * j) (block_cells (other s) d)))
     some j l =
         let n = block_len_24576 in
-        let i = block_slots_384 in
+        let i = block_subframes_384 in
         let bl = length-block_cells s b h in
         let dl = length-block_cells (other s) d g in
         let x = part-length j (block_cells s b) (omega arith) in
@@ -118,7 +118,7 @@ other-level s b d h g = count-parts 10 384 (block_cells s b) (block_cells (other
             → at (block_cells s b) (64 * j + ten k) ≡ at (block_cells (other s) d) (64 * j + ten k) → ⊥
         differ k o (inl a) c q =
             let n = block_len_24576 in
-            let i = block_slots_384 in
+            let i = block_subframes_384 in
             let bl = length-block_cells s b h in
             let dl = length-block_cells (other s) d g in
             let t = small k (omega arith) in

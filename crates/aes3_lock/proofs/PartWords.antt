@@ -21,7 +21,7 @@ use Rattle.aes3_slot.specs.Preambles.{entry}
 use Rattle.aes3_slot.proofs.RuleTests.{stands-append}
 use Rattle.aes3_slot.proofs.WrongCells.{true-from_zero, false-from_one}
 use Rattle.aes3_slot.proofs.ReadSubframes.{length-word}
-use Rattle.aes3_frame.specs.Blocks.{mark_at, block_slots, block_len}
+use Rattle.aes3_frame.specs.Blocks.{mark_at, block_subframes, block_len}
 use Rattle.aes3_lock.specs.declared.candidate.Candidate.{Candidate}
 use Rattle.aes3_lock.specs.Candidates.{keeps}
 use Rattle.aes3_lock.specs.declared.report.Report.TheVariants.{Fault}
@@ -180,7 +180,7 @@ module _ (k : LockState) (t : Candidate) (c : List Level) (w x n : ℕ) (f : Fol
   pub part-whole : AllRight t x n (k.seen - t.at) → (k' : LockState) → k'.seen ≡ k.seen + n
       → k'.recent ≡ drop n (k.recent ++ low_cells n w)
       → k'.candidate ≡ Some (record { at = t.at; before = t.before; level = at (word_cells x) 63 }) → k'.subframe ≡ 0
-      → k'.words ≡ set k.words ((k.seen - t.at) / 64) x → length k.words ≡ block_slots → (k.seen - t.at) % 64 + n ≡ 64
+      → k'.words ≡ set k.words ((k.seen - t.at) / 64) x → length k.words ≡ block_subframes → (k.seen - t.at) % 64 + n ≡ 64
       → Follows k' (c ++ low_cells n w) × (decided (c ++ low_cells n w) ≡ decided c)
   part-whole right k' e1 e2 e3 e4 e5 lw h =
       on right k' (record { at = t.at; before = t.before; level = at (word_cells x) 63 }) e1 e2 e3 refl refl
@@ -263,7 +263,7 @@ part-ends k k' t c w x n f s given f' e s' b wrong =
 
 -- and that cell ends the candidate
 module _ (k k' : LockState) (t : Candidate) (c : List Level) (w x n : ℕ) (f : Follows k c) (s : k.candidate ≡ Some t)
-    (lw : length k.words ≡ block_slots)
+    (lw : length k.words ≡ block_subframes)
     (given : Joined k w x n (k.seen - t.at)) (short : (k.seen - t.at) % 64 + n < 64)
     (right : AllRight t x n (k.seen - t.at))
     (wrong : stands t.level (mark_at ((k.seen - t.at) / 64)) (word_cells x) ((k.seen - t.at) % 64 + n) ≡ false) where

@@ -1,7 +1,7 @@
 -- The blocks of cells, place by place.
 use Rattle.std.proofs.Common.{◌≡◌, ℕ, suc, ◌*◌, List, [], ◌∷◌, ◌++◌, Bool, Option, Some, None, refl, ap, ◌∙◌, arith}
 use Rattle.aes3_level.specs.declared.level.Level.{Level}
-use Rattle.aes3_frame.specs.Blocks.{block_slots, block_len}
+use Rattle.aes3_frame.specs.Blocks.{block_subframes, block_len}
 use Rattle.aes3_lock.specs.Outcomes.{Outcome, whole, marked, fault, unfinished}
 use Rattle.aes3_lock.specs.Reports.{told, outcome_at, reports_from, wholes}
 use Rattle.aes3_lock.specs.Standing.{StandsClosed}
@@ -43,6 +43,6 @@ here-any p q c = go (outcome_at c)
     go (Some (fault f)) = refl
     go (Some (unfinished k)) = refl
 
-pub whole-len : (n : ℕ) → 64 * (block_slots * n) ≡ n * block_len
-unfolding block_len block_slots
+pub whole-len : (n : ℕ) → 64 * (block_subframes * n) ≡ n * block_len
+unfolding block_len block_subframes
 whole-len n = omega arith

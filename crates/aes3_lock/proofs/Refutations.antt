@@ -4,7 +4,7 @@ use Rattle.std.proofs.Common.{ap, ◌∙◌, sym, arith}
 use Rattle.std.proofs.lemmas.Bool.{cases_lt}
 use Rattle.aes3_level.specs.declared.level.Level.{Level}
 use Rattle.aes3_slot.specs.Reading.{read_slots}
-use Rattle.aes3_frame.specs.Blocks.{block_slots, block_len}
+use Rattle.aes3_frame.specs.Blocks.{block_subframes, block_len}
 use Rattle.aes3_slot.specs.Preambles.{entry}
 use Rattle.aes3_lock.specs.Candidates.{front}
 use Rattle.aes3_lock.specs.Outcomes.{whole, marked, fault, unfinished, outcome, block_outcome, wrong_parities}
@@ -44,7 +44,7 @@ fault-front c f o = go (ending c)
         let q : fault block_len ≡ fault f = sym e ∙ o in
         let x : block_len ≡ f = cc in
         (a ∙ x, omega arith)
-    go (closed a d e) = absurd (block-not-fault (entry c) (read_slots block_slots c) f (sym e ∙ o))
+    go (closed a d e) = absurd (block-not-fault (entry c) (read_slots block_subframes c) f (sym e ∙ o))
 
 pub fault-within : (f : ℕ) (c : List Level) → outcome c ≡ fault f → f ≤ block_len
 fault-within f c o =
@@ -86,17 +86,17 @@ viable-fault c f h g v n = go (ending c)
 
 -- a block that no change closes
 pub fault-unclosed : (c : List Level) → outcome c ≡ fault block_len
-    → (SubframesStand (read_slots block_slots c) (entry c) c) × (IsClosed c → ⊥)
+    → (SubframesStand (read_slots block_subframes c) (entry c) c) × (IsClosed c → ⊥)
 fault-unclosed c o = go (ending c)
   where
-    go : Ending c → (SubframesStand (read_slots block_slots c) (entry c) c) × (IsClosed c → ⊥)
+    go : Ending c → (SubframesStand (read_slots block_subframes c) (entry c) c) × (IsClosed c → ⊥)
     go (refuted a b e) =
         let q : fault (front (entry c) c) ≡ fault block_len = sym e ∙ o in
         let x : front (entry c) c ≡ block_len = cc in
         absurd (omega arith)
     go (ended a b e) = let q : unfinished (length c) ≡ fault block_len = sym e ∙ o in cc
     go (unclosed a b d e) = (read-stands (entry c) c a, λ z. z.turns b d)
-    go (closed a d e) = absurd (block-not-fault (entry c) (read_slots block_slots c) block_len (sym e ∙ o))
+    go (closed a d e) = absurd (block-not-fault (entry c) (read_slots block_subframes c) block_len (sym e ∙ o))
 
 -- cells that end
 pub unfinished-viable : (c : List Level) (n : ℕ) → outcome c ≡ unfinished n → IsViable (entry c) c × (n ≡ length c)
@@ -110,7 +110,7 @@ unfinished-viable c n o = go (ending c)
         let x : length c ≡ n = cc in
         (front-viable (entry c) c a, sym x, omega arith)
     go (unclosed a b d e) = let q : fault block_len ≡ unfinished n = sym e ∙ o in cc
-    go (closed a d e) = absurd (block-not-unfinished (entry c) (read_slots block_slots c) n (sym e ∙ o))
+    go (closed a d e) = absurd (block-not-unfinished (entry c) (read_slots block_subframes c) n (sym e ∙ o))
 
 pub viable-unfinished : (c : List Level) → length c < block_len → IsViable (entry c) c
     → outcome c ≡ unfinished (length c)

@@ -7,7 +7,7 @@ use Rattle.aes3_slot.specs.declared.mark.Mark.TheVariants.{X, Y, Z}
 use Rattle.aes3_level.specs.Words.{low_cells}
 use Rattle.aes3_level.specs.Cells.{line}
 use Rattle.aes3_slot.specs.Slots.{mark_runs, slot_runs, payload_len}
-use Rattle.aes3_frame.specs.Blocks.{mark_at, block_len, block_slots, block_cells, zero_block}
+use Rattle.aes3_frame.specs.Blocks.{mark_at, block_len, block_subframes, block_cells, zero_block}
 use Rattle.aes3_lock.specs.declared.report.Report.TheVariants.{Fault, Unfinished}
 use Rattle.aes3_lock.specs.declared.report.Why.TheVariants.{Preamble, Biphase}
 use Rattle.aes3_slot.specs.Preambles.{begins_with}
@@ -27,11 +27,11 @@ broken : List Level
 broken = zeros Z ++ zeros Y ++ low_cells 11 0x747
 
 reports-broken : reports broken ≡ Fault 0 138 Biphase ∷ Unfinished 131 8 ∷ []
-unfolding reports outcome_at outcome begins_with keeps front mark_at block_len block_slots broken zeros
+unfolding reports outcome_at outcome begins_with keeps front mark_at block_len block_subframes broken zeros
 reports-broken = refl
 
 decided-broken : decided broken ≡ Fault 0 138 Biphase ∷ []
-unfolding decided decided_at outcome begins_with keeps front mark_at block_len block_slots broken zeros
+unfolding decided decided_at outcome begins_with keeps front mark_at block_len block_subframes broken zeros
 decided-broken = refl
 
 marks-broken : marks broken ≡ (0, Z, Low) ∷ (64, Y, Low) ∷ (128, X, Low) ∷ (131, Z, High) ∷ []
@@ -43,18 +43,18 @@ odd : List Level
 odd = line Low (slot_runs Z (replicate 27 false ++ true ∷ [])) ++ line Low (mark_runs Y)
 
 reports-odd : reports odd ≡ Fault 0 64 Preamble ∷ []
-unfolding reports outcome_at outcome begins_with keeps front mark_at block_len block_slots odd
+unfolding reports outcome_at outcome begins_with keeps front mark_at block_len block_subframes odd
 reports-odd = refl
 
 -- the first two slots of the zero block with the cells between them changed, and the last two: the second of these is
 -- parity
 exchanged-first : take 16 (block_cells Low (exchanged 9 zero_block)) ≡ line Low
     (3 ∷ 1 ∷ 1 ∷ 3 ∷ 1 ∷ 1 ∷ 1 ∷ 1 ∷ 2 ∷ 2 ∷ [])
-unfolding block_cells zero_block mark_at block_slots payload_len
+unfolding block_cells zero_block mark_at block_subframes payload_len
 exchanged-first = refl
 
 exchanged-last : take 2 (exchanged (64 + 61) zero_block) ≡ replicate 27 false ∷ (replicate 26 false ++ true ∷ []) ∷ []
-unfolding zero_block block_slots payload_len
+unfolding zero_block block_subframes payload_len
 exchanged-last = refl
 
 -- cells between slots: not those within one, nor those of which one is of a preamble

@@ -16,7 +16,7 @@ use Rattle.aes3_slot.proofs.Index.{length-mark}
 use Rattle.aes3_slot.proofs.Subframes.{line-slots}
 use Rattle.aes3_slot.proofs.Bridge.{kept-runs}
 use Rattle.aes3_slot.proofs.Unique.{read_slots-line}
-use Rattle.aes3_frame.specs.Blocks.{mark_at, block_slots, block_len, block_cells}
+use Rattle.aes3_frame.specs.Blocks.{mark_at, block_subframes, block_len, block_cells}
 use Rattle.aes3_slot.specs.Preambles.{entry}
 use Rattle.aes3_lock.specs.Candidates.{begins_block, front}
 use Rattle.aes3_lock.specs.Outcomes.{whole, marked, fault, unfinished, outcome, block_outcome, wrong_parities}
@@ -91,9 +91,9 @@ module _ (slots : List (List Bool)) (s : Level) (c : List Level) (h : SubframesS
         stops = λ g. absurd (omega arith);
       })
 
-  pub standing-read : read_slots block_slots c ≡ slots
+  pub standing-read : read_slots block_subframes c ≡ slots
   standing-read =
-      ap (read_slots block_slots) (sym (take-append-drop block_len c) ∙ ap (λ x. x ++ drop block_len c) h.cells)
+      ap (read_slots block_subframes) (sym (take-append-drop block_len c) ∙ ap (λ x. x ++ drop block_len c) h.cells)
       ∙ ap (λ n. read_slots n (line s (runs_of mark_at slots) ++ drop block_len c)) (sym h.count)
       ∙ read_slots-line mark_at s slots (drop block_len c) h.each
 
@@ -169,7 +169,7 @@ pub whole-standing : (b : List (List Bool)) (s : Level) (c : List Level) → out
 whole-standing b s c w = go (ending c)
   where
     slots : List (List Bool)
-    slots = read_slots block_slots c
+    slots = read_slots block_subframes c
 
     at-entry : IsClosed c → SubframesStand slots (entry c) c → (wrong_parities slots ≡ 0)
         ⊎ (wrong_parities slots ≡ 0 → ⊥)
@@ -202,7 +202,7 @@ pub marked-standing : (s : Level) (n : ℕ) (c : List Level) → outcome c ≡ m
 marked-standing s n c w = go (ending c)
   where
     slots : List (List Bool)
-    slots = read_slots block_slots c
+    slots = read_slots block_subframes c
 
     at-entry : IsClosed c → SubframesStand slots (entry c) c → (wrong_parities slots ≡ 0)
         ⊎ (wrong_parities slots ≡ 0 → ⊥)

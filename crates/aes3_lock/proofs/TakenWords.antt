@@ -12,7 +12,7 @@ use Rattle.aes3_slot.specs.Fronts.{IsFrontOf}
 use Rattle.aes3_slot.proofs.Fronts.{kept-from-front, front-from-kept}
 use Rattle.aes3_lock.proofs.SubframeWords.{take-word}
 use Rattle.aes3_slot.proofs.ReadSubframes.{length-word}
-use Rattle.aes3_frame.specs.Blocks.{mark_at, block_slots, block_len}
+use Rattle.aes3_frame.specs.Blocks.{mark_at, block_subframes, block_len}
 use Rattle.aes3_lock.specs.declared.candidate.Candidate.{Candidate}
 use Rattle.aes3_slot.specs.Preambles.{entry}
 use Rattle.aes3_lock.specs.Candidates.{keeps}
@@ -77,7 +77,7 @@ module _ (k : LockState) (t : Candidate) (c : List Level) (w x y : ℕ) (f : Fol
   so-far i h = let a = (hand-open k t c f s).all in (front-is (entry d) d).kept i (omega (arith, a, h))
 
   -- where it fits, the lock goes on
-  pub word-next : (k' : LockState) → length k.words ≡ block_slots → Fits t x y (k.seen - t.at)
+  pub word-next : (k' : LockState) → length k.words ≡ block_subframes → Fits t x y (k.seen - t.at)
       → k'.seen ≡ k.seen + 64 → k'.recent ≡ drop 56 (word_cells w)
       → k'.candidate ≡ Some (record { at = t.at; before = t.before; level = at (word_cells x) 63 })
       → k'.subframe ≡ y → k'.words ≡ set k.words ((k.seen - t.at) / 64) x
@@ -211,7 +211,7 @@ next-inside u sub new words s d o l h cells few g e =
 
 -- its last cell
 pub next-whole : (u : Level) (sub new : ℕ) (words : List ℕ) (s : Level) (d : List Level) (o : ℕ) (l : Level)
-    → length words ≡ block_slots → o < block_len → o % 64 ≡ 63
+    → length words ≡ block_subframes → o < block_len → o % 64 ≡ 63
     → (sub < 2 ^ (o % 64) → low_cells (o % 64 + 1) new ≡ low_cells (o % 64) sub ++ l ∷ [])
     → Gathered u sub words s d → o ≡ length d → Gathered l 0 (set words (o / 64) new) s (d ++ l ∷ [])
 unfolding word_cells word_len

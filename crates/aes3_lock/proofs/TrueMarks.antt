@@ -12,7 +12,7 @@ use Rattle.aes3_slot.specs.declared.mark.Mark.TheVariants.{X, Y, Z}
 use Rattle.aes3_slot.specs.Slots.{mark_runs}
 use Rattle.aes3_slot.specs.Rules.{StandsMark}
 use Rattle.aes3_slot.proofs.OwnPreambles.{stands-room}
-use Rattle.aes3_frame.specs.Blocks.{mark_at, block_slots, stream}
+use Rattle.aes3_frame.specs.Blocks.{mark_at, block_subframes, stream}
 use Rattle.aes3_frame.proofs.FileLaws.{EachBlock, each-block}
 use Rattle.aes3_slot.specs.Preambles.{entry, begins_with, same_cells}
 use Rattle.aes3_lock.specs.Preambles.{first_mark, placed, marks_from, marks}
@@ -135,9 +135,9 @@ module _ (s : Level) (bs : List (List (List Bool))) (h : EachBlock bs) (i j : �
   given-sparse p (suc n) e = (λ r a b. given-between (p + r) (λ q. omega arith), given-sparse (p + 64) n (omega arith))
 
   -- at the start of a subframe its preamble
-  given-own : (k : ℕ) → k < block_slots * length bs
+  given-own : (k : ℕ) → k < block_subframes * length bs
       → given (64 * k) ≡ cond (leb i (64 * k) && leb (64 * k + 8) j)
-      ((64 * k - i, mark_at (k % block_slots), s) ∷ []) []
+      ((64 * k - i, mark_at (k % block_subframes), s) ∷ []) []
   unfolding given
   given-own k l =
       let a : 64 * k ≡ 64 * k + 0 = omega arith in
@@ -146,26 +146,26 @@ module _ (s : Level) (bs : List (List (List Bool))) (h : EachBlock bs) (i j : �
       let e = first_mark-some (stream_marks k) s (drop (64 * k) (stream s bs)) z in
       ap (λ m. cond (leb i (64 * k) && leb (64 * k + 8) j) (option_to_list (option_map (placed (64 * k - i)) m)) []) e
 
-  spaced-marks : (n k : ℕ) → k + n ≤ block_slots * length bs → spaced given 64 (64 * k) n ≡ marks_within n k s i j
+  spaced-marks : (n k : ℕ) → k + n ≤ block_subframes * length bs → spaced given 64 (64 * k) n ≡ marks_within n k s i j
   spaced-marks zero k l = refl
   spaced-marks (suc n) k l =
       let a : 64 * k + 64 ≡ 64 * suc k = omega arith in
       ap₂ (λ u v. u ++ v) (given-own k (omega arith)) (ap (λ p. spaced given 64 p n) a
       ∙ spaced-marks n (suc k) (omega arith))
 
-  piece-marks : marks_from 0 (take (j - i) (drop i (stream s bs))) ≡ marks_within (block_slots * length bs) 0 s i j
+  piece-marks : marks_from 0 (take (j - i) (drop i (stream s bs))) ≡ marks_within (block_subframes * length bs) 0 s i j
   piece-marks =
       let c = take (j - i) (drop i (stream s bs)) in
       let n = length-piece i j (stream s bs) order within in
       let l = stream-length s bs h in
-      let e : 64 * (block_slots * length bs) ≡ block_slots * length bs * 64 = omega arith in
+      let e : 64 * (block_subframes * length bs) ≡ block_subframes * length bs * 64 = omega arith in
       marks-collect 0 c
       ∙ collect-gather mark_here given 0 i c (λ q o. given-here q (omega (arith, n, o)))
       ∙ ap (gather given i) n
       ∙ sym given-within
       ∙ ap (gather given 0) (l ∙ e)
-      ∙ gather-spaced given 64 0 (block_slots * length bs) (lit< tt) (given-sparse 0 (block_slots * length bs) refl)
-      ∙ spaced-marks (block_slots * length bs) 0 (omega arith)
+      ∙ gather-spaced given 64 0 (block_subframes * length bs) (lit< tt) (given-sparse 0 (block_subframes * length bs) refl)
+      ∙ spaced-marks (block_subframes * length bs) 0 (omega arith)
 
 pub marks-true : (s : Level) (bs : List (List (List Bool))) (i j : ℕ) (c : List Level) → IsPiece s bs i j c
     → marks c ≡ true_marks s bs i j

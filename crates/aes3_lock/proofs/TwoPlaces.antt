@@ -5,7 +5,7 @@ use Rattle.aes3_level.specs.declared.level.Level.{Level}
 use Rattle.aes3_level.specs.declared.level.Level.TheVariants.{Low}
 use Rattle.aes3_slot.specs.Rules.{at, shape}
 use Rattle.aes3_slot.proofs.Distance.{own-cell, stands-from}
-use Rattle.aes3_frame.specs.Blocks.{mark_at, block_slots, block_len, block_cells, stream, IsBlock}
+use Rattle.aes3_frame.specs.Blocks.{mark_at, block_subframes, block_len, block_cells, stream, IsBlock}
 use Rattle.aes3_frame.proofs.FileLaws.{each-block}
 use Rattle.aes3_frame.proofs.CellLaws.{length-block_cells, block_len_24576}
 use Rattle.aes3_lock.specs.Pieces.{IsPiece}
@@ -20,7 +20,7 @@ module _ (s : Level) (bs : List (List (List Bool))) (i j : ℕ) (c : List Level)
   -- where a preamble of the block stands in the piece a subframe begins
   preamble-at : (k q : ℕ) → k < 384 → q + 8 ≤ length c
       → ((x : ℕ) → x < 8 → at (block_cells t d) (64 * k + x) ≡ at c (q + x)) → (i + q) % 64 ≡ 0
-  unfolding block_slots
+  unfolding block_subframes
   preamble-at k q l r same =
       let n = length-block_cells t d g in
       let b = block_len_24576 in

@@ -11,7 +11,7 @@ use Rattle.aes3_slot.specs.Rules.{AllKept, Each28}
 use Rattle.aes3_slot.proofs.Index.{subframe-length}
 use Rattle.aes3_slot.proofs.Bridge.{kept-runs, kept-front}
 use Rattle.aes3_slot.proofs.WholeSubframes.{extend-runs}
-use Rattle.aes3_frame.specs.Blocks.{mark_at, block_slots, block_len}
+use Rattle.aes3_frame.specs.Blocks.{mark_at, block_subframes, block_len}
 use Rattle.aes3_lock.specs.Candidates.{keeps, front}
 use Rattle.aes3_lock.specs.Standing.{IsViable}
 use Rattle.aes3_lock.proofs.Fronts.{keeps-append, kept-from-keeps, keeps-from-kept, IsFront, front-is, front-unique}
@@ -53,7 +53,7 @@ viable-kept s c v = kept-front mark_at s c v.rest (subst (AllKept mark_at s) v.i
 pub kept-viable : (s : Level) (c : List Level) → length c ≤ block_len → AllKept mark_at s c → IsViable s c
 kept-viable s c l k =
     let b = block_len_64 in
-    let e = extend-runs block_slots mark_at s c (omega arith) k in
+    let e = extend-runs block_subframes mark_at s c (omega arith) k in
     record { slots = e.0; count = e.1; each = e.2; rest = e.3.0; is = e.3.1 }
 
 abbrev pub AllKeep : Level → List Level → Type 0

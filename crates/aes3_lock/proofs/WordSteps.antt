@@ -12,7 +12,7 @@ use Rattle.aes3_slot.specs.Rules.{at, before, AllKept}
 use Rattle.aes3_slot.specs.Fronts.{stands}
 use Rattle.aes3_slot.proofs.Index.{before-append_left, before-append_right}
 use Rattle.aes3_slot.proofs.RuleTests.{kept-from-stands, stands-from-kept}
-use Rattle.aes3_frame.specs.Blocks.{mark_at, block_slots, block_len}
+use Rattle.aes3_frame.specs.Blocks.{mark_at, block_subframes, block_len}
 use Rattle.aes3_lock.specs.Candidates.{keeps}
 use Rattle.aes3_lock.specs.Following.{Gathered}
 use Rattle.aes3_lock.proofs.Deciding.{block_len_64}
@@ -83,7 +83,7 @@ module _ (s : Level) (d e f w : List Level) (is : w ≡ drop (64 * (length d / 6
       ∙ ap (at w) (let q : length ((start s d) ++ w) - 1 - 64 * (length d / 64) ≡ 63 = omega (arith, n) in q)
 
   -- what is kept then
-  pub made-whole : (u : Level) (sub new x : ℕ) (words : List ℕ) → Gathered u sub words s d → length words ≡ block_slots
+  pub made-whole : (u : Level) (sub new x : ℕ) (words : List ℕ) → Gathered u sub words s d → length words ≡ block_subframes
       → length d < block_len
       → length f < 64 → low_cells (length f) new ≡ f → new < 2 ^ length f → word_cells x ≡ w
       → Gathered (at w 63) new (set words (length d / 64) x) s (d ++ (e ++ f))

@@ -6,7 +6,7 @@ use Rattle.aes3_level.specs.Words.{low_cells, word_cells}
 use Rattle.aes3_slot.specs.Rules.{at, before, rule}
 use Rattle.aes3_slot.specs.Reading.{read_slots}
 use Rattle.aes3_slot.specs.ReadWords.{read_words}
-use Rattle.aes3_frame.specs.Blocks.{block_slots, block_len, mark_at}
+use Rattle.aes3_frame.specs.Blocks.{block_subframes, block_len, mark_at}
 use Rattle.aes3_lock.specs.declared.candidate.Candidate.{Candidate}
 use Rattle.aes3_slot.specs.Preambles.{entry}
 use Rattle.aes3_lock.specs.Candidates.{begins_block}
@@ -32,7 +32,7 @@ pub record ScanState : Type 0 where
 
 -- the words have the cells of each whole subframe
 abbrev pub Filled : List ℕ → List Level → Type 0
-Filled words d = (j : ℕ) → j < block_slots → 64 * j + 64 ≤ length d
+Filled words d = (j : ℕ) → j < block_subframes → 64 * j + 64 ≤ length d
     → word_cells (get_or words j 0) ≡ take 64 (drop (64 * j) d)
 
 -- what is kept of a candidate's cells d after level s: the level before the subframe that isn't whole, its cells, and
@@ -72,8 +72,8 @@ report_in k e = ending_report (read_words k.words) e
 -- where an ending is of a block, whole or marked, the words have the bits of its subframes in these cells
 abbrev pub HeldBlock : List ℕ → List Level → Option Ending → Type 0
 HeldBlock words c None = Unit {0}
-HeldBlock words c (Some (Whole at s)) = read_words words ≡ read_slots block_slots (drop at c)
-HeldBlock words c (Some (Marked at s wrong)) = read_words words ≡ read_slots block_slots (drop at c)
+HeldBlock words c (Some (Whole at s)) = read_words words ≡ read_slots block_subframes (drop at c)
+HeldBlock words c (Some (Marked at s wrong)) = read_words words ≡ read_slots block_subframes (drop at c)
 HeldBlock words c (Some (Fault at cell why)) = Unit {0}
 HeldBlock words c (Some (Unfinished at cells)) = Unit {0}
 

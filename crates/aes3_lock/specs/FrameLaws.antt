@@ -5,7 +5,7 @@ use Rattle.std.specs.Prelude.{ℕ, suc, List, [], ◌∷◌, Bool, not, map, len
 use Rattle.std.specs.Prelude.{◌↔◌, take, drop, if◌then◌else◌}
 use Rattle.std.specs.List.{All, AllPairs, Contains, filter, list_any, flat_map}
 use Rattle.aes3_level.specs.declared.level.Level.{Level}
-use Rattle.aes3_frame.specs.Blocks.{block_slots, block_len}
+use Rattle.aes3_frame.specs.Blocks.{block_subframes, block_len}
 use Rattle.aes3_lock.specs.Damage.{apart, places_apart}
 use Rattle.aes3_lock.specs.Remains.{left_of}
 use Rattle.aes3_lock.specs.Laws.{PlacedBlock}
@@ -15,7 +15,7 @@ use Rattle.aes3_lock.specs.Standing.{StandsClosed}
 
 -- the block that the subframes of a stream from cell p on would be, if its preambles stood there
 abbrev pub block_from : ℕ → List (List (List Bool)) → List (List Bool)
-block_from p bs = take block_slots (drop (p / 64) (flat_map (λ b. b) bs))
+block_from p bs = take block_subframes (drop (p / 64) (flat_map (λ b. b) bs))
 
 -- which of its cells, counted from p, aren't those of the stream: none where a block of the stream begins; else cells 4
 -- and 6 of its first preamble, where the stream has X and it has Z, and of the one where the next block begins, where

@@ -6,7 +6,7 @@ use Rattle.aes3_bits.specs.Bits.{odd_ones}
 use Rattle.aes3_slot.specs.Slots.{payload_len}
 use Rattle.aes3_slot.specs.Rules.{at, before}
 use Rattle.aes3_slot.specs.Reading.{same, read_slots}
-use Rattle.aes3_frame.specs.Blocks.{block_slots, block_len}
+use Rattle.aes3_frame.specs.Blocks.{block_subframes, block_len}
 use Rattle.aes3_lock.specs.declared.report.Why.{Why}
 use Rattle.aes3_lock.specs.declared.report.Why.TheVariants.{Preamble, Biphase, Unclosed}
 use Rattle.aes3_slot.specs.Preambles.{entry}
@@ -38,9 +38,9 @@ outcome c =
     let f = front (entry c) c in
     if nat_lt f (length c) then
     (if nat_lt f block_len then fault f
-    else (if same (at c f) (before (entry c) c f) then fault f else block_outcome (entry c) (read_slots block_slots c)))
+    else (if same (at c f) (before (entry c) c f) then fault f else block_outcome (entry c) (read_slots block_subframes c)))
     else
-    (if nat_lt f block_len then unfinished f else block_outcome (entry c) (read_slots block_slots c))
+    (if nat_lt f block_len then unfinished f else block_outcome (entry c) (read_slots block_subframes c))
 
 -- why the cell at an offset refutes a candidate
 abbrev pub why_of : ℕ → Why

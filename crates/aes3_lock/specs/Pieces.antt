@@ -4,7 +4,7 @@ use Rattle.std.specs.Prelude.{nat_le, take, drop, if◌then◌else◌}
 use Rattle.std.specs.List.{All}
 use Rattle.aes3_level.specs.declared.level.Level.{Level}
 use Rattle.aes3_slot.specs.declared.mark.Mark.{Mark}
-use Rattle.aes3_frame.specs.Blocks.{mark_at, block_slots, block_len, stream, IsBlock}
+use Rattle.aes3_frame.specs.Blocks.{mark_at, block_subframes, block_len, stream, IsBlock}
 
 -- the cells of a stream of blocks after level s from cell i up to, but without, cell j
 pub record IsPiece (s : Level) (bs : List (List (List Bool))) (i j : ℕ) (c : List Level) : Type 0 where
@@ -34,9 +34,9 @@ whole_blocks bs i j = given_within (λ p b. b ∷ []) 0 i j bs
 abbrev pub marks_within : ℕ → ℕ → Level → ℕ → ℕ → List (ℕ × Mark × Level)
 marks_within zero k s i j = []
 marks_within (suc n) k s i j =
-    (if nat_le i (64 * k) && nat_le (64 * k + 8) j then (64 * k - i, mark_at (k % block_slots), s) ∷ [] else [])
+    (if nat_le i (64 * k) && nat_le (64 * k + 8) j then (64 * k - i, mark_at (k % block_subframes), s) ∷ [] else [])
     ++ marks_within n (suc k) s i j
 
 -- a piece's true preambles
 unfoldable pub true_marks : Level → List (List (List Bool)) → ℕ → ℕ → List (ℕ × Mark × Level)
-true_marks s bs i j = marks_within (block_slots * length bs) 0 s i j
+true_marks s bs i j = marks_within (block_subframes * length bs) 0 s i j

@@ -1,6 +1,8 @@
 //! The lock: all reports of any cells, in one pass and fixed memory (AES3-3, IEC 60958-1).
 #![tactic(auto)]
 
+/// The cells of one incomplete subframe and of eight at once, and the last eight cells.
+mod begun_subframe;
 /// A place at which a block may begin.
 mod candidate;
 /// Laws over the definitions alone, whatever the cells.
@@ -17,8 +19,6 @@ mod rule;
 mod scan;
 /// All reports of a list of cells, with each place tried by itself.
 mod slow;
-/// The cells of one incomplete subframe and of eight at once, and the last eight cells.
-mod subframe;
 /// How many reports of each kind there were.
 mod tally;
 /// The preambles that end in a word of cells.

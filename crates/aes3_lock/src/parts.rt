@@ -1,7 +1,7 @@
 //! What a lock keeps.
 
 use crate::candidate::Candidate;
-use aes3_frame::SLOTS;
+use aes3_frame::SUBFRAMES;
 
 /// All that a lock keeps, for a caller that stores it in a form of its own. `Lock::parts` gives it,
 /// and `Lock::of_parts` makes the same lock from it.
@@ -16,5 +16,5 @@ pub struct LockParts<'a> {
     /// The cells of its last, incomplete subframe, the earliest in bit 0.
     pub subframe: u64,
     /// The cells of its whole subframes, as they came, the earliest in bit 0.
-    pub words: &'a [u64; SLOTS],
+    pub words: &'a [u64; SUBFRAMES],
 }

@@ -1,7 +1,7 @@
 //! What a lock reports of a place at which a block may begin, and what ends a candidate.
 
+use crate::begun_subframe::PREAMBLE_CELLS;
 use crate::candidate::Candidate;
-use crate::subframe::PREAMBLE_CELLS;
 use aes3_frame::{BLOCK_CELLS, Block, GatheredCells};
 use aes3_level::Level;
 use aes3_slot::SUBFRAME_CELLS;

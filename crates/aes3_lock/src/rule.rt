@@ -4,7 +4,7 @@ ghost use Rattle.std.specs.Prelude.{◌≡◌, ◌<◌};
 ghost use Rattle.aes3_slot.specs.Rules.{rule, shape};
 ghost use Rattle.aes3_frame.specs.Blocks.{mark_at};
 
-use crate::subframe::PREAMBLE_CELLS;
+use crate::begun_subframe::PREAMBLE_CELLS;
 use aes3_level::Level;
 use aes3_slot::{Mark, SUBFRAME_CELLS, mark_cells, mark_of};
 

@@ -1,5 +1,5 @@
 //! The scan.
-use crate::subframe::{PREAMBLE_CELLS, completed, last_behind, rest_of, with_cell};
+use crate::begun_subframe::{PREAMBLE_CELLS, completed, last_behind, rest_of, with_cell};
 use crate::word_marks::WordMarks;
 use aes3_level::Level;
 use aes3_slot::{Mark, match_mark, preambles};

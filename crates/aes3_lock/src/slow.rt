@@ -6,11 +6,11 @@ ghost use Rattle.aes3_lock.specs.Candidates.{front};
 ghost use Rattle.aes3_lock.specs.Reports.{outcome_at, reports, told};
 ghost use Rattle.aes3_lock.specs.Following.{Filled};
 
+use crate::begun_subframe::{PREAMBLE_CELLS, candidate_in, with_cell, with_next};
 use crate::candidate::Candidate;
 use crate::report::{Report, ending_at, left_ending, report_with};
 use crate::rule::may_stand;
-use crate::subframe::{PREAMBLE_CELLS, candidate_in, with_cell, with_next};
-use aes3_frame::{BLOCK_CELLS, GatheredCells, SLOTS};
+use aes3_frame::{BLOCK_CELLS, GatheredCells, SUBFRAMES};
 use aes3_level::Level;
 use aes3_slot::SUBFRAME_CELLS;
 use std::alloc::{AllocError, Global};
@@ -29,7 +29,7 @@ fn first_eight(cells: &[Level]) -> u8
 
 /// How many cells continue as a block's after the level `level_before`, and the level of the last
 /// one. The cells of whole subframes go into `words`.
-fn go_through(level_before: Level, cells: &[Level], words: &mut [u64; SLOTS]) -> (u64, Level)
+fn go_through(level_before: Level, cells: &[Level], words: &mut [u64; SUBFRAMES]) -> (u64, Level)
     ensures front { result.0 ≡ front level_before cells.now }
     ensures last { result.1 ≡ before level_before cells.now result.0 }
     ensures words { Filled words.new (take result.0 cells.now) }
@@ -71,7 +71,7 @@ fn report_at(at: u64, cells: &[Level]) -> Option<Report>
         before: begun.before,
         level: begun.level,
     };
-    let mut words = [0; SLOTS];
+    let mut words = [0; SUBFRAMES];
     let (offset, previous) = go_through(candidate.before, cells, &mut words);
     let gathered = GatheredCells::of_words(&words);
     let place = offset as usize;

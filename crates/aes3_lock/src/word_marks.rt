@@ -1,6 +1,6 @@
 //! The preambles that end in a word of cells.
 
-use crate::subframe::PREAMBLE_CELLS;
+use crate::begun_subframe::PREAMBLE_CELLS;
 use aes3_level::Level;
 use aes3_slot::{Mark, mark_places};
 use std::marker::Model;

@@ -10,7 +10,8 @@ ghost use Rattle.aes3_lock_gaps.specs.Gaps.{Entry, behind_full, reported};
 ghost use Rattle.aes3_lock_gaps.specs.Told.{ComesNext, HasAll, HasBegun, Tells, behind_entry};
 ghost use Rattle.aes3_lock_gaps.specs.Told.{due_gaps, gap_entry, report_with, reports_in};
 
-use crate::gap::{BLOCK_CELLS, Due, Gap};
+use crate::gap::{Due, Gap};
+use aes3_frame::BLOCK_CELLS;
 use aes3_lock::Ending;
 
 /// Which reports and gaps of the cells of an input were given: all before a place. Also whether

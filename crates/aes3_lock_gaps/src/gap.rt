@@ -4,10 +4,8 @@ ghost use Rattle.std.specs.Prelude.{◌≡◌, ◌-◌, Some, None, false, List,
 ghost use Rattle.aes3_frame.specs.Blocks.{block_len};
 ghost use Rattle.aes3_lock_gaps.specs.Told.{due_before, report_with};
 
+use aes3_frame::BLOCK_CELLS;
 use aes3_lock::Ending;
-
-/// How many cells a block has (AES3-3).
-pub(crate) const BLOCK_CELLS: u64 = 24_576;
 
 /// A gap: cells in a row that lie in no whole block, 1 to 24,576.
 #[derive(Clone, Copy)]

@@ -24,8 +24,6 @@ use aes3_lock::{Ending, Lock, Tally};
 ///
 /// The contract speaks of the cells that it has heard (`follows`), of what cells write (`writes`),
 /// and of what holds after the end (`finished`). After a fault or the end it follows no cells.
-/// (`writes`), and of what holds after the end (`finished`). After a fault or the end it follows
-/// none.
 pub trait Listener {
     ghost follows: { Self → List Level → Type 0 };
 

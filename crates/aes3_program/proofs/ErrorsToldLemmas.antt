@@ -3,13 +3,13 @@ use Rattle.std.proofs.Common.{◌≡◌, ◌≤◌, ◌==◌, ◌&&◌, ◌||◌
 use Rattle.std.proofs.Common.{if◌then◌else◌, nat_lt}
 use Rattle.aes3_cell.specs.declared.counts.Counts.{Counts}
 use Rattle.aes3_cell.specs.declared.form.Form.{Form}
-use Rattle.aes3_cell.specs.declared.refusal.RunError.{RunError}
-use Rattle.aes3_cell.specs.declared.refusal.RunError.TheVariants as refusal
+use Rattle.aes3_cell.specs.declared.run_error.RunError.{RunError}
+use Rattle.aes3_cell.specs.declared.run_error.RunError.TheVariants as refusal
 use Rattle.aes3_input.specs.Running.{Movement, Promise}
 use Rattle.aes3_cell.proofs.Growing.{grew-is}
-use Rattle.aes3_cli_arguments.specs.declared.job.LineFault.{LineFault}
-use Rattle.aes3_cli_arguments.specs.declared.job.LineFault.TheVariants.{Usage, Help, Refused}
-use Rattle.aes3_cli_arguments.specs.declared.line.CommandLine.{CommandLine}
+use Rattle.aes3_cli_arguments.specs.declared.command_job.LineFault.{LineFault}
+use Rattle.aes3_cli_arguments.specs.declared.command_job.LineFault.TheVariants.{Usage, Help, Refused}
+use Rattle.aes3_cli_arguments.specs.declared.command_line.CommandLine.{CommandLine}
 use Rattle.aes3_cli_jobs.specs.Forms.{finds_faults, reads_packed, writes_packed}
 use Rattle.aes3_cli_jobs.specs.declared.job.Job.{Job}
 use Rattle.aes3_cli_jobs.specs.declared.job.Job.TheVariants.{Encode, Stream, Read, FromPcm, FromWav}
@@ -29,12 +29,12 @@ use Rattle.aes3_program.specs.declared.outcome.Met.{Met}
 use Rattle.aes3_status.specs.declared.change.Change.{Change}
 use Rattle.aes3_status.specs.declared.setting.Settings.{Settings as GivenSettings}
 use Rattle.aes3_status.specs.declared.taken.Taken.{Taken}
-use Rattle.aes3_forms_words.specs.declared.form.Words.TheVariants.{Own, Alsa, Am824}
+use Rattle.aes3_forms_words.specs.declared.alsa_am824.Words.TheVariants.{Own, Alsa, Am824}
 use Rattle.aes3_engine.specs.RewritingRuns.{taken_of}
 use Rattle.aes3_engine.proofs.WordRuns.{none-left-out}
 use Rattle.std.specs.Option.{is_some, option_map_or}
 use Rattle.aes3_status_text.specs.Untaken.{texts_of, untaken_lines}
-use Rattle.aes3_status_text.specs.declared.typed.TypedSettings.{TypedSettings}
+use Rattle.aes3_status_text.specs.declared.typed_settings.TypedSettings.{TypedSettings}
 use Rattle.aes3_program.specs.Lines.{met_lines, remark_line}
 use Rattle.aes3_program.specs.Outcomes.{RemarkTold, met_by, sample_status}
 use Rattle.aes3_program.specs.JobRuns.{AnswerTold, Answered, JobRan, RanAs, encode_promise, end_status, read_promise}

@@ -1,8 +1,8 @@
 -- A run that is flushed: what is told of it where it was refused, or where that failed.
 use Rattle.std.proofs.Common.{◌≡◌, ◌≢◌, ℕ, ◌+◌, inl, inr, Bool, List, Option, Some, Result, Ok, Err, refl, sym, ap, subst, ◌∙◌}
 use Rattle.std.proofs.Common.{arith}
-use Rattle.aes3_cell.specs.declared.refusal.RunError.{RunError}
-use Rattle.aes3_cell.specs.declared.refusal.RunError.TheVariants.{Read, Write}
+use Rattle.aes3_cell.specs.declared.run_error.RunError.{RunError}
+use Rattle.aes3_cell.specs.declared.run_error.RunError.TheVariants.{Read, Write}
 use Rattle.aes3_cell.specs.declared.counts.Counts.{Counts}
 use Rattle.aes3_input.specs.Running.{Failed, InputRan, InputRun, Movement, Promise, Quiet}
 use Rattle.aes3_input.proofs.InputRuns.{Gives, run-err, run-ok, run-write, run-sink_quiet}
@@ -14,18 +14,18 @@ use Rattle.aes3_cli_jobs.specs.declared.refusal.Refusal.{Refusal}
 use Rattle.aes3_cli_jobs.specs.declared.refusal.Refusal.TheVariants.{Run}
 use Rattle.aes3_wave_runs.specs.FromWav.{WaveRan, WaveRun, promise_for}
 use Rattle.aes3_wave_runs.specs.Wave.{limit_of}
-use Rattle.aes3_wave_runs.specs.declared.error.WaveError.{WaveError}
-use Rattle.aes3_wave_runs.specs.declared.error.WaveError.TheVariants as wave_error
+use Rattle.aes3_wave_runs.specs.declared.wave_error.WaveError.{WaveError}
+use Rattle.aes3_wave_runs.specs.declared.wave_error.WaveError.TheVariants as wave_error
 use Rattle.aes3_wave_runs.specs.declared.options.Converted.{Converted}
 use Rattle.aes3_wave_runs.specs.declared.options.WaveOptions.{WaveOptions}
-use Rattle.aes3_wave_runs.specs.declared.status.StatusUse.{StatusUse}
-use Rattle.aes3_wave.specs.declared.samples.Channels.{Channels}
-use Rattle.aes3_wave.specs.declared.samples.Mono.{Mono}
+use Rattle.aes3_wave_runs.specs.declared.status_use.StatusUse.{StatusUse}
+use Rattle.aes3_wave.specs.declared.channels.Channels.{Channels}
+use Rattle.aes3_wave.specs.declared.channels.Mono.{Mono}
 use Rattle.aes3_status.specs.declared.change.Change.{Change}
-use Rattle.aes3_forms_words.specs.declared.form.Words.{Words}
+use Rattle.aes3_forms_words.specs.declared.alsa_am824.Words.{Words}
 use Rattle.aes3_cell.specs.declared.form.Form.{Form}
 use Rattle.aes3_status_text.specs.declared.style.Style.{Style}
-use Rattle.aes3_status_text.specs.declared.typed.TypedSettings.{TypedSettings}
+use Rattle.aes3_status_text.specs.declared.typed_settings.TypedSettings.{TypedSettings}
 use Rattle.aes3_watch.specs.Sums.{begun_sums, sum_lines}
 use Rattle.aes3_watch.specs.Watching.{watch_counts}
 use Rattle.aes3_input.specs.Driving.{counted_cells}

@@ -8,7 +8,7 @@ use Rattle.aes3_cell.specs.declared.form.Form.TheVariants.{Text, Packed}
 use Rattle.aes3_cell.specs.Written.{written}
 use Rattle.aes3_cell.proofs.PackedCells.{packed_of-packs}
 use Rattle.aes3_cell_octets.proofs.ReversedOctets.{whole-reversed}
-use Rattle.aes3_forms_words.specs.declared.form.Words.TheVariants.{Own, Alsa, Am824}
+use Rattle.aes3_forms_words.specs.declared.alsa_am824.Words.TheVariants.{Own, Alsa, Am824}
 use Rattle.aes3_forms_words.specs.Lists.{own_of}
 use Rattle.aes3_frame.specs.Blocks.{stream}
 use Rattle.aes3_frame.specs.Files.{file_blocks}

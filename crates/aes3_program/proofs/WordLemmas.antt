@@ -1,8 +1,8 @@
 -- What words ask for, by the line that they are.
 use Rattle.std.proofs.Common.{◌≡◌, ℕ, List, Option, Some, None, inl, inr, Result, Ok, Err, refl, subst, sym}
 use Rattle.aes3_cell.specs.declared.ends.Sink.{Ghosts as SinkMembers}
-use Rattle.aes3_cli_arguments.specs.declared.job.LineFault.{LineFault}
-use Rattle.aes3_cli_arguments.specs.declared.line.CommandLine.{CommandLine}
+use Rattle.aes3_cli_arguments.specs.declared.command_job.LineFault.{LineFault}
+use Rattle.aes3_cli_arguments.specs.declared.command_line.CommandLine.{CommandLine}
 use Rattle.aes3_cli_jobs.specs.declared.observer.Observer.{Ghosts as ObserverMembers}
 use Rattle.aes3_program.specs.Asides.{AsideOfRun, AsideOfWords, IsAsked, job_of}
 use Rattle.aes3_program.specs.Streams.{Streams}

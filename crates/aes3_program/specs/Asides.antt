@@ -4,8 +4,8 @@ use Rattle.std.specs.Prelude.{ℕ, List, Option, Some, None, Result, Ok, Err, Is
 use Rattle.aes3_cell.specs.declared.ends.Sink.{Ghosts as SinkMembers}
 use Rattle.aes3_cli_jobs.specs.declared.refusal.Refusal.{Refusal}
 use Rattle.aes3_input.specs.Running.{Movement}
-use Rattle.aes3_cli_arguments.specs.declared.job.LineFault.{LineFault}
-use Rattle.aes3_cli_arguments.specs.declared.line.CommandLine.{CommandLine}
+use Rattle.aes3_cli_arguments.specs.declared.command_job.LineFault.{LineFault}
+use Rattle.aes3_cli_arguments.specs.declared.command_line.CommandLine.{CommandLine}
 use Rattle.aes3_cli_arguments.specs.Jobs.{IsJobOf, IsFaultOf}
 use Rattle.aes3_cli_jobs.specs.declared.job.Job.{Job}
 use Rattle.aes3_cli_jobs.specs.declared.observer.Observer.{Ghosts as ObserverMembers}

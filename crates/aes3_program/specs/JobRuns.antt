@@ -4,8 +4,8 @@ use Rattle.std.specs.Prelude.{Option, [], max, min, nat_lt}
 use Rattle.aes3_level.specs.declared.level.Level.{Level}
 use Rattle.aes3_cell.specs.declared.counts.Counts.{Counts}
 use Rattle.aes3_cell.specs.declared.form.Form.{Form}
-use Rattle.aes3_cell.specs.declared.refusal.RunError.{RunError}
-use Rattle.aes3_cell.specs.declared.refusal.RunError.TheVariants as refusal
+use Rattle.aes3_cell.specs.declared.run_error.RunError.{RunError}
+use Rattle.aes3_cell.specs.declared.run_error.RunError.TheVariants as refusal
 use Rattle.aes3_cell.specs.Ends.{Grew}
 use Rattle.aes3_cell.specs.Written.{written}
 use Rattle.aes3_frame.specs.Samples.{samples}
@@ -14,7 +14,7 @@ use Rattle.aes3_lock.specs.Reports.{blocks, decided, normal, reports}
 use Rattle.aes3_input.specs.Running.{Movement, Promise, InputRun, Quiet, Failed}
 use Rattle.aes3_input.specs.Driving.{counted_cells}
 use Rattle.aes3_forms_samples.specs.Formats.{narrowed}
-use Rattle.aes3_forms_samples.specs.declared.format.SampleFormat.{SampleFormat}
+use Rattle.aes3_forms_samples.specs.declared.sample_format.SampleFormat.{SampleFormat}
 use Rattle.aes3_engine.specs.Words.{told_words, words_file}
 use Rattle.aes3_lock_runs.specs.ReportRuns.{counts_of}
 use Rattle.aes3_lock_runs.specs.BlockRuns.{begun_stream, written_stream, cut_blocks, decided_blocks}
@@ -34,19 +34,19 @@ use Rattle.aes3_text_reports.specs.Lines.{report_lines}
 use Rattle.aes3_text_reports.specs.Scanning.{scan_counts}
 use Rattle.aes3_wave_runs.specs.FromWav.{WaveRun}
 use Rattle.aes3_wave_runs.specs.ToWav.{exact_wave_cells, filled_wave_cells, valid_wave_cells, wave_cells}
-use Rattle.aes3_wave_runs.specs.declared.error.WaveError.{WaveError}
+use Rattle.aes3_wave_runs.specs.declared.wave_error.WaveError.{WaveError}
 use Rattle.aes3_wave_runs.specs.declared.options.Converted.{Converted}
 use Rattle.aes3_wave_runs.specs.declared.options.WaveOptions.{WaveOptions}
-use Rattle.aes3_wave_runs.specs.declared.status.StatusUse.{StatusUse}
-use Rattle.aes3_wave_runs.specs.declared.status.StatusUse.TheVariants.{Consumer, Professional}
+use Rattle.aes3_wave_runs.specs.declared.status_use.StatusUse.{StatusUse}
+use Rattle.aes3_wave_runs.specs.declared.status_use.StatusUse.TheVariants.{Consumer, Professional}
 use Rattle.aes3_status.specs.declared.change.Change.{Change}
-use Rattle.aes3_wave.specs.declared.samples.Channels.{Channels}
-use Rattle.aes3_wave.specs.declared.samples.Mono.{Mono}
-use Rattle.aes3_forms_words.specs.declared.form.Words.{Words}
+use Rattle.aes3_wave.specs.declared.channels.Channels.{Channels}
+use Rattle.aes3_wave.specs.declared.channels.Mono.{Mono}
+use Rattle.aes3_forms_words.specs.declared.alsa_am824.Words.{Words}
 use Rattle.aes3_watch.specs.Sums.{begun_sums, sum_lines}
 use Rattle.aes3_watch.specs.Watching.{begun_watch, watch_counts, watch_lines}
 use Rattle.aes3_info.specs.Infos.{info_counts, info_page, no_page}
-use Rattle.aes3_status_text.specs.declared.typed.TypedSettings.{TypedSettings}
+use Rattle.aes3_status_text.specs.declared.typed_settings.TypedSettings.{TypedSettings}
 use Rattle.aes3_cli_jobs.specs.Forms.{finds_faults}
 use Rattle.aes3_cli_jobs.specs.declared.job.Job.{Job}
 use Rattle.aes3_cli_jobs.specs.declared.job.Job.TheVariants.{Encode, Stream, Read, FromPcm, FromWav}

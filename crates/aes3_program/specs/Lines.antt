@@ -1,7 +1,7 @@
 -- The lines that tell a refusal, a remark on a job that ended well, and words that can not be read.
 use Rattle.std.specs.Option.{option_map_or}
 use Rattle.std.specs.Prelude.{ℕ, List, [], ◌∷◌, ◌++◌, Option, Some, None, codes, decimal}
-use Rattle.aes3_cell.specs.declared.refusal.RunError.TheVariants as refusal
+use Rattle.aes3_cell.specs.declared.run_error.RunError.TheVariants as refusal
 use Rattle.aes3_cli_jobs.specs.Refusals.{number_of_refusal, place_of_refusal}
 use Rattle.aes3_cli_jobs.specs.declared.refusal.Refusal.{Refusal}
 use Rattle.aes3_cli_jobs.specs.declared.refusal.Refusal.TheVariants.{Run}
@@ -12,7 +12,7 @@ use Rattle.aes3_program.specs.declared.outcome.Remark.TheVariants.{UsualRate, Fi
 use Rattle.aes3_program.specs.declared.outcome.UnsaidFormat.{UnsaidFormat}
 use Rattle.aes3_program.specs.declared.outcome.Met.{Met}
 use Rattle.aes3_status_text.specs.Untaken.{texts_of, untaken_lines}
-use Rattle.aes3_status_text.specs.declared.typed.TypedSettings.{TypedSettings}
+use Rattle.aes3_status_text.specs.declared.typed_settings.TypedSettings.{TypedSettings}
 
 -- `aes3: refused <number>`, the place and a line feed
 abbrev pub refusal_line : Refusal → List ℕ

@@ -3,23 +3,23 @@ use Rattle.std.specs.Option.{unwrap_or}
 use Rattle.std.specs.Prelude.{ℕ, ◌==◌, ◌∷◌, if◌then◌else◌, replicate, List, [], Option, Some, None, Result, Ok, Err, ◌≡◌}
 use Rattle.std.specs.Prelude.{Bool, ◌||◌, ◌&&◌, not, is_some}
 use Rattle.aes3_cell.specs.declared.counts.Counts.{Counts}
-use Rattle.aes3_cell.specs.declared.refusal.RunError.{RunError}
+use Rattle.aes3_cell.specs.declared.run_error.RunError.{RunError}
 use Rattle.aes3_cell.specs.Ends.{Grew}
 use Rattle.aes3_input.specs.Running.{Movement, Promise, Quiet}
 use Rattle.aes3_cli_jobs.specs.declared.refusal.Refusal.{Refusal}
 use Rattle.aes3_cli_jobs.specs.declared.refusal.Refusal.TheVariants as job_error
 use Rattle.aes3_wave_runs.specs.FromWav.{or_status}
 use Rattle.aes3_wave_runs.specs.Status.{lacks_rate, lacks_width, status_for}
-use Rattle.aes3_wave_runs.specs.declared.error.WaveError.{WaveError}
-use Rattle.aes3_wave_runs.specs.declared.error.WaveError.TheVariants as wave_error
+use Rattle.aes3_wave_runs.specs.declared.wave_error.WaveError.{WaveError}
+use Rattle.aes3_wave_runs.specs.declared.wave_error.WaveError.TheVariants as wave_error
 use Rattle.aes3_wave_runs.specs.declared.options.Converted.{Converted}
 use Rattle.aes3_wave_runs.specs.declared.options.ExactWave.{ExactWave}
 use Rattle.aes3_wave_runs.specs.declared.options.FilledWave.{FilledWave}
 use Rattle.aes3_wave_runs.specs.declared.options.WaveOptions.{WaveOptions}
 use Rattle.aes3_wave_runs.specs.declared.options.WaveWritten.{WaveWritten}
-use Rattle.aes3_wave.specs.declared.format.WaveFormat.{WaveFormat}
-use Rattle.aes3_wave.specs.declared.format.Width.{Width}
-use Rattle.aes3_wave.specs.declared.format.Width.TheVariants.{Bits8, Bits16, Bits20, Bits24, Bits32}
+use Rattle.aes3_wave.specs.declared.wave_format.WaveFormat.{WaveFormat}
+use Rattle.aes3_wave.specs.declared.wave_format.Width.{Width}
+use Rattle.aes3_wave.specs.declared.wave_format.Width.TheVariants.{Bits8, Bits16, Bits20, Bits24, Bits32}
 use Rattle.aes3_status.specs.declared.change.Change.{Change}
 use Rattle.aes3_status.specs.declared.setting.Settings.{Settings as GivenSettings}
 use Rattle.aes3_status.specs.declared.taken.Taken.{Taken}

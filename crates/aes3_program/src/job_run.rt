@@ -1,7 +1,7 @@
 //! A job between a source and a sink, its final flush and its exit status.
 
 ghost use Rattle.std.specs.Prelude.{◌≡◌, ◌≢◌, ◌<◌, ◌≤◌, ◌+◌, ◌^◌, IfOk, None, Some};
-ghost use Rattle.aes3_cell.specs.declared.refusal.RunError.TheVariants.{Write};
+ghost use Rattle.aes3_cell.specs.declared.run_error.RunError.TheVariants.{Write};
 ghost use Rattle.aes3_input.specs.Running.{movement_of};
 ghost use Rattle.aes3_cli_jobs.specs.declared.refusal.Refusal.TheVariants.{Run};
 ghost use Rattle.aes3_cli_jobs.specs.declared.work.ReadWork.TheVariants.{ToPcm, ToWav};
@@ -16,7 +16,7 @@ use crate::outcome::{
     Outcome, encoded, exact, filled, of_file, of_run, plain, rewritten, sampled, waved,
     waved_exactly, waved_in_time,
 };
-use crate::refusal::refuse;
+use crate::refusal_line::refuse;
 use crate::remark::tell_outcome;
 use aes3_cell::{Counts, Form, RunError, Sink, Source};
 use aes3_cli::DONE;

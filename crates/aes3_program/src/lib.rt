@@ -4,21 +4,18 @@
 
 /// A job done by its run, its final flush and its exit status.
 mod job_run;
-/// A job whose octets have another layout.
-mod octets;
+/// A whole command line, and a job whose octets have another layout.
+mod line_run;
 /// The result of a job that read its input to the end.
 mod outcome;
 /// The line of an error.
-mod refusal;
+mod refusal_line;
 /// The remarks on a job that read its input to the end.
 mod remark;
-/// A whole command line.
-mod run;
 
 pub use aes3_cli::{DONE, REFUSED, USAGE, Unread};
 pub use aes3_status_text::TypedSettings;
 pub use job_run::{FAULTY, finish_job, run_job};
-pub use octets::{Ran, outputs_can_be_reversed, run_octets};
+pub use line_run::{Ran, outputs_can_be_reversed, run_line, run_octets, tell_unread};
 pub use outcome::{Met, Outcome, Remark};
-pub use refusal::{put_refusal, refuse};
-pub use run::{run_line, tell_unread};
+pub use refusal_line::{put_refusal, refuse};

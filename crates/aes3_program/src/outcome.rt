@@ -16,7 +16,7 @@ use aes3_engine::{EncodedWords, Exact, Filled, Rewritten};
 use aes3_status::{Change, Settings, Taken};
 use aes3_wave::{WaveFormat, Width};
 use aes3_wave_runs::{
-    Converted, ExactWave, FilledWave, WaveError, WaveOptions, WaveWritten, status_of, unsaid_of,
+    Converted, ExactWave, FilledWave, WaveError, WaveOptions, WaveWritten, missing_codes, status_of,
 };
 
 /// The settings of a channel, and which of them some block took.
@@ -303,15 +303,15 @@ fn bits_of(width: Width) -> u8
 fn unsaid_format(options: &WaveOptions, format: &WaveFormat) -> UnsaidFormat
     ensures { result ≡ unsaid_format options.now format.now }
 {
-    let unsaid = unsaid_of(format, options.status_use);
+    let missing = missing_codes(format, options.status_use);
     let is_made = options.change.status1.is_none() || options.change.status2.is_none();
     UnsaidFormat {
-        rate: if is_made && unsaid.rate {
+        rate: if is_made && missing.rate {
             Some(format.rate)
         } else {
             None
         },
-        bits: if is_made && unsaid.width {
+        bits: if is_made && missing.width {
             Some(bits_of(format.width))
         } else {
             None

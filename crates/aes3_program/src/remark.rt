@@ -13,7 +13,7 @@ ghost use Rattle.aes3_program.specs.Streams.{PassesOn, moved};
 
 use crate::job_run::exit_status;
 use crate::outcome::{Met, Outcome, Remark, UnsaidFormat};
-use crate::refusal::{put_refusal, refuse};
+use crate::refusal_line::{put_refusal, refuse};
 use aes3_cell::{Fault, RunError, Sink, write_all};
 use aes3_cli_jobs::{Job, Observer, Refusal};
 use aes3_status::{Settings, Taken};
@@ -59,8 +59,8 @@ fn put_filled_at_usual_rate<T: Sink>(frames: u64, sink: &mut T) -> Result<(), Fa
     requires room { T.failed sink.old + 1 < 2 ^ 64 }
     ensures { Wrote T.taken T.failed sink.old sink.new (filled_line frames ++ usual_rate_line) result }
 {
-    filled(frames).hand_on(sink)?;
-    usual_rate().hand_on(sink)
+    filled(frames).write_to(sink)?;
+    usual_rate().write_to(sink)
 }
 
 /// The line that says that the status has no code for a sampling frequency.
@@ -117,7 +117,7 @@ fn put_line<T: Sink>(channel: u8, text: &str, remedy: &str, sink: &mut T) -> Res
     ensures { Wrote T.taken T.failed sink.old sink.new
         (told_line channel text.now remedy.now) result }
 {
-    head(channel).hand_on(sink)?;
+    head(channel).write_to(sink)?;
     put_rest(text, remedy, sink)
 }
 
@@ -212,7 +212,7 @@ fn put_unsaid_rate<T: Sink>(rate: Option<u32>, sink: &mut T) -> Result<(), Fault
 {
     match rate {
         None => Ok(()),
-        Some(rate) => no_rate(rate).hand_on(sink),
+        Some(rate) => no_rate(rate).write_to(sink),
     }
 }
 
@@ -226,7 +226,7 @@ fn put_unsaid_width<T: Sink>(bits: Option<u8>, sink: &mut T) -> Result<(), Fault
 {
     match bits {
         None => Ok(()),
-        Some(bits) => no_width(bits).hand_on(sink),
+        Some(bits) => no_width(bits).write_to(sink),
     }
 }
 
@@ -277,10 +277,10 @@ fn put_remark<T: Sink>(
 {
     match remark {
         Remark::Nothing => Ok(()),
-        Remark::Filled { frames } => filled(*frames).hand_on(sink),
-        Remark::LeftOut { words } => left_out(*words).hand_on(sink),
+        Remark::Filled { frames } => filled(*frames).write_to(sink),
+        Remark::LeftOut { words } => left_out(*words).write_to(sink),
         Remark::Settings { first, second } => put_settings(typed, first, second, sink),
-        Remark::UsualRate => usual_rate().hand_on(sink),
+        Remark::UsualRate => usual_rate().write_to(sink),
         Remark::FilledAtUsualRate { frames } => put_filled_at_usual_rate(*frames, sink),
         Remark::Wave {
             unsaid,

@@ -2,8 +2,8 @@
 use Rattle.std.specs.Prelude.{Bool, Result, Ok, Err, ◌≡◌, ◌⊎◌}
 use Rattle.aes3_cell.specs.declared.form.Form.TheVariants.{Text, Packed}
 use Rattle.aes3_status_text.specs.declared.style.Notation.{Notation}
-use Rattle.aes3_cli_arguments.specs.declared.job.LineFault.{LineFault}
-use Rattle.aes3_cli_arguments.specs.declared.line.CommandLine.{CommandLine}
+use Rattle.aes3_cli_arguments.specs.declared.command_job.LineFault.{LineFault}
+use Rattle.aes3_cli_arguments.specs.declared.command_line.CommandLine.{CommandLine}
 use Rattle.aes3_cli_jobs.specs.declared.job.Job.TheVariants.{Read}
 use Rattle.aes3_cli_jobs.specs.declared.work.ReadWork.TheVariants.{Info}
 

@@ -7,8 +7,8 @@ mod bytes;
 #[cfg(test)]
 mod command_lines;
 #[cfg(test)]
-mod job;
-#[cfg(test)]
 mod program;
 #[cfg(test)]
 mod runs;
+#[cfg(test)]
+mod worked_jobs;

@@ -8,7 +8,7 @@ ghost use Rattle.aes3_level.specs.Words.{word_cells};
 ghost use Rattle.aes3_slot.specs.Slots.{slot_runs, slots_bits};
 
 use crate::mark::Mark;
-use crate::subframe::slots_cells;
+use crate::subframe_encoding::slots_cells;
 use aes3_level::Level;
 use std::simd::prelude::*;
 

@@ -10,9 +10,9 @@ use Rattle.aes3_level.specs.Cells.{line}
 use Rattle.aes3_slot.specs.declared.mark.Mark.TheVariants.{Z}
 use Rattle.aes3_slot.specs.Preambles.{begins_with}
 use Rattle.aes3_slot.specs.Slots.{mark_runs}
-use Rattle.aes3_frame.specs.Blocks.{block_len, block_slots}
+use Rattle.aes3_frame.specs.Blocks.{block_len, block_subframes}
 use Rattle.aes3_frame.proofs.CellLaws.{block_len_24576}
-use Rattle.aes3_frame.proofs.BlockLemmas.{block_slots_384}
+use Rattle.aes3_frame.proofs.BlockLemmas.{block_subframes_384}
 use Rattle.aes3_lock.specs.declared.report.Report.{Report}
 use Rattle.aes3_lock.specs.declared.report.Report.TheVariants.{Fault}
 use Rattle.aes3_lock.specs.declared.report.Why.{Why}
@@ -52,11 +52,11 @@ determined-told errors k q x c b s why one stands e low high is cause =
 
 pub biphase-told : (errors : Errors) (q n slot : ℕ) (c : List Level) (b : List (List Bool)) (s : Level)
     → IsOne errors Changed (slot_cell (q + 64 * n) slot)
-    → StandsClosed b s (drop q c) → n < block_slots → 4 ≤ slot → slot ≤ 31
+    → StandsClosed b s (drop q c) → n < block_subframes → 4 ≤ slot → slot ≤ 31
     → IsTheReport (spoiled errors c) q (Fault q (slot_cell (q + 64 * n) slot) Biphase)
 biphase-told errors q n slot c b s one stands inside first last =
     let m = block_len_24576 in
-    let o = block_slots_384 in
+    let o = block_subframes_384 in
     let x = 64 * n + (8 + 2 * (slot - 4)) in
     let f = le-ltb (x % 64) 8 (omega (arith, first, last)) in
     let g = eq-eqb (x % 2) 0 (omega (arith, first)) in
@@ -66,11 +66,11 @@ biphase-told errors q n slot c b s one stands inside first last =
 
 pub preamble-told : (errors : Errors) (q n : ℕ) (c : List Level) (b : List (List Bool)) (s : Level)
     → IsOne errors Changed (preamble_cell (q + 64 * n))
-    → StandsClosed b s (drop q c) → 0 < n → n < block_slots
+    → StandsClosed b s (drop q c) → 0 < n → n < block_subframes
     → IsTheReport (spoiled errors c) q (Fault q (preamble_cell (q + 64 * n)) Preamble)
 preamble-told errors q n c b s one stands some inside =
     let m = block_len_24576 in
-    let o = block_slots_384 in
+    let o = block_subframes_384 in
     let x = 64 * n + 2 in
     let f = lt-ltb (x % 64) 8 (omega arith) in
     let u = ne_eqb x block_len (λ e. omega (arith, e, m, o, inside)) in

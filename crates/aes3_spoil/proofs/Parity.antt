@@ -17,8 +17,8 @@ use Rattle.aes3_slot.specs.Fronts.{with_some_parity}
 use Rattle.aes3_slot.proofs.Parity.{length-some, odd_ones-some}
 use Rattle.aes3_slot.proofs.Subframes.{length-subframe, length-with_parity, odd_ones-with_parity, total-bits}
 use Rattle.aes3_slot.proofs.Subframes.{total-mark}
-use Rattle.aes3_frame.specs.Blocks.{mark_at, block_len, block_slots}
-use Rattle.aes3_frame.proofs.BlockLemmas.{block_slots_384}
+use Rattle.aes3_frame.specs.Blocks.{mark_at, block_len, block_subframes}
+use Rattle.aes3_frame.proofs.BlockLemmas.{block_subframes_384}
 use Rattle.aes3_frame.proofs.CellLaws.{block_len_24576, each28}
 use Rattle.aes3_frame.proofs.Each.{each-payload}
 use Rattle.aes3_frame.proofs.GatheredWords.{line-other}
@@ -172,7 +172,7 @@ wrong-line marks s (suc n) (p ∷ b) h l =
     ∙ sym (line-append s first (runs_of (λ j. marks (suc j)) (wrong_in n b)))
 
 -- block b stands closed after level s at the start of d
-module _ (b : List (List Bool)) (s : Level) (d : List Level) (h : StandsClosed b s d) (n : ℕ) (inside : n < block_slots)
+module _ (b : List (List Bool)) (s : Level) (d : List Level) (h : StandsClosed b s d) (n : ℕ) (inside : n < block_subframes)
   where
     wrong-stands : SubframesStand (wrong_in n b) s (turned_from (64 * n + 63) d)
     wrong-stands =
@@ -189,7 +189,7 @@ module _ (b : List (List Bool)) (s : Level) (d : List Level) (h : StandsClosed b
     wrong-closed : IsClosed (turned_from (64 * n + 63) d)
     wrong-closed =
         let m = block_len_24576 in
-        let o = block_slots_384 in
+        let o = block_subframes_384 in
         let i = inside in
         let l = length-turned (64 * n + 63) d in
         record {
@@ -212,7 +212,7 @@ module _ (b : List (List Bool)) (s : Level) (d : List Level) (h : StandsClosed b
 
 pub parity-told : (errors : Errors) (q n : ℕ) (c : List Level) (b : List (List Bool)) (s : Level)
     → IsOne errors Inverted (parity_cell (q + 64 * n))
-    → StandsClosed b s (drop q c) → n < block_slots
+    → StandsClosed b s (drop q c) → n < block_subframes
     → IsTheReport (spoiled errors c) q (Marked q s 1)
 parity-told errors q n c b s one stands inside =
     let z : parity_cell (q + 64 * n) - q ≡ 64 * n + 63 = omega arith in

@@ -17,8 +17,8 @@ use Rattle.aes3_slot.proofs.Aligned.{aligned, aligned-own}
 use Rattle.aes3_slot.proofs.Beginnings.{begins-room, begins-short, begins-stands, stands-begins, stands-entry}
 use Rattle.aes3_slot.proofs.Distance.{own-cell, stands-from}
 use Rattle.aes3_slot.proofs.Index.{length-mark}
-use Rattle.aes3_frame.specs.Blocks.{mark_at, block_cells, block_len, block_runs, block_slots, stream}
-use Rattle.aes3_frame.proofs.BlockLemmas.{block_slots_384}
+use Rattle.aes3_frame.specs.Blocks.{mark_at, block_cells, block_len, block_runs, block_subframes, stream}
+use Rattle.aes3_frame.proofs.BlockLemmas.{block_subframes_384}
 use Rattle.aes3_frame.proofs.CellLaws.{block_len_24576}
 use Rattle.aes3_frame.proofs.FileLaws.{EachBlock, each-block}
 use Rattle.aes3_frame.proofs.GatheredWords.{line-other}
@@ -155,7 +155,7 @@ module _ (s : Level) (d : List Level) (kept : AllKept stream_marks s d) (i j : �
           let a = aligned stream_marks s d kept Z (entry (part y)) (i + y) v in
           let m = (aligned-own stream_marks s d kept Z (entry (part y)) (i + y) v).0 in
           let f : (i + y) / 64 % 384 ≡ 0 =
-          ap (λ k. (i + y) / 64 % k) (sym block_slots_384) ∙ first-only ((i + y) / 64 % block_slots) m in
+          ap (λ k. (i + y) / 64 % k) (sym block_subframes_384) ∙ first-only ((i + y) / 64 % block_subframes) m in
           absurd (n (omega (arith, a, f)))
 
   -- too few cells for a preamble
@@ -175,7 +175,7 @@ module _ (s : Level) (d : List Level) (kept : AllKept stream_marks s d) (i j : �
         let e : 64 * ((i + y) / 64) ≡ i + y = omega (arith, a) in
         let z : (i + y) / 64 % 384 ≡ 0 = omega (arith, a) in
         let m : stream_marks ((i + y) / 64) ≡ Z =
-        ap mark_at (ap (λ k. (i + y) / 64 % k) block_slots_384 ∙ z) ∙ first-mark in
+        ap mark_at (ap (λ k. (i + y) / 64 % k) block_subframes_384 ∙ z) ∙ first-mark in
         part-cell y x (omega (arith, b, l)) ∙ ap (λ p. at d (p + x)) (sym e)
         ∙ own-cell stream_marks s d kept ((i + y) / 64) x (omega (arith, b, e, w)) l
         ∙ ap₂ (λ m p. shape m x (before s d p)) m e
@@ -202,7 +202,7 @@ module _ (s : Level) (d : List Level) (kept : AllKept stream_marks s d) (i j : �
         let q : (i + y + x) % 64 ≡ x % 64 = omega (arith, a) in
         let z : (i + y + x) / 64 % 384 ≡ x / 64 = omega (arith, a, o) in
         let m : stream_marks ((i + y + x) / 64) ≡ mark_at (x / 64) =
-        ap mark_at (ap (λ n. (i + y + x) / 64 % n) block_slots_384 ∙ z) in
+        ap mark_at (ap (λ n. (i + y + x) / 64 % n) block_subframes_384 ∙ z) in
         let v : 64 * ((i + y + x) / 64) ≡ i + y + 64 * (x / 64) = omega (arith, a) in
         record {
           preamble = λ u. c ∙ k.preamble (omega (arith, q, u))
@@ -339,7 +339,7 @@ module _ (s : Level) (bs : List (List (List Bool))) (h : EachBlock bs) (i j : �
         let a = start in
         let w = last in
         let m = block_len_24576 in
-        let o = block_slots_384 in
+        let o = block_subframes_384 in
         let e = le-ltb k y u in
         let f = lt-ltb k (y + block_len) v in
         let z : k - y ≡ 64 * ((k - y) / 64) + 63 = omega (arith, a, w, u) in

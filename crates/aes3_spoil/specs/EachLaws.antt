@@ -4,7 +4,7 @@ use Rattle.std.specs.Prelude.{drop, map, if◌then◌else◌}
 use Rattle.std.specs.List.{All, Contains}
 use Rattle.aes3_level.specs.declared.level.Level.{Level}
 use Rattle.aes3_level.specs.Cells.{other}
-use Rattle.aes3_frame.specs.Blocks.{block_len, block_slots, stream, IsBlock}
+use Rattle.aes3_frame.specs.Blocks.{block_len, block_subframes, stream, IsBlock}
 use Rattle.aes3_lock.specs.declared.report.Report.{Report}
 use Rattle.aes3_lock.specs.declared.report.Report.TheVariants.{Fault, Marked, Unfinished, Whole}
 use Rattle.aes3_lock.specs.declared.report.Why.TheVariants.{Preamble, Biphase}
@@ -39,7 +39,7 @@ abbrev pub BiphaseErrorIsTheFault : Type 0
 BiphaseErrorIsTheFault =
     (errors : Errors) (q n slot : ℕ) (c : List Level) (b : List (List Bool)) (s : Level)
     → IsOne errors Changed (slot_cell (q + 64 * n) slot)
-    → StandsClosed b s (drop q c) → n < block_slots → 4 ≤ slot → slot ≤ 31
+    → StandsClosed b s (drop q c) → n < block_subframes → 4 ≤ slot → slot ≤ 31
     → IsTheReport (spoiled errors c) q (Fault q (slot_cell (q + 64 * n) slot) Biphase)
 
 -- one preamble error in another than its first subframe, as a fault at the preamble's third cell; in its first
@@ -48,7 +48,7 @@ abbrev pub PreambleErrorIsTheFault : Type 0
 PreambleErrorIsTheFault =
     (errors : Errors) (q n : ℕ) (c : List Level) (b : List (List Bool)) (s : Level)
     → IsOne errors Changed (preamble_cell (q + 64 * n))
-    → StandsClosed b s (drop q c) → 0 < n → n < block_slots
+    → StandsClosed b s (drop q c) → 0 < n → n < block_subframes
     → IsTheReport (spoiled errors c) q (Fault q (preamble_cell (q + 64 * n)) Preamble)
 
 abbrev pub FirstPreambleErrorEndsTheCandidate : Type 0
@@ -62,7 +62,7 @@ abbrev pub WrongParityIsMarked : Type 0
 WrongParityIsMarked =
     (errors : Errors) (q n : ℕ) (c : List Level) (b : List (List Bool)) (s : Level)
     → IsOne errors Inverted (parity_cell (q + 64 * n))
-    → StandsClosed b s (drop q c) → n < block_slots
+    → StandsClosed b s (drop q c) → n < block_subframes
     → IsTheReport (spoiled errors c) q (Marked q s 1)
 
 -- what a report becomes where the last cell of a subframe, cell k, and all behind have the other level: a block that

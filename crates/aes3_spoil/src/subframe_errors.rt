@@ -8,9 +8,7 @@ ghost use Rattle.aes3_spoil.specs.declared.kinds.ErrorKind.TheVariants.{Changed,
 
 use crate::errors::{ERRORS, Errors};
 use crate::kinds::ErrorKind;
-
-/// How many cells a subframe has.
-const SUBFRAME_CELLS: u64 = 64;
+use aes3_slot::SUBFRAME_CELLS;
 
 /// How many of them are its preamble, and how many a time slot has.
 const PREAMBLE_CELLS: u64 = 8;

@@ -16,7 +16,7 @@ use Rattle.aes3_spoil.specs.declared.kinds.Every.{Every}
 use Rattle.aes3_spoil_runs.specs.Named.{errors_named, name_of}
 use Rattle.aes3_spoil_runs.specs.SpoilLine.{spoil_line}
 use Rattle.aes3_spoil_runs.specs.Values.{every_in, spot_in}
-use Rattle.aes3_spoil_runs.specs.declared.line.Job.{Job}
+use Rattle.aes3_spoil_runs.specs.declared.spoil_job.Job.{Job}
 use Rattle.aes3_spoil_runs.specs.declared.named.NamedError.{NamedError}
 use Rattle.aes3_spoil_runs.specs.declared.named.NamedError.TheVariants.{Cell, Invert, Lost, Double, Parity, Biphase}
 use Rattle.aes3_spoil_runs.specs.declared.named.NamedError.TheVariants.{Preamble, CheckByte}

@@ -4,9 +4,9 @@ use Rattle.clap.specs.Walk.{Rule}
 use Rattle.clap.specs.Simple.{App}
 use Rattle.aes3_cli.specs.CommandLine.{file, packed_in, packed_out, program_with, settings_option, text_option}
 use Rattle.aes3_spoil_runs.specs.Named.{name_of}
-use Rattle.aes3_spoil_runs.specs.declared.argument.Argument.{Argument}
+use Rattle.aes3_spoil_runs.specs.declared.spoil_argument.Argument.{Argument}
 use Rattle.aes3_spoil_runs.specs.declared.named.NamedError.TheVariants as named
-use Rattle.aes3_spoil_runs.specs.declared.argument.Argument.TheVariants.{PackedIn, PackedOut, Named, Every, File}
+use Rattle.aes3_spoil_runs.specs.declared.spoil_argument.Argument.TheVariants.{PackedIn, PackedOut, Named, Every, File}
 
 -- the options and values; each that names an error may stand more than once
 abbrev pub rule : Argument → Rule

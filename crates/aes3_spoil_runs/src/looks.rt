@@ -1,6 +1,6 @@
 //! What to do with an input that was rejected, by what its first octets look like.
 
-use crate::line::Job;
+use crate::spoil_job::Job;
 use aes3_cell::Form;
 use aes3_cli::{LineFault, REFUSED};
 use aes3_files::{FileKind, Preview};

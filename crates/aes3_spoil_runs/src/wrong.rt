@@ -3,9 +3,9 @@
 ghost use Rattle.std.specs.Prelude.{◌≡◌, IfOk};
 ghost use Rattle.aes3_spoil_runs.specs.Faults.{IsFaultFor, place_needed, value_line, wrong_line, wrong_text};
 
-use crate::argument::value_name;
-use crate::help::PROGRAM;
 use crate::named::NamedError;
+use crate::spoil_argument::value_name;
+use crate::spoil_help::PROGRAM;
 use aes3_cli::LineFault;
 use aes3_cli::wording::add_usage;
 use std::alloc::{AllocError, Global};

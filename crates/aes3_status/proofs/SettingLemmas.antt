@@ -2,7 +2,7 @@
 use Rattle.std.proofs.Common.{◌≡◌, ◌≢◌, ℕ, ◌+◌, ◌*◌, ◌<◌, ◌≤◌, inl, inr, eqb, List, Option, Some, None, length}
 use Rattle.std.proofs.Common.{take, drop, refl, ap, ◌∙◌, sym, arith}
 use Rattle.std.proofs.lemmas.List.{length-set}
-use Rattle.aes3_status.specs.declared.place.Place.{Place}
+use Rattle.aes3_status.specs.declared.field.Place.{Place}
 use Rattle.aes3_status.specs.declared.field.ProField.{ProField}
 use Rattle.aes3_status.specs.declared.field.ProField.TheVariants as pro
 use Rattle.aes3_status.specs.declared.field.ConField.{ConField}

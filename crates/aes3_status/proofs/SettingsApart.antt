@@ -7,7 +7,7 @@ use Rattle.std.proofs.lemmas.List.Folds.{list_all_at}
 use Rattle.std.specs.List.{list_all}
 use Rattle.std.specs.Option.{option_map_or}
 use Rattle.std.specs.Prelude.{cond, not, nat_le, ◌||◌, IfSome}
-use Rattle.aes3_status.specs.declared.place.Place.{Place}
+use Rattle.aes3_status.specs.declared.field.Place.{Place}
 use Rattle.aes3_status.specs.declared.field.ProField.{ProField}
 use Rattle.aes3_status.specs.declared.field.ProField.TheVariants as pro
 use Rattle.aes3_status.specs.declared.field.ConField.{ConField}

@@ -10,7 +10,7 @@ use Rattle.std.proofs.lemmas.List.{get_or-append_right, get_or_append_left, get_
 use Rattle.std.proofs.lemmas.List.{length-take-le}
 use Rattle.aes3_bits.specs.Bits.{low_bits, number}
 use Rattle.aes3_bits.proofs.Bits.{length-low_bits, low_bits-number}
-use Rattle.aes3_status.specs.declared.place.Place.{Place}
+use Rattle.aes3_status.specs.declared.field.Place.{Place}
 use Rattle.aes3_status.specs.declared.field.ProField.TheVariants as pro
 use Rattle.aes3_status.specs.declared.field.ConField.TheVariants as con
 use Rattle.aes3_status.specs.declared.field.Field.{Field}

@@ -1,16 +1,7 @@
 -- The bits of a channel status in order of transmission, and the numbers that they stand for.
-use Rattle.std.specs.Prelude.{ℕ, zero, suc, List, [], ◌∷◌, ◌++◌, Bool, cond, length, take, drop, ◌+◌, ◌*◌, ◌%◌, ◌/◌, ◌==◌}
-use Rattle.aes3_status.specs.declared.place.Place.{Place}
-
--- the lowest bits of a number, the one of weight 1 first
-abbrev pub low_bits : ℕ → ℕ → List Bool
-low_bits zero n = []
-low_bits (suc k) n = ((n % 2) == 1) ∷ low_bits k (n / 2)
-
--- the number of these bits, the first of weight 1
-abbrev pub number : List Bool → ℕ
-number [] = 0
-number (b ∷ bits) = cond b 1 0 + 2 * number bits
+use Rattle.std.specs.Prelude.{ℕ, List, [], ◌∷◌, ◌++◌, Bool, length, take, drop, ◌+◌, ◌*◌, ◌%◌, ◌/◌, ◌==◌}
+use Rattle.aes3_bits.specs.Bits.{low_bits, number}
+use Rattle.aes3_status.specs.declared.field.Place.{Place}
 
 -- the bits of a byte in order of transmission: bit 0 first
 unfoldable pub byte_bits : ℕ → List Bool

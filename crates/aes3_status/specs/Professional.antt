@@ -1,6 +1,6 @@
 -- The fields of professional channel status (AES3-2), each by its byte, its first bit there and its number of bits.
 use Rattle.std.specs.Prelude.{ℕ, Bool, true, false, List, [], ◌∷◌}
-use Rattle.aes3_status.specs.declared.place.Place.{Place}
+use Rattle.aes3_status.specs.declared.field.Place.{Place}
 use Rattle.aes3_status.specs.declared.field.ProField.{ProField}
 use Rattle.aes3_status.specs.declared.field.ProField.TheVariants as pro
 use Rattle.aes3_status.specs.Bits.{field, bytes_field, number_at, place}

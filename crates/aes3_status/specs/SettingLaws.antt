@@ -1,6 +1,6 @@
 -- What a code in a field does to a status of 24 bytes.
 use Rattle.std.specs.Prelude.{ℕ, Bool, List, Some, true, false, ◌≡◌, ◌≢◌, ◌≤◌, ◌<◌, ◌⊎◌, ◌+◌, ◌*◌, ◌%◌, ◌^◌, length}
-use Rattle.aes3_status.specs.declared.place.Place.{Place}
+use Rattle.aes3_status.specs.declared.field.Place.{Place}
 use Rattle.aes3_status.specs.declared.field.Field.{Field}
 use Rattle.aes3_status.specs.declared.field.Field.TheVariants.{Use, Professional}
 use Rattle.aes3_status.specs.declared.setting.Setting.{Setting}

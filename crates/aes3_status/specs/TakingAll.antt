@@ -4,7 +4,7 @@ use Rattle.std.specs.List.{list_all, list_any, range_with_len}
 use Rattle.std.specs.Option.{is_some, option_map_or}
 use Rattle.aes3_status.specs.declared.setting.Setting.{Setting}
 use Rattle.aes3_status.specs.declared.setting.Settings.{Settings}
-use Rattle.aes3_status.specs.declared.wide.WideSettings.{WideSettings}
+use Rattle.aes3_status.specs.declared.wide_field.WideSettings.{WideSettings}
 use Rattle.aes3_status.specs.declared.taken.Taken.{Taken}
 use Rattle.aes3_status.specs.Taken.{taken_by}
 

@@ -2,9 +2,9 @@
 use Rattle.std.specs.Prelude.{ℕ, List, Option, Some, None, true, ◌≡◌, length, take, drop}
 use Rattle.std.specs.Prelude.{if◌then◌else◌}
 use Rattle.std.specs.Option.{unwrap_or}
-use Rattle.aes3_status.specs.declared.wide.WideField.{WideField}
-use Rattle.aes3_status.specs.declared.wide.WideField.TheVariants.{Origin, Destination, Local, Time}
-use Rattle.aes3_status.specs.declared.wide.WideSettings.{WideSettings}
+use Rattle.aes3_status.specs.declared.wide_field.WideField.{WideField}
+use Rattle.aes3_status.specs.declared.wide_field.WideField.TheVariants.{Origin, Destination, Local, Time}
+use Rattle.aes3_status.specs.declared.wide_field.WideSettings.{WideSettings}
 use Rattle.aes3_status.specs.Bits.{bytes_field, with_part}
 use Rattle.aes3_status.specs.Statuses.{is_professional}
 

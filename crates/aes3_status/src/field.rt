@@ -1,12 +1,13 @@
-//! The fields of channel status that a code can be written to: those within one byte.
+//! The fields of channel status that a code can be written to, those within one byte: their places,
+//! reading them, and writing a code there.
 
-ghost use Rattle.std.specs.Prelude.{◌≡◌, ◌+◌, ◌^◌, ◌<◌, ◌≤◌};
-ghost use Rattle.aes3_status.specs.Bits.{number_at};
+ghost use Rattle.std.specs.Prelude.{◌≡◌, ◌+◌, ◌<◌, ◌≤◌, ◌^◌};
+ghost use Rattle.aes3_bits.specs.Bits.{low_bits, number};
+ghost use Rattle.aes3_status.specs.Bits.{byte_bits, number_at, field, bytes_field};
+ghost use Rattle.aes3_status.specs.Settings.{with_bits, with_field, is_for, place_of, under};
+ghost use Rattle.aes3_status.specs.Statuses.{is_professional};
 ghost use Rattle.aes3_status.specs.Consumer.{con_place};
 ghost use Rattle.aes3_status.specs.Professional.{pro_place};
-ghost use Rattle.aes3_status.specs.Settings.{is_for, place_of, under};
-
-use crate::place::{Place, is_for_professional_use};
 
 /// A field of professional channel status (AES3-2), as `Pro` reads it.
 #[derive(Clone, Copy, PartialEq, Eq, Debug)]
@@ -60,12 +61,92 @@ pub enum Field {
     Consumer(ConField),
 }
 
-fn place(byte: usize, first: u32, count: u32) -> Place
-    ensures byte { result.byte ≡ byte }
-    ensures first { result.first ≡ first }
-    ensures count { result.count ≡ count }
+/// `count` bits of byte `byte`, from bit `first` on.
+#[derive(Clone, Copy)]
+pub(crate) struct Place {
+    pub(crate) byte: usize,
+    pub(crate) first: u32,
+    pub(crate) count: u32,
+}
+
+impl Place {
+    /// `count` bits of byte `byte`, from bit `first` on.
+    fn new(byte: usize, first: u32, count: u32) -> Self
+        ensures byte { result.byte ≡ byte }
+        ensures first { result.first ≡ first }
+        ensures count { result.count ≡ count }
+    {
+        Place { byte, first, count }
+    }
+
+    /// The number at this place.
+    pub(crate) fn number(self, bytes: &[u8; 24]) -> u8
+        requires within { self.byte < 24 }
+        requires some { 0 < self.count }
+        requires inside { self.first + self.count ≤ 8 }
+        ensures { result ≡ number_at self bytes.now }
+    {
+        bits_at(bytes, self.byte, self.first, self.count)
+    }
+}
+
+/// The number of `count` bits of byte `byte` from bit `first` on, the first of weight 1.
+fn bits_at(bytes: &[u8; 24], byte: usize, first: u32, count: u32) -> u8
+    requires within { byte < 24 }
+    requires some { 0 < count }
+    requires inside { first + count ≤ 8 }
+    ensures { result ≡ field byte first count bytes.now }
 {
-    Place { byte, first, count }
+    bytes[byte] >> first & u8::MAX >> (8 - count)
+}
+
+/// Whether byte 0 bit 0 is 1, which means professional use.
+pub(crate) fn is_for_professional_use(bytes: &[u8; 24]) -> bool
+    ensures { result ≡ is_professional bytes.now }
+{
+    bits_at(bytes, 0, 0, 1) == 1
+}
+
+/// The number of the four bytes from byte `byte` on, the lowest first.
+pub(crate) fn u32_at(bytes: &[u8; 24], byte: usize) -> u32
+    requires { byte + 4 ≤ 24 }
+    ensures { result ≡ field byte 0 32 bytes.now }
+{
+    u32::from_le_bytes(bytes_at(bytes, byte))
+}
+
+/// The four bytes from byte `byte` on.
+pub(crate) fn bytes_at(bytes: &[u8; 24], byte: usize) -> [u8; 4]
+    requires { byte + 4 ≤ 24 }
+    ensures { result ≡ bytes_field byte 4 bytes.now }
+{
+    [
+        bytes[byte],
+        bytes[byte + 1],
+        bytes[byte + 2],
+        bytes[byte + 3],
+    ]
+}
+
+/// The byte with its bits from bit `first` on replaced by the lowest `count` bits of `code`.
+fn replaced(byte: u8, first: u32, count: u32, code: u8) -> u8
+    requires { first + count ≤ 8 }
+    ensures { result ≡ number (with_bits first (low_bits count code) (byte_bits byte)) }
+{
+    let byte = u32::from(byte);
+    let low = byte % (1 << first);
+    let middle = (u32::from(code) % (1 << count)) << first;
+    let high = byte >> (first + count) << (first + count);
+    (low + middle + high) as u8
+}
+
+/// Writes the lowest bits of `code` to the field at this place.
+pub(crate) fn put_code(bytes: &mut [u8; 24], place: Place, code: u8)
+    requires within { place.byte < 24 }
+    requires inside { place.first + place.count ≤ 8 }
+    ensures { bytes.new ≡ with_field place code bytes.old }
+{
+    bytes[place.byte] = replaced(bytes[place.byte], place.first, place.count, code);
 }
 
 impl ProField {
@@ -77,21 +158,21 @@ impl ProField {
         ensures inside { result.first + result.count ≤ 8 }
     {
         match self {
-            ProField::Payload => place(0, 1, 1),
-            ProField::Emphasis => place(0, 2, 3),
-            ProField::Unlocked => place(0, 5, 1),
-            ProField::Rate => place(0, 6, 2),
-            ProField::Mode => place(1, 0, 4),
-            ProField::User => place(1, 4, 4),
-            ProField::Aux => place(2, 0, 3),
-            ProField::Word => place(2, 3, 3),
-            ProField::B2high => place(2, 6, 2),
-            ProField::B3 => place(3, 0, 8),
-            ProField::B4 => place(4, 0, 8),
-            ProField::B5 => place(5, 0, 8),
-            ProField::Unreliable => place(22, 4, 4),
-            ProField::B22low => place(22, 0, 4),
-            ProField::Frequency => place(4, 3, 4),
+            ProField::Payload => Place::new(0, 1, 1),
+            ProField::Emphasis => Place::new(0, 2, 3),
+            ProField::Unlocked => Place::new(0, 5, 1),
+            ProField::Rate => Place::new(0, 6, 2),
+            ProField::Mode => Place::new(1, 0, 4),
+            ProField::User => Place::new(1, 4, 4),
+            ProField::Aux => Place::new(2, 0, 3),
+            ProField::Word => Place::new(2, 3, 3),
+            ProField::B2high => Place::new(2, 6, 2),
+            ProField::B3 => Place::new(3, 0, 8),
+            ProField::B4 => Place::new(4, 0, 8),
+            ProField::B5 => Place::new(5, 0, 8),
+            ProField::Unreliable => Place::new(22, 4, 4),
+            ProField::B22low => Place::new(22, 0, 4),
+            ProField::Frequency => Place::new(4, 3, 4),
         }
     }
 
@@ -112,20 +193,20 @@ impl ConField {
         ensures inside { result.first + result.count ≤ 8 }
     {
         match self {
-            ConField::Payload => place(0, 1, 1),
-            ConField::Copyright => place(0, 2, 1),
-            ConField::Emphasis => place(0, 3, 3),
-            ConField::Mode => place(0, 6, 2),
-            ConField::Category => place(1, 0, 7),
-            ConField::Generation => place(1, 7, 1),
-            ConField::Source => place(2, 0, 4),
-            ConField::Number => place(2, 4, 4),
-            ConField::Rate => place(3, 0, 4),
-            ConField::Accuracy => place(3, 4, 2),
-            ConField::B3high => place(3, 6, 2),
-            ConField::Greatest => place(4, 0, 1),
-            ConField::Word => place(4, 1, 3),
-            ConField::Original => place(4, 4, 4),
+            ConField::Payload => Place::new(0, 1, 1),
+            ConField::Copyright => Place::new(0, 2, 1),
+            ConField::Emphasis => Place::new(0, 3, 3),
+            ConField::Mode => Place::new(0, 6, 2),
+            ConField::Category => Place::new(1, 0, 7),
+            ConField::Generation => Place::new(1, 7, 1),
+            ConField::Source => Place::new(2, 0, 4),
+            ConField::Number => Place::new(2, 4, 4),
+            ConField::Rate => Place::new(3, 0, 4),
+            ConField::Accuracy => Place::new(3, 4, 2),
+            ConField::B3high => Place::new(3, 6, 2),
+            ConField::Greatest => Place::new(4, 0, 1),
+            ConField::Word => Place::new(4, 1, 3),
+            ConField::Original => Place::new(4, 4, 4),
         }
     }
 
@@ -145,7 +226,7 @@ impl Field {
         ensures inside { result.first + result.count ≤ 8 }
     {
         match self {
-            Field::Use => place(0, 0, 1),
+            Field::Use => Place::new(0, 0, 1),
             Field::Professional(field) => field.place(),
             Field::Consumer(field) => field.place(),
         }

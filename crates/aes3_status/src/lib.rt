@@ -2,22 +2,18 @@
 //! the check byte (AES3-2, IEC 60958-3).
 #![tactic(auto)]
 
-/// The bits that subframes carry after their audio.
-mod carried;
 /// What the channel status, the validity bits and the user bits of a stream are changed to.
 mod change;
 /// The check byte (CRCC) of professional channel status.
 mod check;
 /// The fields for consumer use.
 mod consumer;
-/// The fields that a code can be written to.
+/// The fields that a code can be written to, and their places.
 mod field;
 /// The places of the first status of each kind.
 mod kind_places;
 /// Laws of the check byte and of setting fields.
 pub mod laws;
-/// The place of a field within a byte, and writing a code there.
-mod place;
 /// The fields for professional use.
 mod professional;
 /// Codes for fields, and setting them in a status.
@@ -29,9 +25,8 @@ mod taken;
 /// Whether a status takes all settings.
 mod taking_all;
 /// The fields for professional use that have four bytes.
-mod wide;
+mod wide_field;
 
-pub use carried::CarriedBits;
 pub use change::Change;
 pub use check::{Check, check_byte, check_state, with_check};
 pub use consumer::Con;
@@ -42,4 +37,4 @@ pub use setting::{SETTINGS, Setting, Settings, set_fields};
 pub use status::Status;
 pub use taken::{Kinds, TELLING_BITS, Taken};
 pub use taking_all::takes_all;
-pub use wide::{WideField, WideSettings};
+pub use wide_field::{WideField, WideSettings};

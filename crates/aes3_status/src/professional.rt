@@ -1,6 +1,5 @@
 //! Professional channel status.
-use crate::field::ProField;
-use crate::place::{bytes_at, u32_at};
+use crate::field::{ProField, bytes_at, u32_at};
 use std::marker::Model;
 
 /// A channel status for professional use (AES3-2): byte 0 bit 0 is 1.

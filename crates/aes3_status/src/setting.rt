@@ -3,9 +3,8 @@
 ghost use Rattle.std.specs.Prelude.{◌≡◌};
 ghost use Rattle.aes3_status.specs.Settings.{code_for, set_all, set_by, set_in_turn};
 
-use crate::field::{ConField, Field};
-use crate::place::put_code;
-use crate::wide::{WideSettings, set_wide};
+use crate::field::{ConField, Field, put_code};
+use crate::wide_field::{WideSettings, set_wide};
 
 /// How many settings a channel has at most.
 pub const SETTINGS: usize = 64;

@@ -2,7 +2,7 @@
 ghost use Rattle.std.specs.Prelude.{◌≡◌};
 
 use crate::consumer::Con;
-use crate::place::is_for_professional_use;
+use crate::field::is_for_professional_use;
 use crate::professional::Pro;
 
 /// The channel status of one channel in one block, 24 bytes (AES3-2, IEC 60958-3).

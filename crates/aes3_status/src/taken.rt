@@ -5,7 +5,7 @@ ghost use Rattle.std.specs.List.{All};
 ghost use Rattle.aes3_bits.specs.Bits.{number};
 ghost use Rattle.aes3_status.specs.Taken.{AreKindsOf, example_of, has_code, taken_by, telling_bits};
 
-use crate::place::is_for_professional_use;
+use crate::field::is_for_professional_use;
 use crate::setting::{SETTINGS, Setting, Settings, code_for, set_field};
 
 /// How many bits of a status determine which settings it takes.

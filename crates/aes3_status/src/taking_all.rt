@@ -5,7 +5,7 @@ ghost use Rattle.aes3_status.specs.TakingAll.{asks, asks_wide, takes_all, text_t
 
 use crate::setting::{Setting, Settings};
 use crate::taken::Taken;
-use crate::wide::WideSettings;
+use crate::wide_field::WideSettings;
 
 /// How many texts settings come from: each has two settings, one for either use.
 const TEXTS: usize = 32;

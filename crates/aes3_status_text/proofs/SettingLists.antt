@@ -8,7 +8,7 @@ use Rattle.std.proofs.lemmas.List.{take_all}
 use Rattle.std.proofs.lemmas.List.Sums.{fold_more}
 use Rattle.aes3_status.specs.declared.setting.Setting.{Setting}
 use Rattle.aes3_status.specs.declared.setting.Settings.{Settings}
-use Rattle.aes3_status.specs.declared.wide.WideSettings.{WideSettings}
+use Rattle.aes3_status.specs.declared.wide_field.WideSettings.{WideSettings}
 use Rattle.aes3_status_text.specs.Settings.{AreSettingsOf, IsSetBy, IsUnknown, nothing, consumer_fields}
 use Rattle.aes3_status_text.specs.Settings.{professional_fields}
 use Rattle.aes3_status_text.specs.WideTexts.{no_wide, wide_in, wide_of_texts, with_wide}

@@ -7,7 +7,7 @@ use Rattle.std.proofs.lemmas.Bool.{cases_lt, false≢true}
 use Rattle.std.proofs.lemmas.List.{get_or-take, get_or_default, length-take-le}
 use Rattle.aes3_status.specs.declared.field.Field.{Field}
 use Rattle.aes3_status.specs.declared.setting.Setting.{Setting}
-use Rattle.aes3_status.specs.declared.wide.WideField.{WideField}
+use Rattle.aes3_status.specs.declared.wide_field.WideField.{WideField}
 use Rattle.aes3_status.specs.Bits.{number_at}
 use Rattle.aes3_status.specs.Settings.{is_for, place_of, set_by, under}
 use Rattle.aes3_status.proofs.SettingLemmas.{meaning-stays, setting-back, under-few}

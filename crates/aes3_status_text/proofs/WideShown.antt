@@ -13,10 +13,11 @@ use Rattle.std.specs.Prelude.{codes, decimal, fold, option_and_then, option_map,
 use Rattle.std.specs.Option.{unwrap_or}
 use Rattle.std.specs.Str.{bytes_eq}
 use Rattle.std.specs.Str.Parse.{without_leading_plus}
-use Rattle.aes3_status.specs.declared.wide.WideField.{WideField}
-use Rattle.aes3_status.specs.declared.wide.WideField.TheVariants.{Origin, Destination, Local, Time}
-use Rattle.aes3_status.specs.declared.wide.WideSettings.{WideSettings}
-use Rattle.aes3_status.specs.Bits.{byte_bits, bytes_field, field, number, status_bits}
+use Rattle.aes3_status.specs.declared.wide_field.WideField.{WideField}
+use Rattle.aes3_status.specs.declared.wide_field.WideField.TheVariants.{Origin, Destination, Local, Time}
+use Rattle.aes3_status.specs.declared.wide_field.WideSettings.{WideSettings}
+use Rattle.aes3_status.specs.Bits.{byte_bits, bytes_field, field, status_bits}
+use Rattle.aes3_bits.specs.Bits.{number}
 use Rattle.aes3_status.specs.Wide.{AreFours, set_wide, wide_bytes, wide_given}
 use Rattle.aes3_status.proofs.BitFields.{drop-bytes, four-bytes, take-four}
 use Rattle.aes3_status.proofs.WideFields.{others-stay, wide-back}

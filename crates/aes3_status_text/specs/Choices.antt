@@ -5,8 +5,8 @@ use Rattle.std.specs.List.{before_first, flat_map, list_any, range_with_len}
 use Rattle.std.specs.Option.{option_map_or}
 use Rattle.std.specs.Str.{bytes_eq}
 use Rattle.aes3_status.specs.declared.field.Field.{Field}
-use Rattle.aes3_status.specs.declared.wide.WideField.{WideField}
-use Rattle.aes3_status.specs.declared.wide.WideField.TheVariants.{Origin, Destination, Local, Time}
+use Rattle.aes3_status.specs.declared.wide_field.WideField.{WideField}
+use Rattle.aes3_status.specs.declared.wide_field.WideField.TheVariants.{Origin, Destination, Local, Time}
 use Rattle.aes3_status.specs.Settings.{place_of}
 use Rattle.aes3_status_text.specs.Fields.{field_text}
 use Rattle.aes3_status_text.specs.Names.{name_of, name_text}

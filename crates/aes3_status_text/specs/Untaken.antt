@@ -35,10 +35,10 @@ is_taken settings taken at =
 -- what a status lacks that takes nothing of a text, by whether this has a code for professional and for consumer use: a
 -- text with neither sets a field of four bytes, which are for professional use
 abbrev pub remedy : Bool → Bool → List ℕ
-remedy true true = codes ": before it stands what gives it a code, as greatest=24 or aux=audio for word=24" ++ 10 ∷ []
-remedy true false = codes ": it is for professional use, which use=professional before it sets" ++ 10 ∷ []
-remedy false true = codes ": it is for consumer use, which use=consumer before it sets" ++ 10 ∷ []
-remedy false false = codes ": it is for professional use, which use=professional before it sets" ++ 10 ∷ []
+remedy true true = codes ": it needs another setting first, such as greatest=24 or aux=audio for word=24" ++ 10 ∷ []
+remedy true false = codes ": only professional status has it; set use=professional first" ++ 10 ∷ []
+remedy false true = codes ": only consumer status has it; set use=consumer first" ++ 10 ∷ []
+remedy false false = codes ": only professional status has it; set use=professional first" ++ 10 ∷ []
 
 -- what stands behind text `at` in its line, with the line feed; none where a block took what it sets
 abbrev pub untaken_remedy : Settings → Taken → ℕ → Option (List ℕ)

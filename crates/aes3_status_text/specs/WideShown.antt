@@ -1,9 +1,9 @@
 -- What `show` prints of a field of four bytes that a text sets.
 use Rattle.std.specs.Prelude.{ℕ, Bool, false, List, ◌++◌, Some, true, ◌≡◌, ◌≢◌, ◌∷◌, codes, decimal, length, map}
 use Rattle.std.specs.List.{Contains, after_first, list_all}
-use Rattle.aes3_status.specs.declared.wide.WideField.{WideField}
-use Rattle.aes3_status.specs.declared.wide.WideField.TheVariants.{Origin, Destination, Local, Time}
-use Rattle.aes3_status.specs.declared.wide.WideSettings.{WideSettings}
+use Rattle.aes3_status.specs.declared.wide_field.WideField.{WideField}
+use Rattle.aes3_status.specs.declared.wide_field.WideField.TheVariants.{Origin, Destination, Local, Time}
+use Rattle.aes3_status.specs.declared.wide_field.WideSettings.{WideSettings}
 use Rattle.aes3_status.specs.Professional.{destination, local, origin, time}
 use Rattle.aes3_status.specs.Statuses.{is_professional}
 use Rattle.aes3_status.specs.Wide.{AreFours, set_wide, wide_given}

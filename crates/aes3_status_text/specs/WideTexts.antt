@@ -6,9 +6,9 @@ use Rattle.std.specs.Int.{to_le_bytes, w32}
 use Rattle.std.specs.List.{after_first, before_first, list_all, position_or_len}
 use Rattle.std.specs.Str.{bytes_eq}
 use Rattle.std.specs.Str.Parse.{digits_value, without_leading_plus}
-use Rattle.aes3_status.specs.declared.wide.WideField.{WideField}
-use Rattle.aes3_status.specs.declared.wide.WideField.TheVariants.{Origin, Destination, Local, Time}
-use Rattle.aes3_status.specs.declared.wide.WideSettings.{WideSettings}
+use Rattle.aes3_status.specs.declared.wide_field.WideField.{WideField}
+use Rattle.aes3_status.specs.declared.wide_field.WideField.TheVariants.{Origin, Destination, Local, Time}
+use Rattle.aes3_status.specs.declared.wide_field.WideSettings.{WideSettings}
 
 -- whether the byte is a character from `!` to `~`
 abbrev pub is_character : ℕ → Bool

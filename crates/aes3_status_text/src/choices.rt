@@ -10,10 +10,10 @@ ghost use Rattle.aes3_status_text.specs.Choices.{use_choices, wide_choice};
 ghost use Rattle.aes3_status_text.specs.Names.{name_of, name_text};
 ghost use Rattle.aes3_status_text.specs.Settings.{code_text};
 
+use crate::code_names::{name_of, name_of_code};
 use crate::line::Line;
-use crate::names::{name_of, name_of_code};
 use crate::settings::{CONSUMER, PROFESSIONAL, put_code};
-use crate::wide::wide_named;
+use crate::wide_text::wide_named;
 use aes3_status::{Field, WideField};
 use std::alloc::AllocError;
 

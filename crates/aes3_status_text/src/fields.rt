@@ -1,4 +1,4 @@
-//! The fields of a status line, and the words that their codes are printed as.
+//! A channel status as it is printed: its use and its fields, and the words of their codes.
 
 ghost use Rattle.std.specs.Prelude.{◌≡◌, ◌≤◌, ◌<◌, ◌+◌, ◌*◌, ◌++◌, codes, decimal, length, map};
 ghost use Rattle.std.specs.Prelude.{IfSome, IsTrue};
@@ -7,8 +7,12 @@ ghost use Rattle.std.specs.Int.{bit_at};
 ghost use Rattle.hex.specs.Hex.{encode_lower};
 ghost use Rattle.aes3_status_text.specs.Words.{are_within, rows_of, word_for, word_of};
 ghost use Rattle.aes3_status_text.specs.Fields.{field_text, four_bits, shown, specified};
+ghost use Rattle.aes3_status_text.specs.StatusTexts.{status_text};
 
+use crate::consumer_fields::put_consumer;
 use crate::line::{LINE_LEN, Line};
+use crate::professional_fields::put_professional;
+use aes3_status::{Status, check_state};
 
 /// How many bytes the name of a field has at most.
 pub const NAME_LEN: usize = 11;
@@ -21,6 +25,9 @@ const REST_DIGITS: usize = 38;
 
 /// How many bytes a word has at most.
 pub const WORD_LEN: usize = 20;
+
+/// How many bytes a printed channel status has at most.
+pub const STATUS_LEN: usize = 800;
 
 /// The use (AES3-2, IEC 60958-1, byte 0 bit 0).
 pub(crate) const USE: &[(u8, &str)] = &[(0, "consumer"), (1, "professional")];
@@ -197,4 +204,17 @@ fn digit(bits: u8, place: u32) -> u8
     ensures { result ≡ 48 + bit_at bits place }
 {
     b'0' + (bits >> place & 1)
+}
+
+/// Appends the use and the fields of a channel status (AES3-2, IEC 60958-3), each with a space
+/// before it.
+pub fn put_status(line: &mut Line, status: &[u8; 24])
+    requires { length line.old + STATUS_LEN ≤ LINE_LEN }
+    ensures text { line.new ≡ line.old ++ status_text status.now }
+    ensures len { length line.new ≤ length line.old + STATUS_LEN }
+{
+    match Status::read(status) {
+        Status::Professional(fields) => put_professional(line, &fields, check_state(status)),
+        Status::Consumer(fields) => put_consumer(line, &fields),
+    }
 }

@@ -5,11 +5,13 @@
 
 /// What the fields of channel status can be set to, as text.
 mod choices;
+/// The words of codes that are numbers in a line.
+mod code_names;
 /// The fields of a status for consumer use.
-mod consumer;
+mod consumer_fields;
 /// What follows a line of channel status.
 mod detail;
-/// The fields of a status: their names, and the words that their codes are printed as.
+/// A channel status as it is printed: its use and its fields, and the words of their codes.
 mod fields;
 /// Laws of what is printed of channel status.
 pub mod laws;
@@ -19,32 +21,27 @@ mod line;
 mod lines;
 /// The settings of several texts.
 mod listed;
-/// The words of codes that are numbers in a line.
-mod names;
 /// The fields of a status for professional use.
-mod professional;
+mod professional_fields;
 /// Fields by their names, and codes by the words that `show` prints.
 mod settings;
-/// A whole channel status.
-mod status;
 /// How the lines of events are written.
 mod style;
 /// Settings as typed.
-mod typed;
+mod typed_settings;
 /// Settings that no block took.
 mod untaken;
 /// The fields that are four whole bytes, by their names.
-mod wide;
+mod wide_text;
 
 pub use choices::add_choices;
+pub use code_names::{name_of, name_of_code};
 pub use detail::Detail;
-pub use fields::{NAME_LEN, WORD_LEN, word_of};
+pub use fields::{NAME_LEN, STATUS_LEN, WORD_LEN, put_status, word_of};
 pub use line::{DIGITS, LINE_LEN, Line};
 pub use lines::Lines;
 pub use listed::{SettingsFault, TEXTS, settings_of_texts};
-pub use names::{name_of, name_of_code};
 pub use settings::{consumer_setting, professional_setting};
-pub use status::{STATUS_LEN, put_status};
 pub use style::{Notation, Style};
-pub use typed::TypedSettings;
+pub use typed_settings::TypedSettings;
 pub use untaken::untaken_remedy;

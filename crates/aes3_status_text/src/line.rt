@@ -29,8 +29,8 @@ impl Model for Line {
 }
 
 impl Line {
-    ghost use Rattle.std.specs.Prelude.{◌≡◌, ◌↔◌, ◌<◌, ◌≤◌, ◌+◌, [], ◌++◌, ◌^◌, IsTrue, codes, decimal};
-    ghost use Rattle.std.specs.Prelude.{length};
+    ghost use Rattle.std.specs.Prelude.{◌≡◌, ◌↔◌, ◌<◌, ◌≤◌, ◌+◌, [], ◌∷◌, ◌++◌, ◌^◌, IsTrue, codes};
+    ghost use Rattle.std.specs.Prelude.{decimal, length};
     ghost use Rattle.aes3_cell.specs.Writes.{Wrote};
     ghost use Rattle.aes3_status_text.specs.Refusals.{place_text, refusal_text};
 
@@ -124,10 +124,23 @@ impl Line {
     ///
     /// # Errors
     /// The sink's fault; then it has taken a front of the line.
-    pub fn hand_on<T: Sink>(&self, sink: &mut T) -> Result<(), Fault>
+    pub fn write_to<T: Sink>(&self, sink: &mut T) -> Result<(), Fault>
         requires room { T.failed sink.old + 1 < 2 ^ 64 }
         ensures { Wrote T.taken T.failed sink.old sink.new self.now result }
     {
         write_all(sink, self.bytes.as_slice())
+    }
+
+    /// Ends the line with a line feed, and writes it to the sink as one buffer.
+    ///
+    /// # Errors
+    /// The sink's fault; then it has taken a front of the line.
+    pub fn end<T: Sink>(&mut self, sink: &mut T) -> Result<(), Fault>
+        requires space { length self.old + 1 ≤ LINE_LEN }
+        requires room { T.failed sink.old + 1 < 2 ^ 64 }
+        ensures { Wrote T.taken T.failed sink.old sink.new (self.old ++ 10 ∷ []) result }
+    {
+        self.text("\n");
+        self.write_to(sink)
     }
 }

@@ -6,7 +6,7 @@ ghost use Rattle.aes3_status_text.specs.Settings.{consumer_fields, professional_
 ghost use Rattle.aes3_status_text.specs.WideTexts.{wide_in};
 
 use crate::settings::{consumer_setting, professional_setting};
-use crate::wide::{take_wide, wide_of};
+use crate::wide_text::{take_wide, wide_of};
 use aes3_status::{SETTINGS, Setting, Settings, WideField, WideSettings};
 
 /// How many texts a channel has at most: each may set a field for each of the two uses.

@@ -7,11 +7,11 @@ ghost use Rattle.aes3_status_text.specs.Settings.{IsShownThen};
 ghost use Rattle.aes3_status_text.specs.Settings.{code_text};
 ghost use Rattle.aes3_status_text.specs.Settings.{consumer_fields, professional_fields};
 
-use crate::consumer::put_consumer_code;
+use crate::code_names::put_name;
+use crate::consumer_fields::put_consumer_code;
 use crate::fields::{FIELD_LEN, USE};
 use crate::line::{LINE_LEN, Line};
-use crate::names::put_name;
-use crate::professional::put_professional_code;
+use crate::professional_fields::put_professional_code;
 use aes3_status::{ConField, Field, ProField, Setting};
 
 /// The fields of professional status (AES3-2) that can be set: its use, the others as `show` prints

@@ -35,9 +35,9 @@ fn remedy(professional: bool, consumer: bool) -> &'static str
 {
     match (professional, consumer) {
         (true, true) =>
-            ": before it stands what gives it a code, as greatest=24 or aux=audio for word=24\n",
-        (_, false) => ": it is for professional use, which use=professional before it sets\n",
-        (false, true) => ": it is for consumer use, which use=consumer before it sets\n",
+            ": it needs another setting first, such as greatest=24 or aux=audio for word=24\n",
+        (_, false) => ": only professional status has it; set use=professional first\n",
+        (false, true) => ": only consumer status has it; set use=consumer first\n",
     }
 }
 

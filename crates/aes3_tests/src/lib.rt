@@ -3,20 +3,20 @@
 #![tactic(auto)]
 
 #[cfg(test)]
-mod block;
-#[cfg(test)]
 mod cell;
 #[cfg(test)]
 mod damage;
 #[cfg(test)]
 mod engine;
 #[cfg(test)]
+mod known_statuses;
+#[cfg(test)]
 mod limits;
 #[cfg(test)]
-mod lines;
-#[cfg(test)]
-mod lock;
+mod printed_lines;
 #[cfg(test)]
 mod slot;
 #[cfg(test)]
-mod status;
+mod worked_blocks;
+#[cfg(test)]
+mod worked_locks;

@@ -8,7 +8,7 @@ ghost use Rattle.aes3_input.specs.Driving.{CellRun};
 ghost use Rattle.aes3_input.specs.Inputs.{cells_of};
 ghost use Rattle.aes3_input.specs.Running.{movement_of};
 ghost use Rattle.aes3_frame.specs.Statuses.{status_of};
-ghost use Rattle.aes3_frame.specs.declared.status.Channel.TheVariants as channel;
+ghost use Rattle.aes3_frame.specs.declared.channel.Channel.TheVariants as channel;
 ghost use Rattle.aes3_text_lines.specs.StatusLines.{detail_text, status_line_with};
 ghost use Rattle.aes3_lock.specs.Following.{report_in};
 ghost use Rattle.aes3_lock.specs.Reports.{wholes, blocks, decided, reports};

@@ -10,8 +10,8 @@ ghost use Rattle.aes3_text_lines.specs.Events.{seconds, time_field, word_field};
 ghost use Rattle.aes3_text_lines.specs.MarkLines.{level_digit};
 ghost use Rattle.aes3_text_lines.specs.StatusLines.{channel_digit};
 
-use crate::ending::{digit_of, end_line};
-use crate::status::channel_digit as channel_number;
+use crate::status_line::channel_digit as channel_number;
+use crate::tail::digit_of;
 use aes3_cell::{Fault, Level, Sink};
 use aes3_frame::Channel;
 use aes3_status_text::{DIGITS, LINE_LEN, Line, Notation, Style};
@@ -377,5 +377,5 @@ pub fn line_of_event<T: Sink>(style: &Style, event: &Event, sink: &mut T) -> Res
     put_place(&mut line, style, place_of(event));
     put_fields(&mut line, style.notation, event);
     put_closing(&mut line, style.notation);
-    end_line(&mut line, sink)
+    line.end(sink)
 }

@@ -2,18 +2,16 @@
 //! IEC 60958-3).
 #![tactic(auto)]
 
-/// The end of a line.
-mod ending;
 /// Events of a watched line, and their lines.
 mod event;
 /// Lines of preambles that are written together.
-mod gathered;
+mod gathered_lines;
 /// The line of a preamble.
-mod mark;
-/// The words of codes that are numbers in a line of channel status.
-mod names;
+mod mark_line;
 /// The line of a channel status.
-mod status;
+mod status_line;
+/// The words of codes that are numbers in a line of channel status.
+mod status_names;
 /// Sums of a watched line, and their lines.
 mod sum;
 /// A short line, written from its end.
@@ -24,8 +22,8 @@ pub use aes3_status_text::{
     professional_setting, settings_of_texts,
 };
 pub use event::{Event, Marking, line_of_event};
-pub use gathered::{GATHERED_LEN, GatheredLines};
-pub use mark::{MARK_LEN, line_of_mark};
-pub use status::{line_of_status, line_of_status_with, text_of_detail};
+pub use gathered_lines::{GATHERED_LEN, GatheredLines};
+pub use mark_line::{MARK_LEN, line_of_mark};
+pub use status_line::{line_of_status, line_of_status_with, text_of_detail};
 pub use sum::{Figures, Sum, line_of_sum};
 pub use tail::{TAIL_LEN, Tail};

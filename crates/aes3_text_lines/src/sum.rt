@@ -5,7 +5,6 @@ ghost use Rattle.aes3_cell.specs.Writes.{Wrote};
 ghost use Rattle.aes3_text_lines.specs.SumLines.{period_fields, report_fields, sample_fields};
 ghost use Rattle.aes3_text_lines.specs.SumLines.{sum_line};
 
-use crate::ending::end_line;
 use crate::event::{FIELD_LEN, put_closing, put_number, put_opening, put_time};
 use aes3_cell::{Fault, Sink};
 use aes3_status_text::{LINE_LEN, Line, Notation, Style};
@@ -99,5 +98,5 @@ pub fn line_of_sum<T: Sink>(style: &Style, sum: &Sum, sink: &mut T) -> Result<()
     put_reports(&mut line, style.notation, &sum.figures);
     put_samples(&mut line, style.notation, &sum.figures);
     put_closing(&mut line, style.notation);
-    end_line(&mut line, sink)
+    line.end(sink)
 }

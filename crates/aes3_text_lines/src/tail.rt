@@ -1,12 +1,26 @@
 //! A short line, written from its end.
 
-use crate::ending::digit_of;
+ghost use Rattle.std.specs.Prelude.{◌≡◌, ◌<◌, ◌≤◌, ◌+◌, [], ◌++◌, ◌^◌, decimal, length};
+ghost use Rattle.aes3_cell.specs.Writes.{Wrote};
+ghost use Rattle.aes3_text_lines.specs.MarkLines.{level_digit};
+
 use aes3_cell::{Fault, Level, Sink, write_all};
 use itoa::write_digits;
 use std::marker::Model;
 
 /// How many bytes a short line has at most.
 pub const TAIL_LEN: usize = 96;
+
+/// `0` for the lower level, `1` for the higher.
+#[inline]
+pub(crate) fn digit_of(level: Level) -> &'static [u8; 1]
+    ensures { result.now ≡ level_digit level }
+{
+    match level {
+        Level::Low => b"0",
+        Level::High => b"1",
+    }
+}
 
 /// The end of a short line, as far as it is written. It is written backwards, so that each number's
 /// digits are put where they stay, the last first.
@@ -28,10 +42,6 @@ impl Model for Tail {
 }
 
 impl Tail {
-    ghost use Rattle.std.specs.Prelude.{◌≡◌, ◌<◌, ◌≤◌, ◌+◌, [], ◌++◌, ◌^◌, decimal, length};
-    ghost use Rattle.aes3_cell.specs.Writes.{Wrote};
-    ghost use Rattle.aes3_text_lines.specs.MarkLines.{level_digit};
-
     /// The end of an empty line.
     #[inline]
     pub fn new() -> Self
@@ -102,7 +112,7 @@ impl Tail {
     /// # Errors
     /// The sink's fault; then it has taken a front of the line.
     #[inline]
-    pub fn hand_on<T: Sink>(&self, sink: &mut T) -> Result<(), Fault>
+    pub fn write_to<T: Sink>(&self, sink: &mut T) -> Result<(), Fault>
         requires room { T.failed sink.old + 1 < 2 ^ 64 }
         ensures { Wrote T.taken T.failed sink.old sink.new self.now result }
     {

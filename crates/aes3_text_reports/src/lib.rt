@@ -2,9 +2,9 @@
 #![tactic(auto)]
 
 /// The line of a report.
-mod report;
+mod report_line;
 /// The preambles in cells, line by line.
 mod scanning;
 
-pub use report::{line_of_report, tell_ending};
+pub use report_line::{line_of_report, tell_ending};
 pub use scanning::scan;

@@ -82,7 +82,7 @@ impl MarkLines {
         if sink.takes_much() && !self.lines.is_full() {
             return Ok(());
         }
-        self.lines.hand_on(sink)
+        self.lines.write_to(sink)
     }
 
     /// Counts a preamble that the scan found, and writes its line at once.
@@ -100,7 +100,7 @@ impl MarkLines {
             (mark_line found.0 found.1 found.2) result }
     {
         self.gather(found);
-        self.lines.hand_on(sink)
+        self.lines.write_to(sink)
     }
 
     /// Counts the preambles of a word, and writes their lines.
@@ -188,7 +188,7 @@ impl MarkLines {
         for word in words.iter() {
             self.take_word(sink, *word)?;
         }
-        self.lines.hand_on(sink)
+        self.lines.write_to(sink)
     }
 }
 

@@ -8,7 +8,7 @@ use Rattle.std.proofs.lemmas.List.{append_cancel_left, drop_at}
 use Rattle.aes3_level.specs.declared.level.Level.{Level}
 use Rattle.aes3_cell.specs.declared.form.Form.{Form}
 use Rattle.aes3_cell.specs.declared.counts.Counts.{Counts}
-use Rattle.aes3_frame.specs.Blocks.{block_len, block_slots}
+use Rattle.aes3_frame.specs.Blocks.{block_len, block_subframes}
 use Rattle.aes3_lock.specs.declared.report.Report.{Report}
 use Rattle.aes3_lock.specs.declared.report.Report.TheVariants.{Whole, Marked, Fault, Unfinished}
 use Rattle.aes3_lock.specs.Reports.{reports, decided, wholes}
@@ -39,7 +39,7 @@ use Rattle.aes3_lock_gaps.proofs.BegunAccounts.{accounted-taken, begun-more, beg
 use Rattle.aes3_lock_gaps.proofs.BegunAccounts.{closed_with, one-final, passed, taken, with_report}
 
 pub starts : {p : ℕ} → p ≡ 0 → Accounts p 0 []
-unfolding accounted begun_account behind_full full_count decided block_len block_slots
+unfolding accounted begun_account behind_full full_count decided block_len block_subframes
 starts e = record { place_is = e; lost_is = refl }
 
 pub starts-found : {found : Bool} → found ≡ ltb 0 (length (wholes [])) → found ≡ ltb 0 (length (wholes (decided [])))
@@ -65,7 +65,7 @@ lines-more lines a b m e =
     (sym (ap (drop (length a)) e ∙ drop_at a m (length a) refl))
 
 begins : (lines : Lines) → account_lines lines (begun_account []) ≡ []
-unfolding accounted begun_account behind_full full_count decided block_len block_slots
+unfolding accounted begun_account behind_full full_count decided block_len block_subframes
 begins lines = refl
 
 pub before-account : (lines : Lines) (c : List Level)

@@ -2,7 +2,7 @@
 use Rattle.std.proofs.Common.{◌≡◌, ℕ, ◌-◌, ◌^◌, ◌<◌, ◌≤◌, List, [], ◌∷◌, ◌++◌, length, sym, ap, ap₂, ◌∙◌, subst, arith}
 use Rattle.aes3_level.specs.declared.level.Level.{Level}
 use Rattle.aes3_cell.specs.declared.form.Form.{Form}
-use Rattle.aes3_frame.specs.Blocks.{block_len, block_slots}
+use Rattle.aes3_frame.specs.Blocks.{block_len, block_subframes}
 use Rattle.aes3_lock.specs.declared.report.Report.{Report}
 use Rattle.aes3_lock.specs.Reports.{reports, decided}
 use Rattle.aes3_input.specs.Taking.{behind}
@@ -99,7 +99,7 @@ same-sums every every' v lasts lasts' c a e h =
 
 -- no cell
 start-sums : (every : ℕ) → summed every [] ≡ unsummed
-unfolding summed decided go_to behind_full full_count more block_len block_slots
+unfolding summed decided go_to behind_full full_count more block_len block_subframes
 start-sums every = ap (λ n. on_to (periods every n unsummed) 0) (none-before every)
 
 pub begins-sums : (every : ℕ) (w : Watched) (figures : Figures) (lasts : List ℕ) → 0 < every

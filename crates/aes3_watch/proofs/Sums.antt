@@ -7,7 +7,7 @@ use Rattle.std.proofs.lemmas.Grind.{flat_map-append}
 use Rattle.aes3_level.specs.declared.level.Level.{Level}
 use Rattle.aes3_cell.specs.Ends.{Grew, GrewFront}
 use Rattle.aes3_cell.proofs.Growing.{front-is, front-join, front-more}
-use Rattle.aes3_frame.specs.Blocks.{block_len, block_slots}
+use Rattle.aes3_frame.specs.Blocks.{block_len, block_subframes}
 use Rattle.aes3_lock.specs.declared.report.Report.{Report}
 use Rattle.aes3_lock.specs.Reports.{reports, decided}
 use Rattle.aes3_lock.specs.Remains.{place_of}
@@ -569,7 +569,7 @@ unfolding ends_before
 none-before every = zero-div every
 
 begins : (every : ℕ) → begun_notices every [] ≡ []
-unfolding begun_notices decided told_to block_len block_slots
+unfolding begun_notices decided told_to block_len block_subframes
 begins every = ap (λ n. periods_told every n unsummed ++ events (loss_events (periods every n unsummed).watched 0))
     (none-before every)
 

@@ -9,7 +9,7 @@ use Rattle.std.proofs.lemmas.Grind.{flat_map-append}
 use Rattle.aes3_level.specs.declared.level.Level.{Level}
 use Rattle.aes3_cell.specs.declared.form.Form.{Form}
 use Rattle.aes3_cell.specs.declared.counts.Counts.{Counts}
-use Rattle.aes3_frame.specs.Blocks.{block_len, block_slots}
+use Rattle.aes3_frame.specs.Blocks.{block_len, block_subframes}
 use Rattle.aes3_lock.specs.declared.report.Report.{Report}
 use Rattle.aes3_lock.specs.declared.report.Report.TheVariants.{Whole, Marked, Fault, Unfinished}
 use Rattle.aes3_lock.specs.Reports.{reports, decided}
@@ -312,7 +312,7 @@ unfolding watching
 ends-is style c = refl
 
 begins : begun_events [] ≡ []
-unfolding begun_events decided block_len block_slots
+unfolding begun_events decided block_len block_subframes
 begins = refl
 
 pub before-watch : (style : Style) (c : List Level) → before_end (watching style) c ≡ begun_watch style c
@@ -421,7 +421,7 @@ close_with-ended {w} {words} w' w'' n c x h q e s g k = record {
 }
 
 pub begins-watched : {w : Watched} {words : List ℕ} → w ≡ unwatched → Watches w words []
-unfolding watched decided block_len block_slots
+unfolding watched decided block_len block_subframes
 begins-watched {words = words} e = record { state_is = e; kept = subst (λ v. IsKept v.latest words) (sym e) tt }
 
 -- the same of what is kept behind calls that leave some of it as it was

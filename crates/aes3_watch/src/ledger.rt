@@ -12,7 +12,7 @@ ghost use Rattle.aes3_lock_gaps.specs.Told.{due_gaps, gap_entry};
 ghost use Rattle.aes3_watch.specs.Accounting.{IsClosedLedgerOf, IsLedgerOf, accounting};
 ghost use Rattle.aes3_watch.specs.GapLines.{account_lines};
 
-use crate::gap::line_of_gap;
+use crate::gap_line::line_of_gap;
 use aes3_cell::{Fault, Sink};
 use aes3_lock::{Ending, Lock};
 use aes3_lock_gaps::{Account, Due, Gap};

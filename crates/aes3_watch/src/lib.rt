@@ -5,7 +5,7 @@
 /// The account of all cells, line by line.
 mod accounting;
 /// The line of a gap.
-mod gap;
+mod gap_line;
 /// What is accounted for among all cells.
 mod ledger;
 /// What the whole blocks of a line say of their samples, and where that changes.
@@ -18,6 +18,6 @@ mod summing;
 mod watching;
 
 pub use accounting::account;
-pub use gap::line_of_gap;
+pub use gap_line::line_of_gap;
 pub use summing::watch_sums;
 pub use watching::watch;

@@ -10,14 +10,14 @@ ghost use Rattle.aes3_watch.specs.Signals.{marking_of};
 ghost use Rattle.aes3_watch.specs.Signals.{same_marking, signals_of, status_events};
 ghost use Rattle.aes3_watch.specs.Signals.{validity_events};
 
-use aes3_block::{Block, Channel, SLOTS};
-use aes3_frame::ones_in;
+use aes3_block::{Block, Channel, SUBFRAMES};
+use aes3_frame::{FRAMES, ones_in};
 use aes3_text_lines::{Event, Marking};
 use arrayvec::ArrayVec;
 use std::simd::prelude::*;
 
 /// How many validity bits a channel has in a block.
-const FRAMES: u64 = 192;
+const VALIDITY_BITS: u64 = FRAMES as u64;
 
 /// How many events are gathered at most.
 pub(crate) const EVENTS: usize = 8;
@@ -69,24 +69,24 @@ impl Signals {
 
 /// The last eight cells of each of sixteen words, from word `at` on.
 #[inline(always)]
-fn last_cells(words: &[u64; SLOTS], at: usize) -> u8x16
-    requires { at + LANES ≤ SLOTS }
+fn last_cells(words: &[u64; SUBFRAMES], at: usize) -> u8x16
+    requires { at + LANES ≤ SUBFRAMES }
     ensures { result ≡ map last_cells (take LANES (drop at words.now)) }
 {
     (u64x16::from_slice(&words[at..]) >> u64x16::splat(56)).cast::<u8>()
 }
 
 /// The cells to compare with before the first block.
-pub(crate) fn no_cells() -> [u8; SLOTS] {
-    [0; SLOTS]
+pub(crate) fn no_cells() -> [u8; SUBFRAMES] {
+    [0; SUBFRAMES]
 }
 
 /// The last eight cells of each word.
-pub(crate) fn last_cells_of(words: &[u64; SLOTS]) -> [u8; SLOTS]
+pub(crate) fn last_cells_of(words: &[u64; SUBFRAMES]) -> [u8; SUBFRAMES]
     ensures { result ≡ map last_cells words.now }
 {
     let mut lasts = no_cells();
-    for i in 0..SLOTS {
+    for i in 0..SUBFRAMES {
         lasts[i] = (words[i] >> 56) as u8;
     }
     lasts
@@ -94,13 +94,13 @@ pub(crate) fn last_cells_of(words: &[u64; SLOTS]) -> [u8; SLOTS]
 
 /// Whether the cells of a block's subframes carry the same validity bits and channel status as
 /// those whose last eight cells are `lasts`. The two cells of a 1 differ.
-pub(crate) fn carry_the_same(words: &[u64; SLOTS], lasts: &[u8; SLOTS]) -> bool
+pub(crate) fn carry_the_same(words: &[u64; SUBFRAMES], lasts: &[u8; SUBFRAMES]) -> bool
     ensures { result ≡ true → (others : List ℕ) → map last_cells others ≡ lasts.now
         → signals_of (payloads_of (read_words words.now))
         ≡ signals_of (payloads_of (read_words others)) }
 {
     let mut unlike = u8x16::splat(0);
-    for i in 0..SLOTS / LANES {
+    for i in 0..SUBFRAMES / LANES {
         let at = LANES * i;
         let turned = last_cells(words, at) ^ u8x16::from_slice(&lasts[at..]);
         unlike |= turned ^ (turned >> u8x16::splat(1));
@@ -114,7 +114,7 @@ fn marking_of(invalid: u64) -> Marking
 {
     match invalid {
         0 => Marking::Clear,
-        FRAMES => Marking::Set,
+        VALIDITY_BITS => Marking::Set,
         _ => Marking::Mixed,
     }
 }

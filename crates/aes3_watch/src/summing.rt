@@ -23,13 +23,11 @@ ghost use Rattle.aes3_watch.specs.Sums.{is_whole, told_to, with_fault, with_lost
 use crate::signals::Signals;
 use crate::watching::{Watcher, put_events};
 use aes3_cell::{Counts, Fault, Form, RunError, Sink, Source};
+use aes3_frame::BLOCK_CELLS;
 use aes3_lock::{Ending, Lock, Why};
 use aes3_lock_runs::{Listener, run_cells};
 use aes3_text_lines::{Event, Figures, Style, Sum, line_of_sum};
 use arrayvec::ArrayVec;
-
-/// How many cells a block has (AES3-3).
-const BLOCK_CELLS: u64 = 24_576;
 
 /// Counts that are all zero.
 fn no_figures() -> Figures

@@ -19,15 +19,13 @@ ghost use Rattle.aes3_watch.specs.Watching.{slips, told_events, unwatched, up_to
 ghost use Rattle.aes3_watch.specs.Watching.{watch_lines, watching, whole_events};
 
 use crate::signals::{EVENTS, Signals, add_changes, carry_the_same, last_cells_of, no_cells};
-use aes3_block::SLOTS;
+use aes3_block::SUBFRAMES;
 use aes3_cell::{Counts, Fault, Form, Level, RunError, Sink, Source};
+use aes3_frame::BLOCK_CELLS;
 use aes3_lock::{Ending, Lock};
 use aes3_lock_runs::{Listener, run_cells};
 use aes3_text_lines::{Event, Style, line_of_event};
 use arrayvec::ArrayVec;
-
-/// How many cells a block has (AES3-3).
-const BLOCK_CELLS: u64 = 24_576;
 
 /// Writes the lines of events.
 ///
@@ -172,7 +170,7 @@ pub(crate) struct Watcher {
     pub(crate) state: Watched,
     /// The last eight cells of each subframe of a whole block with the same signals as the last
     /// one.
-    pub(crate) lasts: [u8; SLOTS],
+    pub(crate) lasts: [u8; SUBFRAMES],
 }
 
 impl Watcher {

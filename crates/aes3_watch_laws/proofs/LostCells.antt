@@ -9,7 +9,7 @@ use Rattle.aes3_slot.specs.declared.mark.Mark.{Mark}
 use Rattle.aes3_slot.specs.declared.mark.Mark.TheVariants.{X, Y, Z}
 use Rattle.aes3_slot.specs.Rules.{at, shape}
 use Rattle.aes3_slot.proofs.OwnPreambles.{stands-at}
-use Rattle.aes3_frame.specs.Blocks.{block_len, block_slots, stream, IsBlock}
+use Rattle.aes3_frame.specs.Blocks.{block_len, block_subframes, stream, IsBlock}
 use Rattle.aes3_frame.proofs.FileLaws.{each-block}
 use Rattle.aes3_lock.specs.declared.report.Report.{Report}
 use Rattle.aes3_lock.specs.declared.report.Report.TheVariants.{Whole, Marked, Fault, Unfinished}
@@ -120,15 +120,15 @@ module _ (s : Level) (bs : List (List (List Bool))) (h : All IsBlock bs) where
   closing-same : block_len + block_len < length (stream s bs)
       → without block_len (stream s bs) ≡ without (suc block_len) (stream s bs)
   closing-same m =
-      let n : length (stream s bs) ≡ 64 * (block_slots * length bs) = stream-length s bs (each-block bs h) in
+      let n : length (stream s bs) ≡ 64 * (block_subframes * length bs) = stream-length s bs (each-block bs h) in
       without-next block_len (stream s bs) (let w = block_len_24576 in omega arith) (same m)
     where
       place : block_len ≡ 64 * 384
       place = block_len_24576
 
-      stands : block_len + block_len < length (stream s bs) → 384 < block_slots * length bs
+      stands : block_len + block_len < length (stream s bs) → 384 < block_subframes * length bs
       stands m =
-          let n : length (stream s bs) ≡ 64 * (block_slots * length bs) = stream-length s bs (each-block bs h) in
+          let n : length (stream s bs) ≡ 64 * (block_subframes * length bs) = stream-length s bs (each-block bs h) in
           let w = block_len_24576 in
           omega arith
 

@@ -4,7 +4,7 @@ use Rattle.std.proofs.Common.{drop, refl, sym, ap, ap₂, ◌∙◌, arith, min}
 use Rattle.std.specs.Prelude.{codes, if◌then◌else◌, nat_lt, is_none, None, Result, Ok, Err}
 use Rattle.std.proofs.lemmas.Bool.{lt-ltb, le-ltb}
 use Rattle.std.proofs.lemmas.List.{get_or_append_left, length-append, length-drop, take-append-le}
-use Rattle.aes3_wave.specs.declared.error.HeaderError.{HeaderError}
+use Rattle.aes3_wave.specs.declared.header_error.HeaderError.{HeaderError}
 use Rattle.aes3_wave.specs.declared.chunk.Known.{Known}
 use Rattle.aes3_wave.specs.Octets.{begins, u32_at}
 use Rattle.aes3_wave.specs.Chunks.{chunk_len, content_len, head, head_len, is_data, is_format, is_sizes, known_with}

@@ -5,11 +5,11 @@ use Rattle.std.specs.Prelude.{Some, None, Ok, Err, if◌then◌else◌}
 use Rattle.std.proofs.lemmas.Bool.{cases_lt, lt-ltb, le-ltb}
 use Rattle.std.proofs.lemmas.List.{drop_all, length-append, length-drop, length-take-le}
 use Rattle.std.proofs.Math.Seq.{drop-append-add, take-add}
-use Rattle.aes3_wave.specs.declared.error.HeaderError.{HeaderError}
+use Rattle.aes3_wave.specs.declared.header_error.HeaderError.{HeaderError}
 use Rattle.aes3_wave.specs.declared.chunk.Known.{Known}
 use Rattle.aes3_wave.specs.declared.chunk.WaveHeader.{WaveHeader}
-use Rattle.aes3_wave.specs.declared.state.Stage.{Stage}
-use Rattle.aes3_wave.specs.declared.state.Stage.TheVariants.{First, Chunks, Whole}
+use Rattle.aes3_wave.specs.declared.reader.Stage.{Stage}
+use Rattle.aes3_wave.specs.declared.reader.Stage.TheVariants.{First, Chunks, Whole}
 use Rattle.aes3_wave.specs.Chunks.{chunk_len, head_len, is_data}
 use Rattle.aes3_wave.specs.Headers.{Judged, judged, judged_from}
 use Rattle.aes3_wave.specs.Following.{FollowsAt, Holds, IsNext, IsOpen, IsOpenChunk}

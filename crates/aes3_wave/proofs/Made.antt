@@ -5,7 +5,7 @@ use Rattle.std.specs.Prelude.{Some, None, Result, Ok, Err}
 use Rattle.std.specs.List.{concat}
 use Rattle.std.proofs.lemmas.Bool.{cases_lt}
 use Rattle.std.proofs.lemmas.List.{drop_all, length-append, length-drop, length-take-le, take-append-drop}
-use Rattle.aes3_wave.specs.declared.error.HeaderError.{HeaderError}
+use Rattle.aes3_wave.specs.declared.header_error.HeaderError.{HeaderError}
 use Rattle.aes3_wave.specs.declared.chunk.Known.{Known}
 use Rattle.aes3_wave.specs.declared.chunk.WaveHeader.{WaveHeader}
 use Rattle.aes3_wave.specs.Chunks.{chunk_len, head, head_len, is_data, known_with}

@@ -6,7 +6,7 @@ use Rattle.std.specs.List.{concat}
 use Rattle.std.proofs.lemmas.Bool.{cases_lt}
 use Rattle.std.proofs.lemmas.List.{drop-append-le, drop_all, drop_at, length-append, length-drop, take_all}
 use Rattle.std.proofs.lemmas.List.{take-append-le}
-use Rattle.aes3_wave.specs.declared.error.HeaderError.{HeaderError}
+use Rattle.aes3_wave.specs.declared.header_error.HeaderError.{HeaderError}
 use Rattle.aes3_wave.specs.declared.chunk.Known.{Known}
 use Rattle.aes3_wave.specs.Chunks.{chunk_len, head, head_len, is_data, known_with}
 use Rattle.aes3_wave.specs.Headers.{Judged, after, first_known, found, header_in, judged, judged_from}

@@ -3,11 +3,11 @@ use Rattle.std.proofs.Common.{inl, inr, ◌≡◌, true, false, Bool, ℕ, ◌+�
 use Rattle.std.specs.Prelude.{if◌then◌else◌, Option, Some, None, Result, Ok, Err}
 use Rattle.std.proofs.lemmas.Bool.{cases_lt, lt-ltb, le-ltb}
 use Rattle.std.proofs.lemmas.List.{length-append, take-append-le}
-use Rattle.aes3_wave.specs.declared.error.HeaderError.{HeaderError}
-use Rattle.aes3_wave.specs.declared.format.WaveFormat.{WaveFormat}
+use Rattle.aes3_wave.specs.declared.header_error.HeaderError.{HeaderError}
+use Rattle.aes3_wave.specs.declared.wave_format.WaveFormat.{WaveFormat}
 use Rattle.aes3_wave.specs.declared.chunk.Known.{Known}
 use Rattle.aes3_wave.specs.declared.chunk.WaveHeader.{WaveHeader}
-use Rattle.aes3_wave.specs.declared.state.Stage.TheVariants.{First, Chunks}
+use Rattle.aes3_wave.specs.declared.reader.Stage.TheVariants.{First, Chunks}
 use Rattle.aes3_wave.specs.Chunks.{chunk_len, head, head_len, is_data, known_with}
 use Rattle.aes3_wave.specs.Headers.{after, first_known, found, header_at, header_in, judged, judged_from}
 use Rattle.aes3_wave.specs.Following.{IsNext, IsOpenChunk, IsSamples}

@@ -2,9 +2,9 @@
 -- length is odd. What those before the samples say.
 use Rattle.std.specs.Prelude.{ℕ, Bool, List, ◌+◌, ◌%◌, ◌||◌, ◌&&◌, if◌then◌else◌, codes, length, min, take}
 use Rattle.std.specs.Prelude.{Some, Result, Ok, Err, is_none, nat_lt}
-use Rattle.aes3_wave.specs.declared.error.Cause.TheVariants.{ShortSizes}
-use Rattle.aes3_wave.specs.declared.error.HeaderError.{HeaderError}
-use Rattle.aes3_wave.specs.declared.format.WaveFormat.{WaveFormat}
+use Rattle.aes3_wave.specs.declared.header_error.Cause.TheVariants.{ShortSizes}
+use Rattle.aes3_wave.specs.declared.header_error.HeaderError.{HeaderError}
+use Rattle.aes3_wave.specs.declared.wave_format.WaveFormat.{WaveFormat}
 use Rattle.aes3_wave.specs.declared.chunk.Known.{Known}
 use Rattle.aes3_wave.specs.Formats.{format_of}
 use Rattle.aes3_wave.specs.Octets.{begins, u32_at, u64_at}

@@ -1,14 +1,14 @@
 -- A reader that follows a header, in pieces of any size.
 use Rattle.std.specs.Prelude.{ℕ, true, false, List, [], ◌∷◌, ◌++◌, ◌+◌, ◌-◌, ◌≡◌, ◌<◌, ◌≤◌, ◌^◌, drop, length, take}
 use Rattle.std.specs.Prelude.{Option, Some, None, Result, Ok, Err, if◌then◌else◌, nat_lt}
-use Rattle.aes3_wave.specs.declared.error.HeaderError.{HeaderError}
+use Rattle.aes3_wave.specs.declared.header_error.HeaderError.{HeaderError}
 use Rattle.aes3_wave.specs.declared.chunk.Known.{Known}
 use Rattle.aes3_wave.specs.declared.chunk.WaveHeader.{WaveHeader}
 use Rattle.aes3_wave.specs.declared.chunk.Step.{Step}
 use Rattle.aes3_wave.specs.declared.chunk.Step.TheVariants.{More, Next, Samples}
-use Rattle.aes3_wave.specs.declared.state.Stage.{Stage}
-use Rattle.aes3_wave.specs.declared.state.Stage.TheVariants.{First, Chunks, Whole}
-use Rattle.aes3_wave.specs.declared.state.HeaderReader.{HeaderReader}
+use Rattle.aes3_wave.specs.declared.reader.Stage.{Stage}
+use Rattle.aes3_wave.specs.declared.reader.Stage.TheVariants.{First, Chunks, Whole}
+use Rattle.aes3_wave.specs.declared.reader.HeaderReader.{HeaderReader}
 use Rattle.aes3_wave.specs.Chunks.{chunk_len, head_len, is_data}
 use Rattle.aes3_wave.specs.Headers.{Judged, judged, judged_from}
 

@@ -3,14 +3,14 @@
 -- extensible format too the length of what follows, the valid bits, the speakers and a GUID.
 use Rattle.std.specs.Prelude.{ℕ, Bool, List, [], ◌∷◌, ◌*◌, ◌==◌, ◌||◌, ◌&&◌, not, if◌then◌else◌, drop, length}
 use Rattle.std.specs.Prelude.{Option, Some, None, Result, Ok, Err, nat_lt}
-use Rattle.aes3_wave.specs.declared.error.Cause.{Cause}
-use Rattle.aes3_wave.specs.declared.error.Cause.TheVariants.{ShortFormat, NotPcm, NoChannels, WrongBits, WrongFrame}
-use Rattle.aes3_wave.specs.declared.error.HeaderError.{HeaderError}
-use Rattle.aes3_wave.specs.declared.format.Width.{Width}
-use Rattle.aes3_wave.specs.declared.format.Width.TheVariants.{Bits8, Bits16, Bits20, Bits24, Bits32}
-use Rattle.aes3_wave.specs.declared.format.Container.{Container}
-use Rattle.aes3_wave.specs.declared.format.Container.TheVariants.{Octets1, Octets2, Octets3, Octets4}
-use Rattle.aes3_wave.specs.declared.format.WaveFormat.{WaveFormat}
+use Rattle.aes3_wave.specs.declared.header_error.Cause.{Cause}
+use Rattle.aes3_wave.specs.declared.header_error.Cause.TheVariants.{ShortFormat, NotPcm, NoChannels, WrongBits, WrongFrame}
+use Rattle.aes3_wave.specs.declared.header_error.HeaderError.{HeaderError}
+use Rattle.aes3_wave.specs.declared.wave_format.Width.{Width}
+use Rattle.aes3_wave.specs.declared.wave_format.Width.TheVariants.{Bits8, Bits16, Bits20, Bits24, Bits32}
+use Rattle.aes3_wave.specs.declared.wave_format.Container.{Container}
+use Rattle.aes3_wave.specs.declared.wave_format.Container.TheVariants.{Octets1, Octets2, Octets3, Octets4}
+use Rattle.aes3_wave.specs.declared.wave_format.WaveFormat.{WaveFormat}
 use Rattle.aes3_wave.specs.Octets.{begins, u16_at, u32_at}
 
 -- a number of bits as a width

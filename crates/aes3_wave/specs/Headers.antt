@@ -2,9 +2,9 @@
 -- samples. RF64 and BW64 have their lengths in a chunk `ds64`.
 use Rattle.std.specs.Prelude.{ℕ, zero, suc, Bool, List, ◌+◌, ◌==◌, ◌||◌, ◌&&◌, not, if◌then◌else◌, codes, drop, length, take}
 use Rattle.std.specs.Prelude.{Option, Some, None, Result, Ok, Err, nat_lt}
-use Rattle.aes3_wave.specs.declared.error.Cause.TheVariants.{NotRiff, NotWave, NoFormat, Ended}
-use Rattle.aes3_wave.specs.declared.error.HeaderError.{HeaderError}
-use Rattle.aes3_wave.specs.declared.format.WaveFormat.{WaveFormat}
+use Rattle.aes3_wave.specs.declared.header_error.Cause.TheVariants.{NotRiff, NotWave, NoFormat, Ended}
+use Rattle.aes3_wave.specs.declared.header_error.HeaderError.{HeaderError}
+use Rattle.aes3_wave.specs.declared.wave_format.WaveFormat.{WaveFormat}
 use Rattle.aes3_wave.specs.declared.chunk.Known.{Known}
 use Rattle.aes3_wave.specs.declared.chunk.WaveHeader.{WaveHeader}
 use Rattle.aes3_wave.specs.Octets.{begins}

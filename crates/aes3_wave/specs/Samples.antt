@@ -2,14 +2,14 @@
 use Rattle.std.specs.Prelude.{ℕ, List, [], ◌∷◌, ◌++◌, ◌+◌, ◌-◌, ◌*◌, ◌/◌, if◌then◌else◌, drop, get_or, nat_lt, take}
 use Rattle.std.specs.Prelude.{Option, Some, None}
 use Rattle.aes3_wave.specs.declared.chunk.WaveHeader.{WaveHeader}
-use Rattle.aes3_wave.specs.declared.format.Container.{Container}
-use Rattle.aes3_wave.specs.declared.format.Container.TheVariants.{Octets1, Octets2, Octets3, Octets4}
-use Rattle.aes3_wave.specs.declared.format.Width.{Width}
-use Rattle.aes3_wave.specs.declared.format.Width.TheVariants.{Bits8, Bits16, Bits20, Bits24, Bits32}
-use Rattle.aes3_wave.specs.declared.format.WaveFormat.{WaveFormat}
-use Rattle.aes3_wave.specs.declared.samples.Channels.{Channels}
-use Rattle.aes3_wave.specs.declared.samples.Mono.{Mono}
-use Rattle.aes3_wave.specs.declared.samples.Mono.TheVariants.{Both, First}
+use Rattle.aes3_wave.specs.declared.wave_format.Container.{Container}
+use Rattle.aes3_wave.specs.declared.wave_format.Container.TheVariants.{Octets1, Octets2, Octets3, Octets4}
+use Rattle.aes3_wave.specs.declared.wave_format.Width.{Width}
+use Rattle.aes3_wave.specs.declared.wave_format.Width.TheVariants.{Bits8, Bits16, Bits20, Bits24, Bits32}
+use Rattle.aes3_wave.specs.declared.wave_format.WaveFormat.{WaveFormat}
+use Rattle.aes3_wave.specs.declared.channels.Channels.{Channels}
+use Rattle.aes3_wave.specs.declared.channels.Mono.{Mono}
+use Rattle.aes3_wave.specs.declared.channels.Mono.TheVariants.{Both, First}
 use Rattle.aes3_wave.specs.Formats.{container_len}
 
 -- octets up to so many, or all

@@ -4,11 +4,11 @@
 use Rattle.std.specs.Prelude.{ℕ, List, [], ◌++◌, ◌+◌, ◌*◌, ◌/◌, codes, if◌then◌else◌, min, nat_lt, replicate}
 use Rattle.std.specs.Prelude.{Option, Some, None}
 use Rattle.std.specs.Int.{to_le_bytes, w16, w32, w64}
-use Rattle.aes3_wave.specs.declared.format.Container.{Container}
-use Rattle.aes3_wave.specs.declared.format.Container.TheVariants.{Octets2, Octets3, Octets4}
-use Rattle.aes3_wave.specs.declared.format.Width.{Width}
-use Rattle.aes3_wave.specs.declared.format.Width.TheVariants.{Bits16, Bits24, Bits32}
-use Rattle.aes3_wave.specs.declared.format.WaveFormat.{WaveFormat}
+use Rattle.aes3_wave.specs.declared.wave_format.Container.{Container}
+use Rattle.aes3_wave.specs.declared.wave_format.Container.TheVariants.{Octets2, Octets3, Octets4}
+use Rattle.aes3_wave.specs.declared.wave_format.Width.{Width}
+use Rattle.aes3_wave.specs.declared.wave_format.Width.TheVariants.{Bits16, Bits24, Bits32}
+use Rattle.aes3_wave.specs.declared.wave_format.WaveFormat.{WaveFormat}
 use Rattle.aes3_wave.specs.declared.written.Depth.{Depth}
 use Rattle.aes3_wave.specs.declared.written.Depth.TheVariants.{Sixteen, TwentyFour, ThirtyTwo}
 use Rattle.aes3_wave.specs.Formats.{container_len, guid_end}

@@ -8,9 +8,9 @@ ghost use Rattle.aes3_wave.specs.Frames.{known_len};
 ghost use Rattle.aes3_wave.specs.Headers.{first_known, header_in, is_long, is_riff};
 ghost use Rattle.aes3_wave.specs.Headers.{is_wave, named, samples_len};
 
-use crate::error::{Cause, HeaderError};
-use crate::format::{WaveFormat, format_of};
+use crate::header_error::{Cause, HeaderError};
 use crate::octets::{u32_at, u64_at};
+use crate::wave_format::{WaveFormat, format_of};
 
 /// How many octets come before the content of a chunk: its name and its length.
 pub(crate) const HEAD_LEN: usize = 8;

@@ -2,31 +2,29 @@
 //! 3306 and BW64 of ITU-R BS.2088).
 #![tactic(auto)]
 
+/// The samples of frames.
+mod channels;
 /// The chunks before the samples.
 mod chunk;
 /// Why a header is rejected.
-mod error;
-/// The format of the samples.
-mod format;
+mod header_error;
 /// The laws of headers.
 pub mod laws;
 /// Numbers in octets.
 mod octets;
 /// The reader of a header.
 mod reader;
-/// The samples of frames.
-mod samples;
 /// The octets of a file that are its samples.
 mod span;
-/// What the reader keeps.
-mod state;
+/// The format of the samples.
+mod wave_format;
 /// Writing the header.
 mod written;
 
+pub use channels::{Channels, Mono};
 pub use chunk::WaveHeader;
-pub use error::{Cause, HeaderError};
-pub use format::{Container, WaveFormat, Width};
-pub use samples::{Channels, Mono};
+pub use header_error::{Cause, HeaderError};
+pub use reader::HeaderReader;
 pub use span::SampleSpan;
-pub use state::HeaderReader;
+pub use wave_format::{Container, WaveFormat, Width};
 pub use written::{Depth, HeaderOctets, header_of};

@@ -6,22 +6,22 @@ use Rattle.std.proofs.lemmas.Bool.{and_parts, ltb-true}
 use Rattle.std.proofs.lemmas.List.{length-append, take_all}
 use Rattle.aes3_cell.specs.Ends.{Grew, Told}
 use Rattle.aes3_cell.specs.declared.counts.Counts.{Counts}
-use Rattle.aes3_cell.specs.declared.refusal.RunError.{RunError}
-use Rattle.aes3_cell.specs.declared.refusal.RunError.TheVariants.{BadLength, BadSample, Read, SoundHeader, TooLong, Write}
+use Rattle.aes3_cell.specs.declared.run_error.RunError.{RunError}
+use Rattle.aes3_cell.specs.declared.run_error.RunError.TheVariants.{BadLength, BadSample, Read, SoundHeader, TooLong, Write}
 use Rattle.aes3_cell.proofs.Growing.{grew-join, told-is}
 use Rattle.aes3_input.specs.Running.{InputRan, InputRun, Movement, Promise, Quiet}
 use Rattle.aes3_input.proofs.InputRuns.{run-owed}
 use Rattle.aes3_input.proofs.Pieces.{changed}
-use Rattle.aes3_forms_samples.specs.declared.format.SampleFormat.TheVariants.{S32}
+use Rattle.aes3_forms_samples.specs.declared.sample_format.SampleFormat.TheVariants.{S32}
 use Rattle.aes3_engine.specs.Sampling.{IsSound, pcm_words}
 use Rattle.aes3_wave.specs.declared.chunk.WaveHeader.{WaveHeader}
-use Rattle.aes3_wave.specs.declared.error.HeaderError.{HeaderError}
-use Rattle.aes3_wave.specs.declared.format.WaveFormat.{WaveFormat}
+use Rattle.aes3_wave.specs.declared.header_error.HeaderError.{HeaderError}
+use Rattle.aes3_wave.specs.declared.wave_format.WaveFormat.{WaveFormat}
 use Rattle.aes3_wave.specs.Headers.{at_end, judged}
-use Rattle.aes3_wave.specs.declared.samples.Channels.{Channels}
+use Rattle.aes3_wave.specs.declared.channels.Channels.{Channels}
 use Rattle.aes3_wave.proofs.Parts.{decided-stays}
-use Rattle.aes3_wave_runs.specs.declared.error.WaveError.{WaveError}
-use Rattle.aes3_wave_runs.specs.declared.error.WaveError.TheVariants.{Header, NoChannel, Run}
+use Rattle.aes3_wave_runs.specs.declared.wave_error.WaveError.{WaveError}
+use Rattle.aes3_wave_runs.specs.declared.wave_error.WaveError.TheVariants.{Header, NoChannel, Run}
 use Rattle.aes3_wave_runs.specs.declared.options.Converted.{Converted}
 use Rattle.aes3_wave_runs.specs.declared.options.WaveOptions.{WaveOptions}
 use Rattle.aes3_wave_runs.specs.FromWav.{RanOn, WaveRan, WaveRun, change_for, channels_for, has_channels, has_second, promise_for}

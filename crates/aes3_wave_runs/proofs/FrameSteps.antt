@@ -6,17 +6,17 @@ use Rattle.std.proofs.Math.Nat.{div-mul-le_self, le_of_mul-le-mul_right, mul-le-
 use Rattle.std.proofs.lemmas.Nat.{le-div}
 use Rattle.std.specs.Prelude.{if◌then◌else◌}
 use Rattle.std.proofs.lemmas.List.{drop_at, length-append, length-take, length-take-le, take-take, take_all}
-use Rattle.aes3_cell.specs.declared.refusal.RunError.{RunError}
-use Rattle.aes3_cell.specs.declared.refusal.RunError.TheVariants.{BadLength, Read, TooLong, Write}
+use Rattle.aes3_cell.specs.declared.run_error.RunError.{RunError}
+use Rattle.aes3_cell.specs.declared.run_error.RunError.TheVariants.{BadLength, Read, TooLong, Write}
 use Rattle.aes3_cell.proofs.Growing.{grew-none}
 use Rattle.aes3_input.specs.Converting.{Reading, fault_behind, first_fault, or_else}
 use Rattle.aes3_input.specs.Running.{EndRan, Fed, FrontRan, InputState, Movement, PieceRan}
 use Rattle.aes3_input.proofs.Feeding.{fed-is, fed-none, ran-join}
 use Rattle.aes3_input.proofs.Outputs.{fault-clean}
-use Rattle.aes3_wave.specs.declared.format.WaveFormat.{WaveFormat}
-use Rattle.aes3_wave.specs.declared.format.Width.{Width}
-use Rattle.aes3_wave.specs.declared.format.Width.TheVariants.{Bits8, Bits16, Bits20, Bits24, Bits32}
-use Rattle.aes3_wave.specs.declared.samples.Channels.{Channels}
+use Rattle.aes3_wave.specs.declared.wave_format.WaveFormat.{WaveFormat}
+use Rattle.aes3_wave.specs.declared.wave_format.Width.{Width}
+use Rattle.aes3_wave.specs.declared.wave_format.Width.TheVariants.{Bits8, Bits16, Bits20, Bits24, Bits32}
+use Rattle.aes3_wave.specs.declared.channels.Channels.{Channels}
 use Rattle.aes3_wave.specs.Formats.{frame_len}
 use Rattle.aes3_wave.specs.Samples.{counted, sample_of, sample_or_zero, two_samples}
 use Rattle.aes3_engine.specs.Sampling.{more_of}

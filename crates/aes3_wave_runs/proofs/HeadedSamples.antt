@@ -6,7 +6,7 @@ use Rattle.std.proofs.lemmas.List.{append_cancel_left}
 use Rattle.aes3_level.specs.declared.level.Level.{Level}
 use Rattle.aes3_input.specs.Taking.{Writing, behind, before_end, with_end}
 use Rattle.aes3_input.proofs.Items.{before-is, before-join}
-use Rattle.aes3_frame.specs.declared.status.Channel.TheVariants.{First}
+use Rattle.aes3_frame.specs.declared.channel.Channel.TheVariants.{First}
 use Rattle.aes3_frame.specs.Statuses.{status_of}
 use Rattle.aes3_lock.specs.declared.report.Ending.{Ending}
 use Rattle.aes3_lock.specs.declared.report.Ending.TheVariants.{Whole as EndsWhole}
@@ -21,7 +21,7 @@ use Rattle.aes3_wave.specs.declared.written.Depth.{Depth}
 use Rattle.aes3_wave_runs.specs.declared.headed.Header.{Header}
 use Rattle.aes3_wave_runs.specs.HeadedSamples.{IsOpened, IsQuiet, close_of, headed, named_after, open_after, opened_after}
 use Rattle.aes3_wave.specs.Written.{written}
-use Rattle.aes3_wave_runs.specs.Status.{rate_named}
+use Rattle.aes3_wave_runs.specs.Status.{rate_of_status}
 use Rattle.aes3_wave_runs.specs.ToWav.{first_given, header_by, is_given, named_first, opened_by, rate_for}
 
 -- what holds of an answer that is none of a fault, by two things that do
@@ -34,7 +34,7 @@ ok-two (Err e) f p q = tt
 pub opened-whole : (m : Bool) (depth : Depth) (rate : Option ℕ) (k : LockState) (at : ℕ) (s : Level) (b : List (List Bool))
     {t : Bool} {o : Option Ending} {e : Ending} → t ≡ false → o ≡ Some e → e ≡ EndsWhole at s
     → reports_in k (Some (EndsWhole at s)) ≡ Whole at s b ∷ []
-    → written depth (rate_for rate (rate_named (status_of b First))) None
+    → written depth (rate_for rate (rate_of_status (status_of b First))) None
     ≡ opened_after depth rate t (first_given m (reports_in k o))
 opened-whole m depth rate k at s b p q w is =
     sym (ap₂ (λ t o. opened_after depth rate t (first_given m (reports_in k o))) p (q ∙ ap Some w)

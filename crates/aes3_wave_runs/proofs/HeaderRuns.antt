@@ -5,20 +5,20 @@ use Rattle.std.proofs.lemmas.Bool.{cases_lt}
 use Rattle.std.proofs.lemmas.List.{length-append, length-take-le, take_all}
 use Rattle.std.proofs.Math.Seq.{take-append-add}
 use Rattle.aes3_cell.specs.Ends.{Grew}
-use Rattle.aes3_cell.specs.declared.refusal.RunError.TheVariants.{Read, TooLong}
+use Rattle.aes3_cell.specs.declared.run_error.RunError.TheVariants.{Read, TooLong}
 use Rattle.aes3_cell.proofs.Growing.{grew-is, grew-join, grew-none}
 use Rattle.aes3_input.proofs.Pieces.{changed}
 use Rattle.aes3_wave.specs.declared.chunk.WaveHeader.{WaveHeader}
-use Rattle.aes3_wave.specs.declared.error.HeaderError.{HeaderError}
-use Rattle.aes3_wave.specs.declared.state.HeaderReader.{HeaderReader}
-use Rattle.aes3_wave.specs.declared.state.Stage.{Stage}
-use Rattle.aes3_wave.specs.declared.state.Stage.TheVariants.{First, Chunks, Whole}
+use Rattle.aes3_wave.specs.declared.header_error.HeaderError.{HeaderError}
+use Rattle.aes3_wave.specs.declared.reader.HeaderReader.{HeaderReader}
+use Rattle.aes3_wave.specs.declared.reader.Stage.{Stage}
+use Rattle.aes3_wave.specs.declared.reader.Stage.TheVariants.{First, Chunks, Whole}
 use Rattle.aes3_wave.specs.Following as following
 use Rattle.aes3_wave.specs.Following.{Follows, FollowsAt, Took, header_of}
 use Rattle.aes3_wave.specs.Headers.{Judged, at_end, judged, judged_at_end}
 use Rattle.aes3_wave.proofs.Steps.{judged-short}
 use Rattle.aes3_wave_runs.specs.Headers.{HeaderRun}
-use Rattle.aes3_wave_runs.specs.declared.error.WaveError.TheVariants.{Header, Run}
+use Rattle.aes3_wave_runs.specs.declared.wave_error.WaveError.TheVariants.{Header, Run}
 
 -- a reader that has taken all octets that came, of which no header is whole
 pub record ReadSo (told₀ told : Option (List ℕ)) (r : HeaderReader) (seen : ℕ) : Type 0 where

@@ -7,10 +7,10 @@ use Rattle.std.specs.Option.{ForSome}
 use Rattle.std.specs.Prelude.{if◌then◌else◌}
 use Rattle.std.proofs.lemmas.Bool.{and_parts, ltb-true}
 use Rattle.std.proofs.lemmas.List.{drop_at, length-append, length-map}
-use Rattle.aes3_frame.specs.Blocks.{IsBlock, block_slots}
+use Rattle.aes3_frame.specs.Blocks.{IsBlock, block_subframes}
 use Rattle.aes3_frame.specs.Samples.{block_samples, sample_of, samples}
 use Rattle.aes3_frame.proofs.FileLaws.{length-bytes}
-use Rattle.aes3_forms_samples.specs.declared.format.SampleFormat.TheVariants.{S16, S24}
+use Rattle.aes3_forms_samples.specs.declared.sample_format.SampleFormat.TheVariants.{S16, S24}
 use Rattle.aes3_forms_samples.specs.Formats.{fours, narrow_one, narrowed, widened}
 use Rattle.aes3_status.specs.Consumer as con
 use Rattle.aes3_status.specs.Professional as pro
@@ -22,7 +22,7 @@ use Rattle.aes3_wave.specs.Written.{written_format}
 use Rattle.aes3_wave.proofs.ReadBack.{written-read}
 use Rattle.aes3_wave_runs.specs.Frames.{all_parts, parts_of}
 use Rattle.aes3_wave_runs.specs.Laws.{SamplesComeBack}
-use Rattle.aes3_wave_runs.specs.Status.{consumer_rates, or_else, professional_frequencies, professional_rates, rate_in, rate_named}
+use Rattle.aes3_wave_runs.specs.Status.{consumer_rates, or_else, professional_frequencies, professional_rates, rate_in, rate_of_status}
 use Rattle.aes3_wave_runs.specs.ToWav.{format_of, header_for, named_by, rate_for}
 use Rattle.aes3_wave_runs.proofs.Parts.{all-whole, left-whole}
 use Rattle.aes3_wave_runs.proofs.WrittenFrames.{none-there, pair_of, sixteen, thirty-two, twenty-four}
@@ -62,7 +62,7 @@ frame-some ThirtyTwo rate = omega arith
 
 -- the samples of blocks are pairs
 block-pairs : (b : List (List Bool)) → IsBlock b → length (block_samples b) ≡ 192 * 8
-unfolding block_samples block_slots
+unfolding block_samples block_subframes
 block-pairs b h =
     let l = length-bytes (map sample_of b) in
     let m = length-map b sample_of in
@@ -100,7 +100,7 @@ either-few : (a b : Option ℕ) → ForSome a (λ n. n < 2 ^ 32) → ForSome b (
 either-few (Some x) b p q = p
 either-few None b p q = q
 
-named-few : (status : List ℕ) → ForSome (rate_named status) (λ n. n < 2 ^ 32)
+named-few : (status : List ℕ) → ForSome (rate_of_status status) (λ n. n < 2 ^ 32)
 named-few status =
     go (is_professional status)
     (either-few (rate_in professional_rates (pro.rate status)) (rate_in professional_frequencies (pro.frequency status))

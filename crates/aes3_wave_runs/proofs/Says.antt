@@ -8,10 +8,10 @@ use Rattle.aes3_status.specs.Check.{CheckHolds}
 use Rattle.aes3_status.specs.Consumer as con
 use Rattle.aes3_status.specs.Professional as pro
 use Rattle.aes3_status.proofs.BitFields.{field-in_byte}
-use Rattle.aes3_wave.specs.declared.format.WaveFormat.{WaveFormat}
-use Rattle.aes3_wave.specs.declared.format.Width.{Width}
-use Rattle.aes3_wave.specs.declared.format.Width.TheVariants.{Bits8, Bits16, Bits20, Bits24, Bits32}
-use Rattle.aes3_wave_runs.specs.declared.status.StatusUse.TheVariants.{Consumer, Professional}
+use Rattle.aes3_wave.specs.declared.wave_format.WaveFormat.{WaveFormat}
+use Rattle.aes3_wave.specs.declared.wave_format.Width.{Width}
+use Rattle.aes3_wave.specs.declared.wave_format.Width.TheVariants.{Bits8, Bits16, Bits20, Bits24, Bits32}
+use Rattle.aes3_wave_runs.specs.declared.status_use.StatusUse.TheVariants.{Consumer, Professional}
 use Rattle.aes3_wave_runs.specs.Status.{RateIsNamed, SaysConsumer, SaysProfessional, consumer_rate}
 use Rattle.aes3_wave_runs.specs.Status.{consumer_rates, consumer_status, greatest_code, or_else}
 use Rattle.aes3_wave_runs.specs.Status.{professional_frequencies, professional_frequency, professional_rate}

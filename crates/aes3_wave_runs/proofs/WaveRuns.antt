@@ -9,28 +9,28 @@ use Rattle.std.proofs.lemmas.List.{drop_at, length-append, length-take, take_all
 use Rattle.std.proofs.lemmas.Option.{none-some, same_Some}
 use Rattle.std.proofs.Math.Seq.{take-append-add}
 use Rattle.aes3_cell.specs.declared.counts.Counts.{Counts}
-use Rattle.aes3_cell.specs.declared.refusal.RunError.{RunError}
-use Rattle.aes3_cell.specs.declared.refusal.RunError.TheVariants.{BadCell, BadLength, BadCode, BadParity, Read, Write}
-use Rattle.aes3_cell.specs.declared.refusal.RunError.TheVariants.{TooLong, Memory, BadStatusText, BadPadding, BadSample}
-use Rattle.aes3_cell.specs.declared.refusal.RunError.TheVariants.{SoundHeader, Inexact}
+use Rattle.aes3_cell.specs.declared.run_error.RunError.{RunError}
+use Rattle.aes3_cell.specs.declared.run_error.RunError.TheVariants.{BadCell, BadLength, BadCode, BadParity, Read, Write}
+use Rattle.aes3_cell.specs.declared.run_error.RunError.TheVariants.{TooLong, Memory, BadStatusText, BadPadding, BadSample}
+use Rattle.aes3_cell.specs.declared.run_error.RunError.TheVariants.{SoundHeader, Inexact}
 use Rattle.aes3_cell.proofs.Growing.{front-is, grew-is}
 use Rattle.aes3_input.specs.Converting.{Reading, first_fault, or_else, out, whole}
 use Rattle.aes3_input.specs.Running.{Complete, InputRan, InputRun, IsFault, IsFaultless, Movement}
 use Rattle.aes3_input.specs.Running.{Promise, converted}
 use Rattle.aes3_input.proofs.InputRuns.{Gives}
-use Rattle.aes3_forms_samples.specs.declared.format.SampleFormat.TheVariants.{S32}
+use Rattle.aes3_forms_samples.specs.declared.sample_format.SampleFormat.TheVariants.{S32}
 use Rattle.aes3_forms_samples.specs.Formats.{block_len}
 use Rattle.aes3_status.specs.declared.change.Change.{Change}
-use Rattle.aes3_forms_words.specs.declared.form.Words.{Words}
+use Rattle.aes3_forms_words.specs.declared.alsa_am824.Words.{Words}
 use Rattle.aes3_engine.specs.Sampling.{AreSamples, BadSampleAt, IsPcm, IsSound, begun_pcm, pcm_counts, pcm_words}
 use Rattle.aes3_engine.specs.Sampling.{sampled_words, sampling}
 use Rattle.aes3_engine.proofs.SampleReads.{clean-all, end-whole}
 use Rattle.aes3_engine.proofs.SampleRuns.{pcm-counted, sampling-gives}
 use Rattle.aes3_wave.specs.declared.chunk.WaveHeader.{WaveHeader}
-use Rattle.aes3_wave.specs.declared.format.Container.{Container}
-use Rattle.aes3_wave.specs.declared.format.Container.TheVariants.{Octets1, Octets2, Octets3, Octets4}
-use Rattle.aes3_wave.specs.declared.format.WaveFormat.{WaveFormat}
-use Rattle.aes3_wave.specs.declared.samples.Channels.{Channels}
+use Rattle.aes3_wave.specs.declared.wave_format.Container.{Container}
+use Rattle.aes3_wave.specs.declared.wave_format.Container.TheVariants.{Octets1, Octets2, Octets3, Octets4}
+use Rattle.aes3_wave.specs.declared.wave_format.WaveFormat.{WaveFormat}
+use Rattle.aes3_wave.specs.declared.channels.Channels.{Channels}
 use Rattle.aes3_wave.specs.Formats.{container_len, frame_len}
 use Rattle.aes3_wave.specs.Samples.{samples_of, two_samples, up_to}
 use Rattle.aes3_wave_runs.specs.Frames.{all_parts, left_over}

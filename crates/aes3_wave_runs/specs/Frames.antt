@@ -1,11 +1,11 @@
 -- The samples of frames: those of two channels of each, as samples of 32 bits.
 use Rattle.std.specs.Prelude.{ℕ, zero, suc, List, [], ◌++◌, Some, ◌≡◌, ◌/◌, ◌%◌, drop, length, take}
-use Rattle.aes3_forms_samples.specs.declared.format.SampleFormat.{SampleFormat}
-use Rattle.aes3_forms_samples.specs.declared.format.SampleFormat.TheVariants.{S32, S24, S24In32, S16}
-use Rattle.aes3_wave.specs.declared.format.Container.TheVariants.{Octets2, Octets3, Octets4}
-use Rattle.aes3_wave.specs.declared.format.Width.TheVariants.{Bits16, Bits24, Bits32}
-use Rattle.aes3_wave.specs.declared.format.WaveFormat.{WaveFormat}
-use Rattle.aes3_wave.specs.declared.samples.Channels.{Channels}
+use Rattle.aes3_forms_samples.specs.declared.sample_format.SampleFormat.{SampleFormat}
+use Rattle.aes3_forms_samples.specs.declared.sample_format.SampleFormat.TheVariants.{S32, S24, S24In32, S16}
+use Rattle.aes3_wave.specs.declared.wave_format.Container.TheVariants.{Octets2, Octets3, Octets4}
+use Rattle.aes3_wave.specs.declared.wave_format.Width.TheVariants.{Bits16, Bits24, Bits32}
+use Rattle.aes3_wave.specs.declared.wave_format.WaveFormat.{WaveFormat}
+use Rattle.aes3_wave.specs.declared.channels.Channels.{Channels}
 use Rattle.aes3_wave.specs.Formats.{frame_len}
 use Rattle.aes3_wave.specs.Samples.{two_samples}
 

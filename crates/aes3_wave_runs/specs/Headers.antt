@@ -1,13 +1,13 @@
 -- The header of a WAV file, read from a source.
 use Rattle.std.specs.Prelude.{ℕ, List, Bool, IsTrue, Some, None, Result, Ok, Err, ◌≡◌, ◌≤◌, ◌+◌, length, take}
 use Rattle.aes3_cell.specs.Ends.{Grew}
-use Rattle.aes3_cell.specs.declared.refusal.RunError.TheVariants.{Read, TooLong}
+use Rattle.aes3_cell.specs.declared.run_error.RunError.TheVariants.{Read, TooLong}
 use Rattle.aes3_input.specs.Running.{Failed, Movement, Quiet}
 use Rattle.aes3_wave.specs.declared.chunk.WaveHeader.{WaveHeader}
-use Rattle.aes3_wave.specs.declared.error.HeaderError.{HeaderError}
+use Rattle.aes3_wave.specs.declared.header_error.HeaderError.{HeaderError}
 use Rattle.aes3_wave.specs.Headers.{judged, judged_at_end}
-use Rattle.aes3_wave_runs.specs.declared.error.WaveError.{WaveError}
-use Rattle.aes3_wave_runs.specs.declared.error.WaveError.TheVariants.{Header, Run}
+use Rattle.aes3_wave_runs.specs.declared.wave_error.WaveError.{WaveError}
+use Rattle.aes3_wave_runs.specs.declared.wave_error.WaveError.TheVariants.{Header, Run}
 
 -- the octets b have a header that is refused: by themselves, or because the source has ended behind them
 pub record IsRefused (b : List ℕ) (ended : Bool) (e : HeaderError) : Type 0 where

@@ -8,7 +8,7 @@ use Rattle.aes3_forms_samples.specs.Formats.{narrowed, widened}
 use Rattle.aes3_wave.specs.declared.chunk.WaveHeader.{WaveHeader}
 use Rattle.aes3_wave.specs.declared.written.Depth.{Depth}
 use Rattle.aes3_wave.specs.Headers.{judged}
-use Rattle.aes3_wave.specs.declared.samples.Mono.{Mono}
+use Rattle.aes3_wave.specs.declared.channels.Mono.{Mono}
 use Rattle.aes3_wave.specs.Samples.{usual_channels}
 use Rattle.aes3_wave.specs.Written.{written_format}
 use Rattle.aes3_wave_runs.specs.ToWav.{format_of, header_for, named_by, rate_for, wave_of}

@@ -6,11 +6,11 @@ use Rattle.aes3_status.specs.Bits.{status_bits}
 use Rattle.aes3_status.specs.Consumer as con
 use Rattle.aes3_status.specs.Professional as pro
 use Rattle.aes3_status.specs.Statuses.{is_professional}
-use Rattle.aes3_wave.specs.declared.format.WaveFormat.{WaveFormat}
-use Rattle.aes3_wave.specs.declared.format.Width.{Width}
-use Rattle.aes3_wave.specs.declared.format.Width.TheVariants.{Bits8, Bits16, Bits20, Bits24, Bits32}
-use Rattle.aes3_wave_runs.specs.declared.status.StatusUse.{StatusUse}
-use Rattle.aes3_wave_runs.specs.declared.status.StatusUse.TheVariants.{Consumer, Professional}
+use Rattle.aes3_wave.specs.declared.wave_format.WaveFormat.{WaveFormat}
+use Rattle.aes3_wave.specs.declared.wave_format.Width.{Width}
+use Rattle.aes3_wave.specs.declared.wave_format.Width.TheVariants.{Bits8, Bits16, Bits20, Bits24, Bits32}
+use Rattle.aes3_wave_runs.specs.declared.status_use.StatusUse.{StatusUse}
+use Rattle.aes3_wave_runs.specs.declared.status_use.StatusUse.TheVariants.{Consumer, Professional}
 
 -- ---- the codes
 
@@ -141,12 +141,12 @@ rate_of_frequency code = rate_in professional_frequencies code
 abbrev pub rate_of_professional : ℕ → ℕ → Option ℕ
 rate_of_professional code frequency = or_else (rate_in professional_rates code) (rate_of_frequency frequency)
 
-abbrev pub rate_named : List ℕ → Option ℕ
-rate_named status =
+abbrev pub rate_of_status : List ℕ → Option ℕ
+rate_of_status status =
     if is_professional status then rate_of_professional (pro.rate status) (pro.frequency status)
     else rate_of_consumer (con.rate status)
 
 -- the sampling frequency that a status says is the one that it names
 abbrev pub RateIsNamed : Type 0
 RateIsNamed = (f : WaveFormat) (kind : StatusUse) → lacks_rate kind f.rate ≡ false
-    → rate_named (status_for kind f) ≡ Some f.rate
+    → rate_of_status (status_for kind f) ≡ Some f.rate

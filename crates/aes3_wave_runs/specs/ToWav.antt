@@ -4,7 +4,7 @@ use Rattle.std.specs.Prelude.{if◌then◌else◌}
 use Rattle.aes3_level.specs.declared.level.Level.{Level}
 use Rattle.aes3_cell.specs.declared.form.Form.{Form}
 use Rattle.aes3_frame.specs.declared.fill.Fill.{Fill}
-use Rattle.aes3_frame.specs.declared.status.Channel.TheVariants.{First}
+use Rattle.aes3_frame.specs.declared.channel.Channel.TheVariants.{First}
 use Rattle.aes3_frame.specs.Samples.{samples}
 use Rattle.aes3_frame.specs.Statuses.{status_of}
 use Rattle.aes3_input.specs.Driving.{over_cells}
@@ -17,8 +17,8 @@ use Rattle.aes3_engine.specs.ExactSamples.{exact_samples, first_unfit}
 use Rattle.aes3_engine.specs.FillRuns.{IsFilled}
 use Rattle.aes3_engine.specs.Filling.{filled, given, placed}
 use Rattle.aes3_engine.specs.ValidSamples.{valid_samples}
-use Rattle.aes3_forms_samples.specs.declared.format.SampleFormat.{SampleFormat}
-use Rattle.aes3_forms_samples.specs.declared.format.SampleFormat.TheVariants.{S16, S24, S32}
+use Rattle.aes3_forms_samples.specs.declared.sample_format.SampleFormat.{SampleFormat}
+use Rattle.aes3_forms_samples.specs.declared.sample_format.SampleFormat.TheVariants.{S16, S24, S32}
 use Rattle.aes3_forms_samples.specs.Formats.{narrowed}
 use Rattle.aes3_lock_runs.specs.BlockRuns.{decided_blocks}
 use Rattle.aes3_lock_runs.specs.ReportRuns.{counts_of}
@@ -28,7 +28,7 @@ use Rattle.aes3_wave.specs.Written.{written}
 use Rattle.aes3_wave_runs.specs.declared.options.ExactWave.{ExactWave}
 use Rattle.aes3_wave_runs.specs.declared.options.FilledWave.{FilledWave}
 use Rattle.aes3_wave_runs.specs.declared.options.WaveWritten.{WaveWritten}
-use Rattle.aes3_wave_runs.specs.Status.{rate_named}
+use Rattle.aes3_wave_runs.specs.Status.{rate_of_status}
 
 -- the samples of a WAV file in the form of `to_pcm`
 abbrev pub format_of : Depth → SampleFormat
@@ -39,7 +39,7 @@ format_of ThirtyTwo = S32
 -- the sampling frequency that the status of channel 1 in the first block names, if it names one
 abbrev pub named_by : List (List (List Bool)) → Option ℕ
 named_by [] = None
-named_by (b ∷ bs) = rate_named (status_of b First)
+named_by (b ∷ bs) = rate_of_status (status_of b First)
 
 -- that of the file: the one that is asked for, else that one, else 48,000 Hz
 abbrev pub rate_for : Option ℕ → Option ℕ → ℕ
@@ -83,7 +83,7 @@ first_given marked (x ∷ r) = if is_given marked x then Some x else first_given
 
 -- the sampling frequency that the block of a report names: a marked one names none, as its status may be wrong
 abbrev pub named_in : Report → Option ℕ
-named_in (Whole at s b) = rate_named (status_of b First)
+named_in (Whole at s b) = rate_of_status (status_of b First)
 named_in (Marked at s wrong) = None
 named_in (Fault at cell why) = None
 named_in (Unfinished at cells) = None

@@ -3,19 +3,19 @@ use Rattle.std.specs.Prelude.{ℕ, List, ◌++◌, Option, Some, None, Bool, Res
 use Rattle.std.specs.Prelude.{◌^◌, ◌==◌, if◌then◌else◌, length, min, take}
 use Rattle.aes3_cell.specs.Ends.{Grew}
 use Rattle.aes3_cell.specs.declared.counts.Counts.{Counts}
-use Rattle.aes3_cell.specs.declared.refusal.RunError.{RunError}
-use Rattle.aes3_cell.specs.declared.refusal.RunError.TheVariants.{BadLength, BadSample, Read, SoundHeader, TooLong, Write}
+use Rattle.aes3_cell.specs.declared.run_error.RunError.{RunError}
+use Rattle.aes3_cell.specs.declared.run_error.RunError.TheVariants.{BadLength, BadSample, Read, SoundHeader, TooLong, Write}
 use Rattle.aes3_input.specs.Converting.{first_fault}
 use Rattle.aes3_input.specs.Running.{InputRan, InputState, Movement, Promise}
-use Rattle.aes3_forms_samples.specs.declared.format.SampleFormat.TheVariants.{S32}
+use Rattle.aes3_forms_samples.specs.declared.sample_format.SampleFormat.TheVariants.{S32}
 use Rattle.aes3_engine.specs.Sampling.{AreSamples, BadSampleAt, IsPcm, IsSound, begun_pcm, pcm_counts, pcm_words}
 use Rattle.aes3_status.specs.declared.change.Change.{Change}
 use Rattle.aes3_wave.specs.declared.chunk.WaveHeader.{WaveHeader}
-use Rattle.aes3_wave.specs.declared.format.WaveFormat.{WaveFormat}
-use Rattle.aes3_wave.specs.declared.samples.Channels.{Channels}
+use Rattle.aes3_wave.specs.declared.wave_format.WaveFormat.{WaveFormat}
+use Rattle.aes3_wave.specs.declared.channels.Channels.{Channels}
 use Rattle.aes3_wave.specs.Formats.{frame_len}
 use Rattle.aes3_wave.specs.Samples.{samples_of, two_samples}
-use Rattle.aes3_forms_words.specs.declared.form.Words.{Words}
+use Rattle.aes3_forms_words.specs.declared.alsa_am824.Words.{Words}
 use Rattle.aes3_wave_runs.specs.Frames.{frame_samples, left_over, parts_of}
 use Rattle.aes3_wave_runs.specs.Through.{PairsAreOne, through}
 

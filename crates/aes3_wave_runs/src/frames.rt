@@ -12,9 +12,6 @@ use aes3_wave::{Channels, Container, WaveFormat, Width};
 /// How many octets two samples of 32 bits have.
 pub(crate) const PAIR_LEN: usize = 8;
 
-/// How many frames a block has.
-pub(crate) const BLOCK_FRAMES: usize = 192;
-
 /// The form in which the octets of frames are already samples for `from_pcm_words`: the frame has
 /// two channels, both are taken in order, and all bits are valid.
 pub(crate) fn form_of(format: WaveFormat, channels: Channels) -> Option<SampleFormat>

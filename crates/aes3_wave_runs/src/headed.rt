@@ -9,7 +9,7 @@ ghost use Rattle.aes3_wave_runs.specs.HeadedSamples.{IsOpened, IsQuiet, close_of
 ghost use Rattle.aes3_wave_runs.specs.HeadedSamples.{opened_after};
 ghost use Rattle.aes3_wave_runs.specs.ToWav.{first_given, rate_for};
 
-use crate::status::rate_named;
+use crate::status_use::rate_of_status;
 use aes3_cell::{Fault, Sink, write_all};
 use aes3_engine::{Listener, MendedBlocks, ReportListener, Reporter};
 use aes3_frame::Channel;
@@ -107,7 +107,7 @@ impl Header {
             Some(ending) => match ending {
                 Ending::Whole { .. } => {
                     let block = lock.gathered().block();
-                    self.begin(sink, rate_named(&block.channel_status(Channel::First)))
+                    self.begin(sink, rate_of_status(&block.channel_status(Channel::First)))
                 }
                 Ending::Marked { .. } => {
                     if marked {

@@ -5,7 +5,7 @@ ghost use Rattle.aes3_input.specs.Running.{movement_of};
 ghost use Rattle.aes3_wave.specs.Formats.{frame_len};
 ghost use Rattle.aes3_wave_runs.specs.Headers.{HeaderRun};
 
-use crate::error::WaveError;
+use crate::wave_error::WaveError;
 use aes3_cell::{RunError, Source};
 use aes3_input::read_piece;
 use aes3_wave::{HeaderReader, WaveHeader};

@@ -1,6 +1,6 @@
 //! The options of a run over a WAV file, and its results.
 
-use crate::status::StatusUse;
+use crate::status_use::StatusUse;
 use aes3_cell::Counts;
 use aes3_engine::{Exact, Filled};
 use aes3_forms_words::Words;

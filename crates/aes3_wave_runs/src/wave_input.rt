@@ -1,27 +1,53 @@
 //! The octets after the header of a WAV file as an input: the samples of two channels of each frame
 //! are passed on as samples of 32 bits.
 
-ghost use Rattle.std.specs.Prelude.{◌≡◌, ◌<◌, ◌≤◌, ◌+◌, ◌*◌, ◌^◌, ℕ, List, [], Option, length, take};
+ghost use Rattle.std.specs.Prelude.{◌≡◌, ◌<◌, ◌≤◌, ◌+◌, ◌*◌, ◌^◌, ℕ, List, [], Option, length};
+ghost use Rattle.std.specs.Prelude.{take};
 ghost use Rattle.std.specs.Option.{ForSome};
 ghost use Rattle.aes3_wave.specs.Formats.{frame_len};
 ghost use Rattle.aes3_wave.specs.Samples.{two_samples};
 ghost use Rattle.aes3_forms_samples.specs.Formats.{block_len, widened};
-ghost use Rattle.aes3_forms_samples.specs.declared.format.SampleFormat.TheVariants.{S32};
+ghost use Rattle.aes3_forms_samples.specs.declared.sample_format.SampleFormat.TheVariants.{S32};
 ghost use Rattle.aes3_status.specs.declared.change.Change.{Change};
 ghost use Rattle.aes3_input.specs.Running.{FrontRan, movement_of};
 ghost use Rattle.aes3_wave_runs.specs.Frames.{IsForm, parts_of};
 ghost use Rattle.aes3_wave_runs.specs.States.{state_of};
 ghost use Rattle.aes3_wave_runs.specs.Wave.{frames_most, taken_len};
 
-use crate::frames::{BLOCK_FRAMES, PAIR_LEN, block_of, form_of, put_each};
-use crate::state::{FRAME_MOST, WaveInput};
+use crate::frames::{PAIR_LEN, block_of, form_of, put_each};
 use aes3_cell::{RunError, Sink};
 use aes3_engine::SampleInput;
 use aes3_forms_samples::{BLOCK_BYTES, SampleFormat};
 use aes3_forms_words::Words;
+use aes3_frame::FRAMES;
 use aes3_input::{Input, feed_fronts};
 use aes3_status::Change;
 use aes3_wave::{Channels, WaveFormat};
+
+/// More octets than a frame has: a header has its length in 16 bits.
+pub(crate) const FRAME_MOST: usize = 65_536;
+
+/// The octets after the header of a WAV file, as they come, and the block that their samples have
+/// begun.
+#[derive(Drop)]
+pub(crate) struct WaveInput {
+    pub samples: SampleInput,
+    pub format: WaveFormat,
+    /// The two channels that are taken.
+    pub channels: Channels,
+    /// How many octets are samples at most, and how many of them are still to come.
+    pub len: u64,
+    pub left: u64,
+    /// The octets of the current frame, and how many there are.
+    pub begun: [u8; FRAME_MOST],
+    pub at: usize,
+    ghost first: { channels.first < format.channels },
+    ghost second: { ForSome channels.second (λ n. n < format.channels) },
+    ghost few: { at < frame_len format },
+    ghost room: { at < 65536 },
+    ghost frame: { frame_len format < 65536 },
+    ghost most: { len ≤ frames_most format },
+}
 
 /// How many frames are taken at most: their samples of 32 bits have 2^40 octets.
 const FRAMES_MOST: u64 = 137_438_953_472;
@@ -88,10 +114,10 @@ impl WaveInput {
     fn frames_due(&self, octets: &[u8]) -> usize
         requires { frame_len self.now.format ≤ length octets.now }
         ensures some { 0 < result }
-        ensures few { result ≤ BLOCK_FRAMES }
+        ensures few { result ≤ FRAMES }
         ensures frames { result * frame_len self.now.format ≤ length octets.now }
     {
-        let due = BLOCK_FRAMES - self.samples.begun_len() / PAIR_LEN;
+        let due = FRAMES - self.samples.begun_len() / PAIR_LEN;
         (octets.len() / self.format.frame_len()).min(due)
     }
 
@@ -161,7 +187,7 @@ impl WaveInput {
         block: &[u8; BLOCK_BYTES],
     ) -> Result<usize, RunError>
         requires some { 0 < count }
-        requires few { count ≤ BLOCK_FRAMES }
+        requires few { count ≤ FRAMES }
         requires frames { count * frame_len self.old.format ≤ length octets.now }
         requires block { take (PAIR_LEN * count) (widened form (take (block_len form) block.now))
             ≡ parts_of (two_samples self.old.format self.old.channels)

@@ -6,7 +6,7 @@ ghost use Rattle.std.specs.Option.{ForSome};
 ghost use Rattle.aes3_cell.specs.Ends.{Grew, Told};
 ghost use Rattle.aes3_engine.specs.Sampling.{pcm_words};
 ghost use Rattle.aes3_input.specs.Running.{movement_of};
-ghost use Rattle.aes3_forms_samples.specs.declared.format.SampleFormat.TheVariants.{S32};
+ghost use Rattle.aes3_forms_samples.specs.declared.sample_format.SampleFormat.TheVariants.{S32};
 ghost use Rattle.aes3_wave_runs.specs.FromWav.{WaveRun, change_for, channels_for, has_channels, has_second};
 ghost use Rattle.aes3_wave.specs.Formats.{frame_len};
 ghost use Rattle.aes3_wave_runs.specs.Wave.{IsWave, SamplesRun, file_samples, frames_in, limit_of};
@@ -14,13 +14,12 @@ ghost use Rattle.aes3_wave_runs.specs.Wave.{wave_file};
 ghost use Rattle.aes3_wave.specs.declared.chunk.WaveHeader.{WaveHeader};
 ghost use Rattle.aes3_wave.specs.Headers.{judged};
 
-use crate::error::WaveError;
 use crate::frames::PAIR_LEN;
 use crate::header::read_header;
 use crate::options::{Converted, WaveOptions};
-use crate::state::WaveInput;
-use crate::status::status_of;
-use crate::wave_input::{frames_most, taken_len};
+use crate::status_use::status_of;
+use crate::wave_error::WaveError;
+use crate::wave_input::{WaveInput, frames_most, taken_len};
 use aes3_cell::{Counts, RunError, Sink, Source};
 use aes3_forms_samples::SampleFormat;
 use aes3_forms_words::Words;
@@ -131,7 +130,7 @@ fn change_for(options: &WaveOptions, format: WaveFormat) -> Change
 
 /// Writes a block file of the samples of a WAV file: two channels of each frame, as
 /// `from_pcm_words` does with samples of 32 bits whose other bits are 0. The channel status says
-/// the sampling frequency and the width, except for what [`crate::unsaid_of`] returns. What comes
+/// the sampling frequency and the width, except for what [`crate::missing_codes`] returns. What comes
 /// after the samples is ignored. Each block is written as soon as its samples have come.
 ///
 /// # Errors

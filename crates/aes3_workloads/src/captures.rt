@@ -2,8 +2,8 @@
 
 ghost use Rattle.std.specs.Prelude.{◌≡◌, ◌+◌, ◌<◌, ◌≤◌, ◌^◌};
 
-use crate::line::is_high;
 use crate::numbers::Numbers;
+use crate::workload_lines::is_high;
 use aes3_capture_recovery::Unit;
 use std::alloc::{AllocError, Global};
 

@@ -4,12 +4,12 @@ ghost use Rattle.std.specs.Prelude.{◌≡◌, ◌+◌, ◌<◌, ◌≤◌, ◌^
 
 use crate::captures::{Sampling, captures, still};
 use crate::digest::Digest;
-use crate::line::{
+use crate::numbers::Numbers;
+use crate::runs::{run_capture, run_command, some_of};
+use crate::workload_lines::{
     Layout, NO_STATUS, blocks, dense_preambles, noise, packed_cells, samples_of_block, slipped,
     text_cells, with_turned_cells,
 };
-use crate::numbers::Numbers;
-use crate::runs::{run_capture, run_command, some_of};
 use aes3_capture_recovery::Unit;
 use anyhow::{Result, bail};
 use std::alloc::{AllocError, Global};

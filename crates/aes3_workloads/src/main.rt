@@ -9,7 +9,7 @@ mod digest;
 /// The workloads.
 mod jobs;
 /// Blocks of audio and their cells.
-mod line;
+mod workload_lines;
 /// Numbers that look random.
 mod numbers;
 /// A source of pieces in random order.

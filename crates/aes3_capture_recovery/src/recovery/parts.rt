@@ -4,7 +4,7 @@ ghost use Rattle.std.specs.Prelude.{◌≡◌};
 ghost use Rattle.aes3_capture_recovery.specs.Parts.{known_of, state_code, state_of};
 
 use crate::line_follower::{LineFollower, LineParts, flag, is_set};
-use crate::measure::RUNS;
+use crate::period::RUNS;
 use crate::recovery::{Figures, Recovery, State};
 
 /// The numbers of a recovery, for a caller that keeps it in a form of its own: [`Recovery::parts`] gives them, and

@@ -6,9 +6,9 @@ ghost use Rattle.aes3_level.specs.Words.{low_cells, word_cells};
 ghost use Rattle.aes3_lock.specs.Reports.{decided};
 ghost use Rattle.aes3_lock.specs.Following.{Follows, HeldBlock, report_in};
 
+use crate::begun_subframe::with_next;
 use crate::lock::Lock;
 use crate::report::{Ending, Pushed, Report};
-use crate::subframe::with_next;
 use aes3_level::Level;
 use arrayvec::ArrayVec;
 

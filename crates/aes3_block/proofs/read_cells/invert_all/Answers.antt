@@ -6,19 +6,19 @@ use Rattle.aes3_level.specs.Words.{word_cells}
 use Rattle.aes3_frame.proofs.GatheredWords.{inverted-more}
 use Rattle.aes3_block.proofs.read_cells.invert_all.Goals as goal
 
-pub loop-slot-preserved : goal.loop-slot-preserved
-loop-slot-preserved c =
-    let i = c.loop-slot.slot in
-    let len = c.loop-slot.invariant.len in
+pub loop-subframe-preserved : goal.loop-subframe-preserved
+loop-subframe-preserved c =
+    let i = c.loop-subframe.subframe in
+    let len = c.loop-subframe.invariant.len in
     record {
-      len = length-set c.loop-slot.cells i c.inverted.result ∙ len;
-      cells = inverted-more c.args.words.now c.loop-slot.cells i c.inverted.result (omega arith)
-          (omega (arith, len)) c.loop-slot.invariant.cells c.inverted.ensures;
+      len = length-set c.loop-subframe.cells i c.inverted.result ∙ len;
+      cells = inverted-more c.args.words.now c.loop-subframe.cells i c.inverted.result (omega arith)
+          (omega (arith, len)) c.loop-subframe.invariant.cells c.inverted.ensures;
     }
 
 pub returns : goal.returns
 returns c =
-    let len = c.loop-slot.invariant.len in
-    ap (flat_map word_cells) (sym (take_all c.loop-slot.slot c.loop-slot.cells (omega (arith, len))))
-    ∙ c.loop-slot.invariant.cells
-    ∙ ap (λ ws. map other (flat_map word_cells ws)) (take_all c.loop-slot.slot c.args.words.now (omega arith))
+    let len = c.loop-subframe.invariant.len in
+    ap (flat_map word_cells) (sym (take_all c.loop-subframe.subframe c.loop-subframe.cells (omega (arith, len))))
+    ∙ c.loop-subframe.invariant.cells
+    ∙ ap (λ ws. map other (flat_map word_cells ws)) (take_all c.loop-subframe.subframe c.args.words.now (omega arith))

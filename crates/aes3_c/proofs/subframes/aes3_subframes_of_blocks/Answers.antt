@@ -1,5 +1,5 @@
 use Rattle.std.proofs.Common.{◌/◌, subst}
-use Rattle.aes3_forms_words.specs.declared.form.Words.{Words}
+use Rattle.aes3_forms_words.specs.declared.alsa_am824.Words.{Words}
 use Rattle.aes3_c.specs.declared.block_form.BlockForm.TheVariants.{Subframes}
 use Rattle.aes3_c.specs.Blocks.{AreBlocks}
 use Rattle.aes3_c.proofs.subframes.aes3_subframes_of_blocks.Goals as goal

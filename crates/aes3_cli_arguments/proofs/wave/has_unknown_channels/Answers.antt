@@ -1,6 +1,6 @@
 use Rattle.std.proofs.Common.{◌∙◌, Option, codes, false, not, is_some, sym, ap}
 use Rattle.std.specs.Option.{option_map_or}
-use Rattle.aes3_wave.specs.declared.samples.Channels.{Channels}
+use Rattle.aes3_wave.specs.declared.channels.Channels.{Channels}
 use Rattle.aes3_cli_arguments.specs.Jobs.{channels_in}
 use Rattle.aes3_cli_arguments.proofs.Misuses.{none_is}
 use Rattle.aes3_cli_arguments.proofs.OptionReads.{text_is}

@@ -22,8 +22,8 @@ returns-clause-piece g c = run-piece c.args.input c.args.output c.run_blocks.res
 pub returns-clause-damaged : goal.returns-clause-damaged
 returns-clause-damaged g c = run-damaged c.args.input c.args.output c.run_blocks.result c.run_blocks.ensures.ran
 
-pub returns-clause-left : goal.returns-clause-left
-returns-clause-left g c = run-left c.args.input c.args.output c.run_blocks.result c.run_blocks.ensures.ran
+pub returns-clause-all_left : goal.returns-clause-all_left
+returns-clause-all_left g c = run-left c.args.input c.args.output c.run_blocks.result c.run_blocks.ensures.ran
 
 pub returns-clause-lost : goal.returns-clause-lost
 returns-clause-lost g c = run-lost c.args.input c.args.output c.run_blocks.result c.run_blocks.ensures.ran

@@ -1,7 +1,7 @@
 use Rattle.std.proofs.Common.{◌≡◌, ◌*◌, length, sym, ap, ◌∙◌, arith}
 use Rattle.std.proofs.lemmas.List.{length-map}
 use Rattle.aes3_frame.specs.Files.{payload_of}
-use Rattle.aes3_frame.proofs.BlockLemmas.{block_slots_384}
+use Rattle.aes3_frame.proofs.BlockLemmas.{block_subframes_384}
 use Rattle.aes3_engine.proofs.ValidSamples.{frame-more, silent-all}
 use Rattle.aes3_engine.proofs.valid_samples.silence.Goals as goal
 
@@ -12,7 +12,7 @@ loop-i-preserved c =
 
 pub returns : goal.returns
 returns c =
-    let n = block_slots_384 in
+    let n = block_subframes_384 in
     let w = c.words.ensures.count in
     let l : length c.args.block.now ≡ length c.words.result.now =
     sym (ap length c.words.ensures.payloads) ∙ length-map c.words.result.now payload_of in

@@ -1,8 +1,8 @@
 use Rattle.std.proofs.Common.{◌≡◌, ◌+◌, ◌*◌, ap, ◌∙◌, arith, get_or, length}
 use Rattle.std.proofs.lemmas.List.{length-replicate}
-use Rattle.aes3_frame.specs.Blocks.{block_slots}
+use Rattle.aes3_frame.specs.Blocks.{block_subframes}
 use Rattle.aes3_frame.specs.Files.{is_lawful, payload_of}
-use Rattle.aes3_frame.proofs.BlockLemmas.{zeros-lawful, block_slots_384}
+use Rattle.aes3_frame.proofs.BlockLemmas.{zeros-lawful, block_subframes_384}
 use Rattle.aes3_frame.proofs.FourWords.{all-four, lawful-placed, payloads-placed}
 use Rattle.aes3_frame.proofs.GatheredWords.{length-with_first}
 use Rattle.aes3_frame.proofs.SlotWords.{carried, carried-all}
@@ -10,14 +10,14 @@ use Rattle.aes3_frame.proofs.gathered.block_of_fours.Goals as goal
 
 pub loop-i-init : goal.loop-i-init
 loop-i-init c = record {
-  len = ap length c.zero_words-lawful.ensures ∙ length-replicate block_slots 0 ∙ block_slots_384;
+  len = ap length c.zero_words-lawful.ensures ∙ length-replicate block_subframes 0 ∙ block_subframes_384;
   lawful = zeros-lawful c.zero_words-lawful.result c.zero_words-lawful.ensures;
   payloads = λ k h. absurd (omega arith);
 }
 
 pub words_of_four-requires : goal.words_of_four-requires
 words_of_four-requires c = λ e.
-    let n = block_slots_384 in
+    let n = block_subframes_384 in
     let at = 4 * c.loop-i.i in
     all-four _ (c.requires e at (omega arith)) (c.requires e (at + 1) (omega arith))
     (c.requires e (at + 2) (omega arith)) (c.requires e (at + 3) (omega arith))

@@ -6,8 +6,8 @@ use Rattle.aes3_input.proofs.packed_input.take_octet.Goals as goal
 pub feed_byte-requires : goal.feed_byte-requires
 feed_byte-requires g c = let h = c.requires.following in let l = h.1 in let e = octets-seen h.2 in omega arith
 
-pub hand_on-requires-clause-following : goal.hand_on-requires-clause-following
-hand_on-requires-clause-following g c =
+pub take_octet_cells-requires-clause-following : goal.take_octet_cells-requires-clause-following
+take_octet_cells-requires-clause-following g c =
     let h = c.requires.following in
     let l = h.1 in
     let n = few-cells h.0 in
@@ -32,10 +32,10 @@ returns-in-None g c = (
 pub returns-in-Ok : goal.returns-in-Ok
 returns-in-Ok g c =
     let r = c.in-Ok.ensures in (
-      octet-whole (g.K.Taker.state c.args.taker.now).writes (g.K.Taker.state c.hand_on.new.taker).writes
-          (g.K.Taker.state c.args.taker.now).follows (g.K.Taker.state c.hand_on.new.taker).follows
+      octet-whole (g.K.Taker.state c.args.taker.now).writes (g.K.Taker.state c.take_octet_cells.new.taker).writes
+          (g.K.Taker.state c.args.taker.now).follows (g.K.Taker.state c.take_octet_cells.new.taker).follows
           c.args.input.now.packed c.feed_byte.new.self c.args.input.now.cells c.args.octet c.in-Some.whole
-          (g.T.Sink.taken c.args.sink.now) (g.T.Sink.taken c.hand_on.new.sink)
+          (g.T.Sink.taken c.args.sink.now) (g.T.Sink.taken c.take_octet_cells.new.sink)
           (sym c.in-Some.is ∙ c.feed_byte.ensures.answer) c.feed_byte.ensures.next r.0 r.1 r.2,
       r.3,
     )
@@ -46,6 +46,6 @@ returns-in-Err g c =
       r.0,
       octet-front (g.K.Taker.state c.args.taker.now).writes (g.K.Taker.state c.args.taker.now).follows
           c.args.input.now.packed c.args.input.now.cells c.args.octet c.in-Some.whole
-          (g.T.Sink.taken c.args.sink.now) (g.T.Sink.taken c.hand_on.new.sink)
+          (g.T.Sink.taken c.args.sink.now) (g.T.Sink.taken c.take_octet_cells.new.sink)
           (sym c.in-Some.is ∙ c.feed_byte.ensures.answer) r.1,
     )

@@ -1,5 +1,5 @@
 use Rattle.aes3_slot.specs.Reading.{read_slots}
-use Rattle.aes3_frame.specs.Blocks.{block_slots}
+use Rattle.aes3_frame.specs.Blocks.{block_subframes}
 use Rattle.aes3_lock.proofs.Refutations.{fault-front, fault-viable, fault-within, viable-fault, fault-unclosed}
 use Rattle.aes3_lock.proofs.Refutations.{unclosed-fault}
 use Rattle.aes3_lock.proofs.laws.fault_where_no_block_begins.Goals as goal
@@ -11,7 +11,7 @@ returns c = record {
     λ e. viable-fault c f h e.within e.viable e.ends,
   );
   unclosed = λ c. (
-    λ o. record { slots = read_slots block_slots c; stand = (fault-unclosed c o).0; unclosed = (fault-unclosed c o).1 },
+    λ o. record { slots = read_slots block_subframes c; stand = (fault-unclosed c o).0; unclosed = (fault-unclosed c o).1 },
     λ u. unclosed-fault c u.slots u.stand u.unclosed,
   );
   within = fault-within;

@@ -4,7 +4,7 @@ use Rattle.aes3_slot.specs.Rules.{at, rule}
 use Rattle.aes3_frame.specs.Blocks.{mark_at}
 use Rattle.aes3_lock.proofs.OnePlace.{walk-inside, walk-whole, walk-same, walk-full, walk-stops, walk-all}
 use Rattle.aes3_lock.proofs.slow.go_through.Goals as goal
-use Rattle.aes3_frame.proofs.BlockLemmas.{block_slots_384}
+use Rattle.aes3_frame.proofs.BlockLemmas.{block_subframes_384}
 use Rattle.aes3_frame.proofs.CellLaws.{block_len_24576}
 
 pub returns-then-offset-eq-BLOCK_CELLS-clause-front : goal.returns-then-offset-eq-BLOCK_CELLS-clause-front
@@ -24,7 +24,7 @@ pub loop-cell-preserved : goal.loop-cell-preserved
 loop-cell-preserved c =
     let i = c.loop-cell.invariant.count in
     let n = block_len_24576 in
-    let m = block_slots_384 in
+    let m = block_subframes_384 in
     let few = c.loop-cell.invariant.walked.few in
     let l = c.if-offset-eq-BLOCK_CELLS.false in
     let right : rule mark_at c.loop-cell.offset

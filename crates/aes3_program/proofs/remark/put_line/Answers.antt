@@ -9,12 +9,12 @@ pub returns : goal.returns
 returns g c =
     wrote-is (ap (λ head. head ++ (c.args.text.now ++ c.args.remedy.now)) c.head.ensures
     ∙ line-joined c.args.channel c.args.text.now c.args.remedy.now)
-    (wrote-behind c.put_rest.result c.in_ok-hand_on.ensures.count c.in_ok-hand_on.ensures.grew c.put_rest.ensures)
+    (wrote-behind c.put_rest.result c.in_ok-write_to.ensures.count c.in_ok-write_to.ensures.grew c.put_rest.ensures)
 
-pub returns-in_err-hand_on : goal.returns-in_err-hand_on
-returns-in_err-hand_on g c =
+pub returns-in_err-write_to : goal.returns-in_err-write_to
+returns-in_err-write_to g c =
     let p = err_from_is_err_and c.from_residual.result c.from_residual.ensures.1 in
-    let f = c.in_err-hand_on.ensures.err in
+    let f = c.in_err-write_to.ensures.err in
     rw p.1 (record {
       grew = tt;
       count = tt;

@@ -1,6 +1,6 @@
 use Rattle.std.proofs.Common.{◌≡◌, rules}
 use Rattle.std.proofs.lemmas.Result.{err_from_is_err_and}
-use Rattle.aes3_forms_samples.specs.declared.format.SampleFormat.TheVariants.{S16}
+use Rattle.aes3_forms_samples.specs.declared.sample_format.SampleFormat.TheVariants.{S16}
 use Rattle.aes3_lock_runs.proofs.ReportRuns.{none-told}
 use Rattle.aes3_engine.specs.ExactSamples.{first_unfit}
 use Rattle.aes3_engine.specs.Filling.{placed}

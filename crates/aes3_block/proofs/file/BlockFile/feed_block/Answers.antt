@@ -2,7 +2,7 @@ use Rattle.std.proofs.Common.{◌≡◌, ◌+◌, ◌*◌, ◌%◌, ◌^◌, ◌
 use Rattle.std.proofs.Common.{subst, ◌∙◌}
 use Rattle.aes3_frame.specs.Files.{is_lawful, payload_of, words_of}
 use Rattle.aes3_block.specs.Readers.{FileReader, TakesBlock}
-use Rattle.aes3_frame.proofs.BlockLemmas.{block_slots_384}
+use Rattle.aes3_frame.proofs.BlockLemmas.{block_subframes_384}
 use Rattle.aes3_block.proofs.BlockReads.{takes-block, words-again}
 use Rattle.aes3_frame.proofs.Bytes.{length-low_bytes}
 use Rattle.aes3_block.proofs.Reading.{stored}
@@ -51,7 +51,7 @@ returns-clause-taken c =
     let v = c.self.inside in
     let words = c.words_of_block-words.result in
     let none = none-is v.fault (sym c.is_some.ensures ∙ c.if-is_some.false) in
-    let n = block_slots_384 in
+    let n = block_subframes_384 in
     let len : length words ≡ 384 = omega arith in
     subst (λ (x : List (List Bool)). TakesBlock c.args.self.now c.args.bytes.now x
     (stored (v.seen + 1536) v.words.items v.word v.fault)) (sym c.of_words.ensures)

@@ -9,8 +9,8 @@ use Rattle.aes3_block.proofs.WordReads.{takes-word, quiet-word, number-bytes, no
 use Rattle.aes3_block.proofs.file.BlockFile.feed_word.Goals as goal
 use Rattle.aes3_block.proofs.file.BlockFile.feed_word.Goals.{then-is_some-via-then-is_some}
 use Rattle.aes3_block.proofs.file.BlockFile.feed_word.Goals.{then-is_some-via-else-is_some+then-self-ne0}
-use Rattle.aes3_block.proofs.file.BlockFile.feed_word.Goals.{then-len-eq-SLOTS-via-then-len-eq-SLOTS}
-use Rattle.aes3_block.proofs.file.BlockFile.feed_word.Goals.{then-len-eq-SLOTS-via-else-len-eq-SLOTS+then-is_some-2}
+use Rattle.aes3_block.proofs.file.BlockFile.feed_word.Goals.{then-len-eq-SUBFRAMES-via-then-len-eq-SUBFRAMES}
+use Rattle.aes3_block.proofs.file.BlockFile.feed_word.Goals.{then-len-eq-SUBFRAMES-via-else-len-eq-SUBFRAMES+then-is_some-2}
 
 pub returns-then-is_some-clause-stops : goal.returns-then-is_some-clause-stops
 returns-then-is_some-clause-stops c = λ r e s t.
@@ -25,8 +25,8 @@ returns-then-is_some-clause-stops c = λ r e s t.
           ∙ ap length (ap (λ (k : FileReader). k.bytes) c.self.view_is ∙ e))
     ]
 
-pub returns-then-len-eq-SLOTS-clause-stops : goal.returns-then-len-eq-SLOTS-clause-stops
-returns-then-len-eq-SLOTS-clause-stops c = λ r e s t.
+pub returns-then-len-eq-SUBFRAMES-clause-stops : goal.returns-then-len-eq-SUBFRAMES-clause-stops
+returns-then-len-eq-SUBFRAMES-clause-stops c = λ r e s t.
     let v = c.self.inside in
     let count = c.self.invariant.0 in
     let none = none-is v.fault (sym c.is_some.ensures ∙ c.if-is_some.false) in
@@ -36,10 +36,10 @@ returns-then-len-eq-SLOTS-clause-stops c = λ r e s t.
     (subst (λ d. TakesQuietly (stored v.seen v.words.items v.word None) d s) b
     (subst (λ k. TakesQuietly k c.args.bytes.now s)
     (sym (ap (stored v.seen v.words.items v.word) (sym none) ∙ c.self.view_is)) t)) in
-    elim c.then-len-eq-SLOTS.branch [
-      | then-len-eq-SLOTS-via-then-len-eq-SLOTS w ↦ let h = q.1 in let z = w.if-len-eq-SLOTS.true in
+    elim c.then-len-eq-SUBFRAMES.branch [
+      | then-len-eq-SUBFRAMES-via-then-len-eq-SUBFRAMES w ↦ let h = q.1 in let z = w.if-len-eq-SUBFRAMES.true in
           absurd (omega (arith, h, z, count))
-      | then-len-eq-SLOTS-via-else-len-eq-SLOTS+then-is_some-2 w ↦ none-not _ (sym w.is_some-else-len-eq-SLOTS.ensures
+      | then-len-eq-SUBFRAMES-via-else-len-eq-SUBFRAMES+then-is_some-2 w ↦ none-not _ (sym w.is_some-else-len-eq-SUBFRAMES.ensures
           ∙ w.if-is_some-2.true) (w.fault_of_word.ensures ∙ q.0)
     ]
 
@@ -48,10 +48,10 @@ invariant_of-self c =
     let v = c.self.inside in
     let w = c.from_le_bytes-word.result in
     let count = c.self.invariant.0 in
-    let few = c.if-len-eq-SLOTS.false in
+    let few = c.if-len-eq-SUBFRAMES.false in
     let start = c.if-self-ne0.false in
     let l = ap length c.push.ensures.items ∙ length-append v.words.items (w ∷ []) in
-    let f = none-is _ (sym c.is_some-else-len-eq-SLOTS.ensures ∙ c.if-is_some-2.false) in
+    let f = none-is _ (sym c.is_some-else-len-eq-SUBFRAMES.ensures ∙ c.if-is_some-2.false) in
     let e = fault-lawful (v.seen / 4) w (sym c.fault_of_word.ensures ∙ f) in (
       omega (arith, l, count, few, start),
       subst (λ (all : List ℕ). (i : ℕ) → i < length all → is_lawful (get_or all i 0) ≡ true) (sym c.push.ensures.items)
@@ -64,10 +64,10 @@ returns-clause-quiet c = λ r.
     let v = c.self.inside in
     let w = c.from_le_bytes-word.result in
     let count = c.self.invariant.0 in
-    let few = c.if-len-eq-SLOTS.false in
+    let few = c.if-len-eq-SUBFRAMES.false in
     let none = none-is v.fault (sym c.is_some.ensures ∙ c.if-is_some.false) in
     let b = number-bytes c.args.bytes.now w c.told-bytes c.fits-bytes c.from_le_bytes-word.ensures (omega arith) in
-    let f = none-is _ (sym c.is_some-else-len-eq-SLOTS.ensures ∙ c.if-is_some-2.false) in
+    let f = none-is _ (sym c.is_some-else-len-eq-SUBFRAMES.ensures ∙ c.if-is_some-2.false) in
     let q = takes-word v.seen v.words.items v.word w c.if-self-ne0.false count (omega arith)
     (sym c.fault_of_word.ensures ∙ f) (omega (arith, count, few)) in
     subst (λ (all : List ℕ). TakesQuietly c.args.self.now c.args.bytes.now (stored (v.seen + 4) all 0 v.fault))

@@ -1,10 +1,11 @@
 use Rattle.std.proofs.Common.{◌∙◌, ◌++◌, ap, IfSome, Option, arith, get_or, subst, sym}
 use Rattle.std.proofs.lemmas.List.{get_or-set_same}
 use Rattle.aes3_capture_recovery.specs.Levels.{levels_of_samples}
+use Rattle.aes3_capture_recovery.proofs.Unfailing.{ok-unless}
 use Rattle.aes3_capture_places.specs.Marks.{no_mark}
 use Rattle.aes3_capture_places.specs.Placing.{IsMark}
 use Rattle.aes3_capture_places.specs.declared.marks.Mark.{Mark}
-use Rattle.aes3_capture_places.proofs.Marking.{counting, marks-set, marks-stay, ok-unless}
+use Rattle.aes3_capture_places.proofs.Marking.{counting, marks-set, marks-stay}
 use Rattle.aes3_capture_places.proofs.places.Places.take.Goals as goal
 
 pub returns-then-mark-saturating_add-clause-placed : goal.returns-then-mark-saturating_add-clause-placed

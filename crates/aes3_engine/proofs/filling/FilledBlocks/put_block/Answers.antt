@@ -3,7 +3,7 @@ use Rattle.std.proofs.lemmas.Result.{err_from_is_err_and}
 use Rattle.aes3_cell.proofs.Growing.{front-more}
 use Rattle.aes3_cell.proofs.Writing.{ok-always, wrote-is, wrote-behind}
 use Rattle.aes3_frame.specs.Samples.{block_samples}
-use Rattle.aes3_forms_samples.specs.declared.format.SampleFormat.{SampleFormat}
+use Rattle.aes3_forms_samples.specs.declared.sample_format.SampleFormat.{SampleFormat}
 use Rattle.aes3_forms_samples.specs.Formats.{narrowed}
 use Rattle.aes3_engine.proofs.filling.FilledBlocks.put_block.Goals as goal
 

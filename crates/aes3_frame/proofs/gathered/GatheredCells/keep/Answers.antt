@@ -7,19 +7,19 @@ use Rattle.aes3_frame.proofs.gathered.GatheredCells.keep.Goals as goal
 pub invariant_of-self : goal.invariant_of-self
 invariant_of-self c =
     let v = c.self.inside in
-    let slot = c.args.slot in
+    let subframe = c.args.subframe in
     let x = c.args.cells in
     let l = c.self.told in
     let put : (i : ℕ) → i < c.from-more.result
-    → IsRight c.args.before (mark_at (slot + i)) (get_or (set v.words slot x) (slot + i) 0) = λ i h.
+    → IsRight c.args.before (mark_at (subframe + i)) (get_or (set v.words subframe x) (subframe + i) 0) = λ i h.
     let one = one-more c.wrong_in.result c.from-more.result i c.from-more.ensures h in
-    let here : slot ≡ slot + i = omega (arith, one.0) in
-    subst (λ k. IsRight c.args.before (mark_at k) (get_or (set v.words slot x) k 0)) here
-    (subst (IsRight c.args.before (mark_at slot)) (sym (get_or-set_same v.words slot x 0 (omega (arith, l))))
+    let here : subframe ≡ subframe + i = omega (arith, one.0) in
+    subst (λ k. IsRight c.args.before (mark_at k) (get_or (set v.words subframe x) k 0)) here
+    (subst (IsRight c.args.before (mark_at subframe)) (sym (get_or-set_same v.words subframe x 0 (omega (arith, l))))
     (subst (λ m. IsRight c.args.before m x) c.mark_of.ensures (c.wrong_in.ensures one.1)))
     in
-    right-behind v.before c.args.before v.right c.right_behind-self-inside.result slot c.from-more.result v.words
-    (set v.words slot x) c.self.invariant
+    right-behind v.before c.args.before v.right c.right_behind-self-inside.result subframe c.from-more.result v.words
+    (set v.words subframe x) c.self.invariant
     c.right_behind-self-inside.ensures
-    (λ j h. get_or-set_other v.words slot j x 0 (λ e. omega (arith, h, e)))
+    (λ j h. get_or-set_other v.words subframe j x 0 (λ e. omega (arith, h, e)))
     put

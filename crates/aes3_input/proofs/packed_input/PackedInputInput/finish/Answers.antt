@@ -3,8 +3,8 @@ use Rattle.aes3_cell.specs.Packed.{whole_cells}
 use Rattle.aes3_input.proofs.PackedLemmas.{few-cells, last-used, last-ok, last-front, last-bad}
 use Rattle.aes3_input.proofs.packed_input.PackedInputInput.finish.Goals as goal
 
-pub hand_on_last-requires-clause-following : goal.hand_on_last-requires-clause-following
-hand_on_last-requires-clause-following g c =
+pub take_last_octet-requires-clause-following : goal.take_last_octet-requires-clause-following
+take_last_octet-requires-clause-following g c =
     let h = c.requires.following in
     let l = h.1 in
     let n = few-cells h.0 in
@@ -21,23 +21,23 @@ overflow_add-self g c =
     let k = c.from.ensures in
     omega arith
 
-pub returns-in-Ok-hand_on_last : goal.returns-in-Ok-hand_on_last
-returns-in-Ok-hand_on_last g c =
-    let r = c.in-Ok-hand_on_last.ensures in (
+pub returns-in-Ok-take_last_octet : goal.returns-in-Ok-take_last_octet
+returns-in-Ok-take_last_octet g c =
+    let r = c.in-Ok-take_last_octet.ensures in (
       last-ok (g.K.Taker.state c.args.taker.now).writes (g.K.Taker.state c.args.taker.now).follows
-          (g.K.Taker.state c.hand_on_last.new.taker).finished
+          (g.K.Taker.state c.take_last_octet.new.taker).finished
           c.args.self.now.packed c.args.self.now.cells c.in-Ok.last c.unwrap_or-octet.result c.from.result
-          (g.T.Sink.taken c.args.sink.now) (g.T.Sink.taken c.hand_on_last.new.sink)
+          (g.T.Sink.taken c.args.sink.now) (g.T.Sink.taken c.take_last_octet.new.sink)
           (sym c.in-Ok.is ∙ c.end.ensures.answer) c.unwrap_or-octet.ensures c.from.ensures r.0,
       r.1,
     )
 
-pub returns-in-Err-hand_on_last : goal.returns-in-Err-hand_on_last
-returns-in-Err-hand_on_last g c =
-    let r = c.in-Err-hand_on_last.ensures in (
+pub returns-in-Err-take_last_octet : goal.returns-in-Err-take_last_octet
+returns-in-Err-take_last_octet g c =
+    let r = c.in-Err-take_last_octet.ensures in (
       last-front (g.K.Taker.state c.args.taker.now).writes (g.K.Taker.state c.args.taker.now).follows
           c.args.self.now.packed c.args.self.now.cells c.in-Ok.last c.unwrap_or-octet.result
-          (g.T.Sink.taken c.args.sink.now) (g.T.Sink.taken c.hand_on_last.new.sink)
+          (g.T.Sink.taken c.args.sink.now) (g.T.Sink.taken c.take_last_octet.new.sink)
           (sym c.in-Ok.is ∙ c.end.ensures.answer) c.unwrap_or-octet.ensures r.1,
       r.0,
     )

@@ -35,11 +35,11 @@ loop-taken-init c =
 pub keep_eight-requires-clause-right : goal.keep_eight-requires-clause-right
 keep_eight-requires-clause-right c = λ i h.
     let t = c.in-Some.candidate in
-    let slot = (c.self.inside.seen - t.at) / 64 in
+    let subframe = (c.self.inside.seen - t.at) / 64 in
     let e = c.loop-taken.invariant.eights in
     let o = c.if-offset-lt-SUBFRAME_CELLS.false in
     subst (λ m. IsRight t.level m (get_or c.eight_completed-subframes.result i 0))
-    (mark-even slot c.loop-taken.taken i (omega (arith, o)) (omega (arith, e)))
+    (mark-even subframe c.loop-taken.taken i (omega (arith, o)) (omega (arith, e)))
     (c.are_subframes.ensures.right c.if-not-are_subframes.false i h)
 
 fits : (c : goal.After-self-1) (i : ℕ) → get_or c.args.words.now i 0 < 2 ^ 64
@@ -74,14 +74,14 @@ goes-on c l f =
     let so_far = l ++ flat_map word_cells (take at words) in
     let follows = i.follows l f in
     let len = (c.self.inside.seen - t.at) % 64 in
-    let slot = (c.self.inside.seen - t.at) / 64 in
+    let subframe = (c.self.inside.seen - t.at) / 64 in
     let part : (c.loop-taken.self-inside.seen + 64 * at - t.at) % 64 ≡ len = omega (arith, seen, s, o) in
-    let some : 0 < slot = omega (arith, o) in
+    let some : 0 < subframe = omega (arith, o) in
     let few = subst (λ p. c.loop-taken.behind < 2 ^ p) part (begun-few now t so_far follows refl) in
     let next = lock_behind c.loop-taken.self-inside.seen c.last_octet-self-inside.result t c.rest_of-rest.result
     c.keep_eight.new.self (at + 8) in
     let a = eight-later now t so_far eight c.eight_completed-subframes.result follows refl i.count count
-    (front-fits eight words at count front (fits c)) slot at len some
+    (front-fits eight words at count front (fits c)) subframe at len some
     (omega (arith, e)) (omega (arith, seen, s, o)) part (omega (arith, seen, s, o, r, b))
     (c.eight_completed-subframes.ensures few)
     (c.are_subframes.ensures.fronts c.if-not-are_subframes.false)

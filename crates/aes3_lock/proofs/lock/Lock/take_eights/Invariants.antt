@@ -2,7 +2,7 @@ use Rattle.std.proofs.Common.{◌≡◌, ◌≤◌, ◌-◌, ◌%◌, ◌++◌, 
 use Rattle.std.specs.List.{flat_map}
 use Rattle.aes3_level.specs.declared.level.Level.{Level}
 use Rattle.aes3_level.specs.Words.{word_cells}
-use Rattle.aes3_frame.specs.Blocks.{block_slots}
+use Rattle.aes3_frame.specs.Blocks.{block_subframes}
 use Rattle.aes3_lock.specs.Reports.{decided}
 use Rattle.aes3_lock.specs.Following.{Follows}
 use Rattle.aes3_lock.proofs.EightWords.{lock_behind}
@@ -14,7 +14,7 @@ invariant-loop-taken l = record {
   eights : l.taken % 8 ≡ 0;
   seen : l.self-inside.seen ≡ l.fn.self.seen;
   candidate : l.self-inside.candidate ≡ Some l.candidate;
-  count : length l.self-inside.words ≡ block_slots;
+  count : length l.self-inside.words ≡ block_subframes;
   follows : (cells : List Level) → Follows l.fn.self cells
       → Follows (lock_behind l.self-inside.seen l.self-inside.recent l.candidate l.behind l.self-inside.words l.taken)
       (cells ++ flat_map word_cells (take l.taken l.words));

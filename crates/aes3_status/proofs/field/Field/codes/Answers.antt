@@ -1,5 +1,5 @@
 use Rattle.std.proofs.Common.{◌^◌, ap, ◌∙◌, arith}
-use Rattle.aes3_status.specs.declared.place.Place.{Place}
+use Rattle.aes3_status.specs.declared.field.Place.{Place}
 use Rattle.aes3_status.proofs.SetFields.{small, few-codes}
 use Rattle.aes3_status.proofs.field.Field.codes.Goals as goal
 

@@ -1,6 +1,6 @@
 use Rattle.std.proofs.Common.{◌+◌, ◌++◌, ◌∙◌, ap, ap₂, rules}
 use Rattle.std.proofs.lemmas.Result.{err_from_is_err_and}
-use Rattle.aes3_frame.specs.declared.status.Channel.TheVariants.{First, Second}
+use Rattle.aes3_frame.specs.declared.channel.Channel.TheVariants.{First, Second}
 use Rattle.aes3_cell.proofs.Growing.{grew-is, grew-join, front-is, front-join, front-more}
 use Rattle.aes3_text.proofs.StatusChanges.{line_as}
 use Rattle.aes3_text.proofs.status_lines.StatusLines.put_block.Goals as goal

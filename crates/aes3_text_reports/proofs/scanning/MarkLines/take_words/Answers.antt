@@ -106,14 +106,14 @@ ran-by old new d sink (Err x) a b c e f k = k e x
 pub returns : goal.returns
 returns g c =
     let v = c.loop-word.invariant in
-    let r = c.hand_on.ensures in
+    let r = c.write_to.ensures in
     let ws = c.args.words.now in
     let i = c.loop-word.word-index in
     record {
       ran = ran-by (mark_state c.args.self.now.lines c.args.self.now.scan c.args.self.now.marks)
-          (mark_state c.hand_on.new.self c.loop-word.self.scan c.loop-word.self.marks) (flat_map word_cells ws)
-          (movement_of g.T.Sink.taken g.T.Sink.failed c.args.sink.now c.hand_on.new.sink)
-          c.hand_on.result r.none r.wrote.grew r.wrote.count r.wrote.err
+          (mark_state c.write_to.new.self c.loop-word.self.scan c.loop-word.self.marks) (flat_map word_cells ws)
+          (movement_of g.T.Sink.taken g.T.Sink.failed c.args.sink.now c.write_to.new.sink)
+          c.write_to.result r.none r.wrote.grew r.wrote.count r.wrote.err
           (λ none grew count. (
             refl,
             (λ d h. (

@@ -1,5 +1,0 @@
-use Rattle.std.proofs.Common.{refl}
-use Rattle.aes3_capture_recovery.proofs.run.blank_piece.Goals as goal
-
-pub returns : goal.returns
-returns c = refl

@@ -1,7 +1,0 @@
-use Rattle.std.proofs.Common.{rules}
-use Rattle.aes3_cell.specs.CellText.{kind_of}
-use Rattle.aes3_cell.proofs.text_in.CellText.feed_byte.Goals as goal
-
-pub returns-in_default-clause-next : goal.returns-in_default-clause-next
-unfolding kind_of
-returns-in_default-clause-next c = search rules

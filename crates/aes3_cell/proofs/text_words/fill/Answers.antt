@@ -1,5 +1,0 @@
-use Rattle.std.proofs.Common.{rules}
-use Rattle.aes3_cell.proofs.text_words.fill.Goals as goal
-
-pub returns-then-taken-gt0-clause-within : goal.returns-then-taken-gt0-clause-within
-returns-then-taken-gt0-clause-within c = search rules

@@ -1,5 +1,0 @@
-use Rattle.aes3_frame.proofs.CarriedBits.{payload-test}
-use Rattle.aes3_frame.proofs.word.bit_of_word.Goals as goal
-
-pub returns : goal.returns
-returns c = payload-test c.args.word c.args.place c.requires

@@ -1,5 +1,0 @@
-use Rattle.aes3_program.proofs.PackedOutputs.{can-be-reversed}
-use Rattle.aes3_program.proofs.octets.outputs_can_be_reversed.Goals as goal
-
-pub returns : goal.returns
-returns c = can-be-reversed

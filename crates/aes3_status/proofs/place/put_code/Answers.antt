@@ -1,7 +1,0 @@
-use Rattle.std.proofs.Common.{ap, set}
-use Rattle.aes3_status.specs.Settings.{with_field}
-use Rattle.aes3_status.proofs.place.put_code.Goals as goal
-
-pub returns : goal.returns
-unfolding with_field
-returns c = ap (set c.args.bytes.now c.args.place.byte) c.replaced.ensures
