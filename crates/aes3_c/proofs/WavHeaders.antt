@@ -4,7 +4,7 @@ use Rattle.std.proofs.Common.{Option, Some, None, Ok, Err}
 use Rattle.std.proofs.lemmas.List.{take_all}
 use Rattle.aes3_wave.specs.declared.chunk.WaveHeader.{WaveHeader}
 use Rattle.aes3_wave.specs.declared.header_error.HeaderError.{HeaderError}
-use Rattle.aes3_wave.specs.declared.reader.HeaderReader.{HeaderReader}
+use Rattle.aes3_wave.specs.declared.header_reader.HeaderReader.{HeaderReader}
 use Rattle.aes3_wave.specs.Following.{Follows, IsRefused, Took, header_of}
 use Rattle.aes3_wave.specs.Headers.{Judged, judged}
 use Rattle.aes3_wave.proofs.Parts.{decided-stays}

@@ -18,4 +18,4 @@ pub mod GatheredWords
 pub mod FourWords
 pub mod FourCells
 pub mod MendedBlocks
-pub mod CarriedBits
+pub mod WordBits

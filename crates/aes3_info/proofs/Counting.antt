@@ -11,7 +11,7 @@ use Rattle.aes3_lock.specs.declared.report.Report.{Report}
 use Rattle.aes3_lock.specs.declared.report.Report.TheVariants.{Whole, Marked, Fault, Unfinished}
 use Rattle.aes3_lock.specs.Reports.{wholes}
 use Rattle.aes3_lock.proofs.AllStanding.{wholes-append}
-use Rattle.aes3_info.specs.declared.channel.ChannelFacts.{ChannelFacts}
+use Rattle.aes3_info.specs.declared.channel_facts.ChannelFacts.{ChannelFacts}
 use Rattle.aes3_info.specs.Facts.{all_magnitudes, changes_behind, channel_facts, differs, first_of, first_with, greatest}
 use Rattle.aes3_info.specs.Facts.{invalid_in, is_biphase, is_fault, is_marked, is_preamble, is_unclosed, is_unfinished}
 use Rattle.aes3_info.specs.Facts.{is_whole, last_of, magnitudes, more, more_energy, most_count, most_energy, report_facts}

@@ -17,7 +17,7 @@ use Rattle.aes3_watch.specs.Sums.{is_biphase as by_biphase, is_preamble as by_pr
 use Rattle.aes3_frame.specs.Ones.{ones_in}
 use Rattle.aes3_info.specs.declared.reports.ReportFacts.{ReportFacts}
 use Rattle.aes3_info.specs.declared.gaps.GapFacts.{GapFacts}
-use Rattle.aes3_info.specs.declared.channel.ChannelFacts.{ChannelFacts}
+use Rattle.aes3_info.specs.declared.channel_facts.ChannelFacts.{ChannelFacts}
 use Rattle.aes3_info.specs.declared.facts.Facts.{Facts}
 
 -- the greatest count of 64 bits, and the greatest sum of 128; what is counted stays there

@@ -9,7 +9,7 @@ use Rattle.aes3_text_lines.specs.StatusLines.{channel_digit}
 use Rattle.aes3_status_text.specs.StatusTexts.{status_text}
 use Rattle.aes3_status_text.specs.declared.style.Notation.{Notation}
 use Rattle.aes3_status_text.specs.declared.style.Notation.TheVariants.{Words, Json}
-use Rattle.aes3_info.specs.declared.channel.ChannelFacts.{ChannelFacts}
+use Rattle.aes3_info.specs.declared.channel_facts.ChannelFacts.{ChannelFacts}
 use Rattle.aes3_info.specs.declared.facts.Facts.{Facts}
 use Rattle.aes3_info.specs.Facts.{square}
 use Rattle.aes3_info.specs.Levels.{level_of, times}

@@ -1,6 +1,6 @@
 //! All facts on the page.
 
-use crate::channel::ChannelFacts;
+use crate::channel_facts::ChannelFacts;
 use crate::gaps::GapFacts;
 use crate::reports::ReportFacts;
 

@@ -14,7 +14,7 @@ ghost use Rattle.aes3_info.specs.Facts.{facts_of, facts_with, gap_facts, is_whol
 ghost use Rattle.aes3_info.specs.Infos.{Behind, Inspects, info_counts, info_page, inspecting, no_page};
 ghost use Rattle.aes3_info.specs.Infos.{with_samples};
 
-use crate::channel::ChannelFacts;
+use crate::channel_facts::ChannelFacts;
 use crate::facts::Facts;
 use crate::gaps::{GapFacts, behind_full};
 use crate::more::more;

@@ -3,7 +3,7 @@
 #![tactic(auto)]
 
 /// The counts of a channel.
-mod channel;
+mod channel_facts;
 /// Levels below full scale.
 mod decibels;
 /// All facts on the page.

@@ -11,7 +11,7 @@ ghost use Rattle.aes3_info.specs.Pages.{no_level, opening, page, page_rate, rate
 ghost use Rattle.aes3_info.specs.Pages.{seconds_value, silence_value, status_field, tenths_value};
 ghost use Rattle.aes3_info.specs.Pages.{time_fields, unknown};
 
-use crate::channel::ChannelFacts;
+use crate::channel_facts::ChannelFacts;
 use crate::decibels::{level_of, times};
 use crate::facts::Facts;
 use crate::rate::rate_of;

@@ -8,8 +8,8 @@ use Rattle.std.proofs.Math.Seq.{drop-append-add, take-add}
 use Rattle.aes3_wave.specs.declared.header_error.HeaderError.{HeaderError}
 use Rattle.aes3_wave.specs.declared.chunk.Known.{Known}
 use Rattle.aes3_wave.specs.declared.chunk.WaveHeader.{WaveHeader}
-use Rattle.aes3_wave.specs.declared.reader.Stage.{Stage}
-use Rattle.aes3_wave.specs.declared.reader.Stage.TheVariants.{First, Chunks, Whole}
+use Rattle.aes3_wave.specs.declared.header_reader.Stage.{Stage}
+use Rattle.aes3_wave.specs.declared.header_reader.Stage.TheVariants.{First, Chunks, Whole}
 use Rattle.aes3_wave.specs.Chunks.{chunk_len, head_len, is_data}
 use Rattle.aes3_wave.specs.Headers.{Judged, judged, judged_from}
 use Rattle.aes3_wave.specs.Following.{FollowsAt, Holds, IsNext, IsOpen, IsOpenChunk}

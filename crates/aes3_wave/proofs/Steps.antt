@@ -7,7 +7,7 @@ use Rattle.aes3_wave.specs.declared.header_error.HeaderError.{HeaderError}
 use Rattle.aes3_wave.specs.declared.wave_format.WaveFormat.{WaveFormat}
 use Rattle.aes3_wave.specs.declared.chunk.Known.{Known}
 use Rattle.aes3_wave.specs.declared.chunk.WaveHeader.{WaveHeader}
-use Rattle.aes3_wave.specs.declared.reader.Stage.TheVariants.{First, Chunks}
+use Rattle.aes3_wave.specs.declared.header_reader.Stage.TheVariants.{First, Chunks}
 use Rattle.aes3_wave.specs.Chunks.{chunk_len, head, head_len, is_data, known_with}
 use Rattle.aes3_wave.specs.Headers.{after, first_known, found, header_at, header_in, judged, judged_from}
 use Rattle.aes3_wave.specs.Following.{IsNext, IsOpenChunk, IsSamples}

@@ -6,9 +6,9 @@ use Rattle.aes3_wave.specs.declared.chunk.Known.{Known}
 use Rattle.aes3_wave.specs.declared.chunk.WaveHeader.{WaveHeader}
 use Rattle.aes3_wave.specs.declared.chunk.Step.{Step}
 use Rattle.aes3_wave.specs.declared.chunk.Step.TheVariants.{More, Next, Samples}
-use Rattle.aes3_wave.specs.declared.reader.Stage.{Stage}
-use Rattle.aes3_wave.specs.declared.reader.Stage.TheVariants.{First, Chunks, Whole}
-use Rattle.aes3_wave.specs.declared.reader.HeaderReader.{HeaderReader}
+use Rattle.aes3_wave.specs.declared.header_reader.Stage.{Stage}
+use Rattle.aes3_wave.specs.declared.header_reader.Stage.TheVariants.{First, Chunks, Whole}
+use Rattle.aes3_wave.specs.declared.header_reader.HeaderReader.{HeaderReader}
 use Rattle.aes3_wave.specs.Chunks.{chunk_len, head_len, is_data}
 use Rattle.aes3_wave.specs.Headers.{Judged, judged, judged_from}
 

@@ -3,8 +3,8 @@ use Rattle.std.specs.Prelude.{ℕ, Option, Some, None}
 use Rattle.aes3_wave.specs.declared.chunk.Step.{Step}
 use Rattle.aes3_wave.specs.declared.chunk.Step.TheVariants.{More, Next, Samples}
 use Rattle.aes3_wave.specs.declared.wave_format.WaveFormat.{WaveFormat}
-use Rattle.aes3_wave.specs.declared.reader.Stage.{Stage}
-use Rattle.aes3_wave.specs.declared.reader.Stage.TheVariants.{First, Chunks, Whole}
+use Rattle.aes3_wave.specs.declared.header_reader.Stage.{Stage}
+use Rattle.aes3_wave.specs.declared.header_reader.Stage.TheVariants.{First, Chunks, Whole}
 use Rattle.aes3_wave.specs.Formats.{frame_len}
 
 -- of a format, and 0 where it is not known

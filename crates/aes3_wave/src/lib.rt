@@ -8,6 +8,8 @@ mod channels;
 mod chunk;
 /// Why a header is rejected.
 mod header_error;
+/// What the reader of a header keeps.
+mod header_reader;
 /// The laws of headers.
 pub mod laws;
 /// Numbers in octets.
@@ -24,7 +26,7 @@ mod written;
 pub use channels::{Channels, Mono};
 pub use chunk::WaveHeader;
 pub use header_error::{Cause, HeaderError};
-pub use reader::HeaderReader;
+pub use header_reader::HeaderReader;
 pub use span::SampleSpan;
 pub use wave_format::{Container, WaveFormat, Width};
 pub use written::{Depth, HeaderOctets, header_of};

@@ -1,44 +1,16 @@
-//! The reader of the header of a WAV file, in pieces of any size.
+//! Reading a header.
 
 ghost use Rattle.std.specs.Prelude.{◌≡◌, ◌<◌, ◌≤◌, ◌+◌, ◌++◌, ◌^◌, List, ℕ, [], None, Ok, length};
 ghost use Rattle.std.specs.Prelude.{IfOk, IfSome, take};
 ghost use Rattle.aes3_wave.specs.Following.{Decided, Follows, TookFront, TookOctet, TookPiece};
 ghost use Rattle.aes3_wave.specs.Following.{header_of, missing};
 ghost use Rattle.aes3_wave.specs.Formats.{frame_len};
-ghost use Rattle.aes3_wave.specs.Frames.{known_len, step_len, stage_len};
+ghost use Rattle.aes3_wave.specs.Frames.{known_len, step_len};
 ghost use Rattle.aes3_wave.specs.Headers.{judged, judged_at_end};
 
 use crate::chunk::{FIRST_LEN, HEAD_LEN, Known, MOST_HEAD, Step, WaveHeader, chunk_len, is_data};
 use crate::header_error::{Cause, HeaderError};
-
-/// The part of a header that the next octet is in.
-#[derive(Clone, Copy)]
-pub(crate) enum Stage {
-    /// The first twelve octets.
-    First,
-    /// Chunks before that of the samples.
-    Chunks(Known),
-    /// After the header.
-    Whole(WaveHeader),
-}
-
-/// Reads the header of a WAV file in pieces of any size, in fixed memory.
-#[derive(Drop)]
-pub struct HeaderReader {
-    /// How many octets it has taken.
-    pub(crate) seen: u64,
-    pub(crate) stage: Stage,
-    /// The place in the file where the current chunk begins, or else the next one.
-    pub(crate) at: u64,
-    /// The octets of that chunk that were taken, and how many there are.
-    pub(crate) held: [u8; MOST_HEAD],
-    pub(crate) len: usize,
-    /// How many octets to skip before the next chunk.
-    pub(crate) left: u64,
-    ghost few: { len < 48 },
-    ghost place: { at + len ≡ seen + left },
-    ghost frame: { stage_len stage < 65536 },
-}
+use crate::header_reader::{HeaderReader, Stage};
 
 impl Known {
     /// What is decided by the first octets of a chunk at place `at`.

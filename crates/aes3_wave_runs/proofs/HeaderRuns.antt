@@ -10,9 +10,9 @@ use Rattle.aes3_cell.proofs.Growing.{grew-is, grew-join, grew-none}
 use Rattle.aes3_input.proofs.Pieces.{changed}
 use Rattle.aes3_wave.specs.declared.chunk.WaveHeader.{WaveHeader}
 use Rattle.aes3_wave.specs.declared.header_error.HeaderError.{HeaderError}
-use Rattle.aes3_wave.specs.declared.reader.HeaderReader.{HeaderReader}
-use Rattle.aes3_wave.specs.declared.reader.Stage.{Stage}
-use Rattle.aes3_wave.specs.declared.reader.Stage.TheVariants.{First, Chunks, Whole}
+use Rattle.aes3_wave.specs.declared.header_reader.HeaderReader.{HeaderReader}
+use Rattle.aes3_wave.specs.declared.header_reader.Stage.{Stage}
+use Rattle.aes3_wave.specs.declared.header_reader.Stage.TheVariants.{First, Chunks, Whole}
 use Rattle.aes3_wave.specs.Following as following
 use Rattle.aes3_wave.specs.Following.{Follows, FollowsAt, Took, header_of}
 use Rattle.aes3_wave.specs.Headers.{Judged, at_end, judged, judged_at_end}

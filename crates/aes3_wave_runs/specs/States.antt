@@ -4,7 +4,7 @@ use Rattle.aes3_input.specs.Running.{InputState}
 use Rattle.aes3_engine.specs.Sampling.{sampling_state}
 use Rattle.aes3_engine.specs.declared.sampling.SampleInput.{SampleInput}
 use Rattle.aes3_status.specs.declared.change.Change.{Change}
-use Rattle.aes3_wave_runs.specs.declared.wave_input.WaveInput.{WaveInput}
+use Rattle.aes3_wave_runs.specs.declared.wave_state.WaveInput.{WaveInput}
 use Rattle.aes3_wave_runs.specs.Wave.{frames_state}
 
 abbrev pub samples_state : SampleInput → Change → InputState

@@ -19,6 +19,8 @@ mod wave_error;
 mod wave_input;
 /// From a WAV file to a block file.
 mod wave_reading;
+/// What an input of frames keeps.
+mod wave_state;
 /// From cells to a WAV file.
 mod wave_writing;
 

@@ -15,6 +15,7 @@ ghost use Rattle.aes3_wave_runs.specs.States.{state_of};
 ghost use Rattle.aes3_wave_runs.specs.Wave.{frames_most, taken_len};
 
 use crate::frames::{PAIR_LEN, block_of, form_of, put_each};
+use crate::wave_state::{FRAME_MOST, WaveInput};
 use aes3_cell::{RunError, Sink};
 use aes3_engine::SampleInput;
 use aes3_forms_samples::{BLOCK_BYTES, SampleFormat};
@@ -23,31 +24,6 @@ use aes3_frame::FRAMES;
 use aes3_input::{Input, feed_fronts};
 use aes3_status::Change;
 use aes3_wave::{Channels, WaveFormat};
-
-/// More octets than a frame has: a header has its length in 16 bits.
-pub(crate) const FRAME_MOST: usize = 65_536;
-
-/// The octets after the header of a WAV file, as they come, and the block that their samples have
-/// begun.
-#[derive(Drop)]
-pub(crate) struct WaveInput {
-    pub samples: SampleInput,
-    pub format: WaveFormat,
-    /// The two channels that are taken.
-    pub channels: Channels,
-    /// How many octets are samples at most, and how many of them are still to come.
-    pub len: u64,
-    pub left: u64,
-    /// The octets of the current frame, and how many there are.
-    pub begun: [u8; FRAME_MOST],
-    pub at: usize,
-    ghost first: { channels.first < format.channels },
-    ghost second: { ForSome channels.second (λ n. n < format.channels) },
-    ghost few: { at < frame_len format },
-    ghost room: { at < 65536 },
-    ghost frame: { frame_len format < 65536 },
-    ghost most: { len ≤ frames_most format },
-}
 
 /// How many frames are taken at most: their samples of 32 bits have 2^40 octets.
 const FRAMES_MOST: u64 = 137_438_953_472;

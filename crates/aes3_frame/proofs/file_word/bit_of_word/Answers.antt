@@ -1,4 +1,4 @@
-use Rattle.aes3_frame.proofs.CarriedBits.{payload-test}
+use Rattle.aes3_frame.proofs.WordBits.{payload-test}
 use Rattle.aes3_frame.proofs.file_word.bit_of_word.Goals as goal
 
 pub returns : goal.returns

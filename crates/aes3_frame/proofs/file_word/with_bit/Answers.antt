@@ -1,6 +1,6 @@
 use Rattle.std.proofs.Common.{◌+◌, ◌*◌, ◌^◌, ◌%◌, ap, bit_and, bit_or, bit_xor, ◌∙◌, rules}
 use Rattle.aes3_frame.specs.Files.{is_lawful, payload_of}
-use Rattle.aes3_frame.proofs.CarriedBits.{turned-word, turned-lawful, turned-payload}
+use Rattle.aes3_frame.proofs.WordBits.{turned-word, turned-lawful, turned-payload}
 use Rattle.aes3_frame.proofs.file_word.with_bit.Goals as goal
 
 pub returns-clause-lawful : goal.returns-clause-lawful
