@@ -12,11 +12,10 @@ use Rattle.aes3_cli_jobs.specs.declared.work.ReadWork.{ReadWork}
 use Rattle.aes3_cli_jobs.specs.declared.work.StreamWork.{StreamWork}
 use Rattle.aes3_cli_jobs.specs.declared.refusal.Refusal.{Refusal}
 use Rattle.aes3_cli_jobs.specs.declared.refusal.Refusal.TheVariants.{Run}
-use Rattle.aes3_wave_runs.specs.FromWav.{WaveRan, WaveRun, promise_for}
+use Rattle.aes3_wave_runs.specs.FromWav.{WaveRan, promise_for}
 use Rattle.aes3_wave_runs.specs.Wave.{limit_of}
 use Rattle.aes3_wave_runs.specs.declared.wave_error.WaveError.{WaveError}
 use Rattle.aes3_wave_runs.specs.declared.wave_error.WaveError.TheVariants as wave_error
-use Rattle.aes3_wave_runs.specs.declared.options.Converted.{Converted}
 use Rattle.aes3_wave_runs.specs.declared.options.WaveOptions.{WaveOptions}
 use Rattle.aes3_wave_runs.specs.declared.status_use.StatusUse.{StatusUse}
 use Rattle.aes3_wave.specs.declared.channels.Channels.{Channels}
@@ -31,12 +30,11 @@ use Rattle.aes3_watch.specs.Watching.{watch_counts}
 use Rattle.aes3_input.specs.Driving.{counted_cells}
 use Rattle.aes3_program.specs.Asides.{RefusedAt}
 use Rattle.aes3_program.specs.JobRuns.{Answered, Flushed, IsTold, JobRan, RanAs, ReadRan, StreamRan, WaveRanAs}
-use Rattle.aes3_program.specs.JobRuns.{encode_promise, end_status, most, period, read_promise, sample_promise, stream_promise}
+use Rattle.aes3_program.specs.JobRuns.{encode_promise, most, period, read_promise, sample_promise, stream_promise}
 use Rattle.aes3_program.specs.JobRuns.{use_for, wave_options}
 use Rattle.aes3_program.specs.OctetRuns.{ReadRefused}
 use Rattle.aes3_program.specs.declared.outcome.Outcome.{Outcome}
-use Rattle.aes3_program.specs.Lines.{remark_line}
-use Rattle.aes3_program.specs.Outcomes.{RemarkTold, answer_as, refusal_of, run_answer, told_as, wave_answer}
+use Rattle.aes3_program.specs.Outcomes.{answer_as, refusal_of, told_as}
 use Rattle.aes3_program.specs.Streams.{Streams}
 
 -- a run, by what its work is
@@ -212,17 +210,6 @@ passed-on job ended source t₀ {t₁} {t₂} {f₀} {f₁} {f₂} {x} r f p h =
     ] in
     let v : f₁ ≡ f₀ = answered-quiet job ended source _ r n in
     p (omega arith) n
-
--- a run that ended well
-pub done : {job : Job} {typed : TypedSettings} {streams : Streams} {status : ℕ} (n : Outcome)
-    → Answered job streams.ended streams.source streams.sink (Ok n) → status ≡ end_status job n
-    → RemarkTold (remark_line typed n.remark) streams.errors → JobRan job typed streams status
-done {streams = streams} n run ends told = record {
-  answer = Ok n;
-  failed = streams.sink.failed_new;
-  run = run;
-  told = (ends, refl, told);
-}
 
 -- a refusal before anything was run
 pub read-refused : {sink errors : Movement} {status : ℕ} {told : Refusal} → Flushed (Run Read) sink told

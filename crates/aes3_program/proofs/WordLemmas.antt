@@ -1,5 +1,5 @@
 -- What words ask for, by the line that they are.
-use Rattle.std.proofs.Common.{◌≡◌, ℕ, List, Option, Some, None, inl, inr, Result, Ok, Err, refl, subst, sym}
+use Rattle.std.proofs.Common.{◌≡◌, ℕ, List, inl, inr, Result, Ok, Err, subst}
 use Rattle.aes3_cell.specs.declared.ends.Sink.{Ghosts as SinkMembers}
 use Rattle.aes3_cli_arguments.specs.declared.command_job.LineFault.{LineFault}
 use Rattle.aes3_cli_arguments.specs.declared.command_line.CommandLine.{CommandLine}

@@ -1,4 +1,5 @@
 pub mod Asides
+pub mod JobEnds
 pub mod JobRuns
 pub mod Lines
 pub mod OctetRuns

@@ -7,10 +7,11 @@ ghost use Rattle.aes3_cli_jobs.specs.declared.refusal.Refusal.TheVariants.{Run};
 ghost use Rattle.aes3_cli_jobs.specs.declared.work.ReadWork.TheVariants.{ToPcm, ToWav};
 ghost use Rattle.aes3_cli_jobs.specs.declared.work.StreamWork.TheVariants.{Rewrite};
 ghost use Rattle.aes3_program.specs.Asides.{AsideOfRun};
+ghost use Rattle.aes3_program.specs.JobEnds.{JobEnded};
 ghost use Rattle.aes3_program.specs.JobRuns.{Answered, Flushed, JobRan, ReadRan, StreamRan, period, status_by};
 ghost use Rattle.aes3_program.specs.JobRuns.{use_for};
 ghost use Rattle.aes3_program.specs.OctetRuns.{ReadRefused};
-ghost use Rattle.aes3_program.specs.Streams.{HasPassed, PassesOn, moved, streams_of};
+ghost use Rattle.aes3_program.specs.Streams.{HasPassed, PassesOn, moved};
 
 use crate::outcome::{
     Outcome, encoded, exact, filled, of_file, of_run, plain, rewritten, sampled, waved,
@@ -326,11 +327,8 @@ pub fn finish_job<S: Source, T: Sink, E: Sink, O: Observer>(
     requires source_room { S.failed source.old + 1 < 2 ^ 64 }
     requires sink_room { T.failed sink.old + 1 < 2 ^ 64 }
     requires errors_room { E.failed errors.old + 1 < 2 ^ 64 }
-    ensures ran { JobRan job.now typed.now (streams_of S.Source source.old source.new
-        T.Sink sink.old sink.new E.Sink errors.old errors.new) result }
-    ensures passed_on { PassesOn T.Sink sink.old sink.new }
-    ensures aside { AsideOfRun (Some job.now) E.Sink errors.old errors.new
-        O.Observer observer.old observer.new result }
+    ensures { JobEnded (JobRan job.now typed.now) (Some job.now) S.Source source.old source.new
+        T.Sink sink.old sink.new E.Sink errors.old errors.new O.Observer observer.old observer.new result }
 {
     observer.begins(job);
     finish_begun(job, typed, source, sink, errors, observer)
@@ -348,11 +346,8 @@ pub(crate) fn finish_begun<S: Source, T: Sink, E: Sink, O: Observer>(
     requires source_room { S.failed source.old + 1 < 2 ^ 64 }
     requires sink_room { T.failed sink.old + 1 < 2 ^ 64 }
     requires errors_room { E.failed errors.old + 1 < 2 ^ 64 }
-    ensures ran { JobRan job.now typed.now (streams_of S.Source source.old source.new
-        T.Sink sink.old sink.new E.Sink errors.old errors.new) result }
-    ensures passed_on { PassesOn T.Sink sink.old sink.new }
-    ensures aside { AsideOfRun None E.Sink errors.old errors.new
-        O.Observer observer.old observer.new result }
+    ensures { JobEnded (JobRan job.now typed.now) None S.Source source.old source.new
+        T.Sink sink.old sink.new E.Sink errors.old errors.new O.Observer observer.old observer.new result }
 {
     match run_job(job, source, sink) {
         Ok(outcome) => tell_outcome(job, typed, &outcome, errors, observer),

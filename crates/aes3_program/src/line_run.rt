@@ -5,6 +5,7 @@ ghost use Rattle.std.specs.Prelude.{◌≡◌, ◌&&◌, ◌<◌, ◌+◌, ◌^�
 ghost use Rattle.std.specs.Prelude.{OnErr, ℕ};
 ghost use Rattle.aes3_cli_jobs.specs.Forms.{reads_packed};
 ghost use Rattle.aes3_program.specs.Asides.{AsideOfRun, AsideOfWords, job_of};
+ghost use Rattle.aes3_program.specs.JobEnds.{JobEnded};
 ghost use Rattle.aes3_program.specs.OctetRuns.{BehindRan, OctetsRan, OutputsCanBeReversed};
 ghost use Rattle.aes3_program.specs.OctetRuns.{PackedRan, SourceRan};
 ghost use Rattle.aes3_program.specs.Streams.{PassesOn, streams_of, HasPassed, moved};
@@ -152,11 +153,8 @@ pub fn run_octets<S: Source + Drop, T: Sink + Drop, E: Sink, O: Observer>(
     requires source_room { S.failed source + 1 < 2 ^ 64 }
     requires sink_room { T.failed sink + 1 < 2 ^ 64 }
     requires errors_room { E.failed errors.old + 1 < 2 ^ 64 }
-    ensures ran { OctetsRan octets job.now typed.now (streams_of S.Source source result.source
-        T.Sink sink result.sink E.Sink errors.old errors.new) result.status }
-    ensures passed_on { PassesOn T.Sink sink result.sink }
-    ensures aside { AsideOfRun (Some job.now) E.Sink errors.old errors.new
-        O.Observer observer.old observer.new result.status }
+    ensures { JobEnded (OctetsRan octets job.now typed.now) (Some job.now) S.Source source result.source
+        T.Sink sink result.sink E.Sink errors.old errors.new O.Observer observer.old observer.new result.status }
 {
     if octets.lsb_first && job.writes_packed() {
         let ran = run_source(
@@ -197,11 +195,8 @@ fn run_source<S: Source + Drop, T: Sink + Drop, E: Sink, O: Observer>(
     requires source_room { S.failed source + 1 < 2 ^ 64 }
     requires sink_room { T.failed sink + 1 < 2 ^ 64 }
     requires errors_room { E.failed errors.old + 1 < 2 ^ 64 }
-    ensures ran { SourceRan octets job.now typed.now (streams_of S.Source source result.source
-        T.Sink sink result.sink E.Sink errors.old errors.new) result.status }
-    ensures passed_on { PassesOn T.Sink sink result.sink }
-    ensures aside { AsideOfRun (Some job.now) E.Sink errors.old errors.new
-        O.Observer observer.old observer.new result.status }
+    ensures { JobEnded (SourceRan octets job.now typed.now) (Some job.now) S.Source source result.source
+        T.Sink sink result.sink E.Sink errors.old errors.new O.Observer observer.old observer.new result.status }
 {
     let is_reversed = reverses_input(octets, job);
     if octets.raw_in {
@@ -229,11 +224,8 @@ fn run_packed<S: Source + Drop, T: Sink + Drop, E: Sink, O: Observer>(
     requires source_room { S.failed source + 1 < 2 ^ 64 }
     requires sink_room { T.failed sink + 1 < 2 ^ 64 }
     requires errors_room { E.failed errors.old + 1 < 2 ^ 64 }
-    ensures ran { PackedRan is_reversed job.now typed.now (streams_of S.Source source result.source
-        T.Sink sink result.sink E.Sink errors.old errors.new) result.status }
-    ensures passed_on { PassesOn T.Sink sink result.sink }
-    ensures aside { AsideOfRun (Some job.now) E.Sink errors.old errors.new
-        O.Observer observer.old observer.new result.status }
+    ensures { JobEnded (PackedRan is_reversed job.now typed.now) (Some job.now) S.Source source result.source
+        T.Sink sink result.sink E.Sink errors.old errors.new O.Observer observer.old observer.new result.status }
 {
     if is_reversed {
         return run_reversed(job, typed, source, sink, errors, observer);
@@ -261,11 +253,8 @@ fn run_reversed<S: Source + Drop, T: Sink + Drop, E: Sink, O: Observer>(
     requires source_room { S.failed source + 1 < 2 ^ 64 }
     requires sink_room { T.failed sink + 1 < 2 ^ 64 }
     requires errors_room { E.failed errors.old + 1 < 2 ^ 64 }
-    ensures ran { PackedRan true job.now typed.now (streams_of S.Source source result.source
-        T.Sink sink result.sink E.Sink errors.old errors.new) result.status }
-    ensures passed_on { PassesOn T.Sink sink result.sink }
-    ensures aside { AsideOfRun (Some job.now) E.Sink errors.old errors.new
-        O.Observer observer.old observer.new result.status }
+    ensures { JobEnded (PackedRan true job.now typed.now) (Some job.now) S.Source source result.source
+        T.Sink sink result.sink E.Sink errors.old errors.new O.Observer observer.old observer.new result.status }
 {
     observer.begins(job);
     let mut source = source;
@@ -297,11 +286,8 @@ fn run_behind<S: Source + Drop, T: Sink + Drop, E: Sink, O: Observer>(
     requires sink_room { T.failed sink + 1 < 2 ^ 64 }
     requires errors_room { E.failed errors.old + 1 < 2 ^ 64 }
     requires end { first ≡ None → IsTrue (S.has_ended source) }
-    ensures ran { BehindRan first job.now typed.now (streams_of S.Source source result.source
-        T.Sink sink result.sink E.Sink errors.old errors.new) result.status }
-    ensures passed_on { PassesOn T.Sink sink result.sink }
-    ensures aside { AsideOfRun None E.Sink errors.old errors.new
-        O.Observer observer.old observer.new result.status }
+    ensures { JobEnded (BehindRan first job.now typed.now) None S.Source source result.source
+        T.Sink sink result.sink E.Sink errors.old errors.new O.Observer observer.old observer.new result.status }
 {
     let mut reversed = ReversedSource::new(source, first);
     let mut sink = sink;

@@ -1,6 +1,6 @@
 use Rattle.std.proofs.Common.{arith}
 use Rattle.aes3_input.specs.Running.{movement_of}
-use Rattle.aes3_program.proofs.Flushes.{answered-quiet, done, passed-on, refused-flushed}
+use Rattle.aes3_program.proofs.Flushes.{answered-quiet, passed-on, refused-flushed}
 use Rattle.aes3_program.proofs.job_run.finish_begun.Goals as goal
 
 pub flushed-requires : goal.flushed-requires
@@ -12,15 +12,11 @@ flushed-requires g c = record {
       omega (arith, quiet, c.requires.sink_room);
 }
 
-pub returns-in-Ok-clause-ran : goal.returns-in-Ok-clause-ran
-returns-in-Ok-clause-ran g c =
-    done c.in-Ok.outcome c.in-Ok.ensures.ran c.tell_outcome.ensures.status c.tell_outcome.ensures.told
-
-pub returns-in-Err-clause-ran : goal.returns-in-Err-clause-ran
-returns-in-Err-clause-ran g c = refused-flushed c.in-Err.ensures.ran c.flushed.ensures.told c.refuse.ensures.aside.refusal
-
-pub returns-in-Err-clause-passed_on : goal.returns-in-Err-clause-passed_on
-returns-in-Err-clause-passed_on g c
-    = passed-on c.args.job.now (g.S.Source.has_ended c.run_job.new.source)
-    (movement_of g.S.Source.given g.S.Source.failed c.args.source.now c.run_job.new.source) (g.T.Sink.taken c.args.sink.now)
-    c.in-Err.ensures.ran c.flushed.ensures.told c.flushed.ensures.passed_on
+pub returns-in-Err : goal.returns-in-Err
+returns-in-Err g c = record {
+  ran = refused-flushed c.in-Err.ensures.ran c.flushed.ensures.told c.refuse.ensures.aside.refusal;
+  passed_on = passed-on c.args.job.now (g.S.Source.has_ended c.run_job.new.source)
+      (movement_of g.S.Source.given g.S.Source.failed c.args.source.now c.run_job.new.source) (g.T.Sink.taken c.args.sink.now)
+      c.in-Err.ensures.ran c.flushed.ensures.told c.flushed.ensures.passed_on;
+  aside = record { refused = _; aside = c.refuse.ensures.aside };
+}
