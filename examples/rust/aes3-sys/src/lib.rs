@@ -191,6 +191,16 @@ pub const AES3_SET_UNKNOWN: u8 = 1;
 /// The status has no such setting.
 pub const AES3_SET_REFUSED: u8 = 2;
 
+/// The first `cells` cells of a line are those of the first `samples` samples of its capture.
+#[repr(C)]
+#[derive(Clone, Copy, Debug, Default, PartialEq, Eq)]
+pub struct aes3_mark {
+    /// How many cells.
+    pub cells: u64,
+    /// How many samples.
+    pub samples: u64,
+}
+
 /// What was found of a line among samples.
 #[repr(C)]
 #[derive(Clone, Copy, Debug, Default, PartialEq, Eq)]
@@ -376,6 +386,10 @@ extern "C" {
     pub fn aes3_status_text(status: *const u8, text: *mut u8) -> u32;
     /// Sets the field that a text `NAME=WORD` names; returns `AES3_SET_DONE`, `AES3_SET_UNKNOWN` or `AES3_SET_REFUSED`.
     pub fn aes3_status_set(status: *mut u8, text: *const u8, count: usize) -> u8;
+    /// Reverses each octet, so that its first cell is in the other end.
+    pub fn aes3_reverse_octets(octets: *mut u8, count: usize);
+    /// How many frames are missing between whole blocks: the first of all, the last one, and the next one.
+    pub fn aes3_frames_between(first: u64, before: u64, at: u64) -> u64;
     /// The check byte of a professional status, for byte 23.
     pub fn aes3_status_check_byte(status: *const u8) -> u8;
     /// `AES3_GOOD`, `AES3_ABSENT` or `AES3_BAD`.
@@ -409,6 +423,10 @@ extern "C" {
     pub fn aes3_recovery_finish(recovery: *mut aes3_recovery, cells: *mut u8, room: usize, put: *mut usize) -> bool;
     /// Puts what was found of the line so far.
     pub fn aes3_recovery_figures(recovery: *const aes3_recovery, found: *mut aes3_capture);
+    /// Puts a mark after the cells that the samples so far decide; returns whether there is one.
+    pub fn aes3_recovery_mark(recovery: *const aes3_recovery, mark: *mut aes3_mark) -> bool;
+    /// The sample at which a cell between two marks begins.
+    pub fn aes3_sample_between(before: *const aes3_mark, after: *const aes3_mark, cell: u64) -> u64;
     /// Reads the header of a WAV file; returns `AES3_WAV_MORE`, `AES3_WAV_HEADER`, or why it is rejected.
     pub fn aes3_wav_read(octets: *const u8, count: usize, wav: *mut aes3_wav, at: *mut u64) -> u8;
     /// Puts the samples of two channels; returns how many frames.
