@@ -542,15 +542,15 @@ static void reversed(void) {
     uint8_t octets[8];
     WANT(memory != (uint8_t *)MAP_FAILED && mprotect(memory + page, page, PROT_NONE) == 0);
     for (size_t count = 0; count <= 300; count++) {
-        uint8_t *const end = memory + page;
+        uint8_t *const end = memory + page, *const own = end - count;
         int wrong = 0;
         memset(end - 310, 0x5A, 310);
         for (size_t i = 0; i < count; i++)
-            end[i - count] = (uint8_t)(i + 7 * count);
-        aes3_reverse_octets(end - count, count);
+            own[i] = (uint8_t)(i + 7 * count);
+        aes3_reverse_octets(own, count);
         for (size_t i = 0; i < count; i++)
             for (int j = 0; j < 8; j++)
-                wrong |= (end[i - count] >> j & 1) != ((i + 7 * count) >> (7 - j) & 1);
+                wrong |= (own[i] >> j & 1) != ((i + 7 * count) >> (7 - j) & 1);
         WANT(!wrong && end[-1 - (int)count] == 0x5A && end[-310] == 0x5A);
     }
     munmap(memory, 2 * page);
