@@ -17,22 +17,22 @@ mod capture;
 mod cell_calls;
 /// The fields of consumer channel status.
 mod consumer_calls;
+/// Frames that fill the time between whole blocks.
+mod frame_calls;
 /// The gaps of the account of all cells.
 mod gap_calls;
 /// Levels as bytes.
 mod level_byte;
 /// The lock, kept by its caller.
 mod lock_calls;
-/// Where the cells of a capture are among its samples.
-mod mark_calls;
-/// Frames that fill the time between whole blocks.
-mod missing_frames;
 /// Cells in octets, many at once.
 mod octet_calls;
 /// Octets that found no room yet.
 mod owed;
 /// A sink over memory that is lent, which keeps what finds no room there.
 mod owing;
+/// Where the cells of a capture are among its samples.
+mod place_calls;
 /// The fields of professional channel status.
 mod professional_calls;
 /// From samples to cells.

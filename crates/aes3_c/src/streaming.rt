@@ -193,6 +193,7 @@ fn whole_len(unit: Unit, len: usize) -> usize
 pub extern "C" fn aes3_recovery_init(recovery: &mut Aes3Recovery, period: u64)
     ensures taking { IsTaking period [] [] recovery.new }
     ensures count { recovery.new.put ≡ 0 }
+    ensures goes_on { recovery.new.ended ≡ 0 }
 {
     recovery.recovery = Recovery::new(Form::Packed, known_of(period)).parts();
     owe_nothing(&mut recovery.owed);

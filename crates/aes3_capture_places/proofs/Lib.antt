@@ -1,2 +1,2 @@
 mod Runs
-mod Marking
+pub mod Marking

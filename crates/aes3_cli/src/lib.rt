@@ -8,14 +8,14 @@ mod argument;
 mod definitions;
 /// Why words are no job.
 mod fault;
+/// The options that `clap` found.
+mod found_options;
 /// The texts of `--help` and `--version`.
 pub mod help;
 /// Texts for people, and the exit statuses of programs.
 mod message;
 /// Numbers in values of options.
 mod number;
-/// The options that `clap` found.
-mod options;
 /// The words of a command line as the system gives them.
 mod unread;
 /// The texts of usage errors.
@@ -24,7 +24,7 @@ pub mod wording;
 pub use argument::{Define, flag, repeated_option, text_option};
 pub use definitions::{command_line, program_line};
 pub use fault::LineFault;
+pub use found_options::{file_of_options, options_of_words, output_of_options};
 pub use message::{DONE, REFUSED, USAGE, put_text};
 pub use number::number_of_text;
-pub use options::{file_of_options, options_of_words, output_of_options};
 pub use unread::{Unread, words_of_line};

@@ -13,7 +13,7 @@ use crate::format::has_unknown_format;
 use crate::frequency::has_unknown_rate;
 use crate::preset::has_unknown_preset;
 use crate::to_bits::bits_of_text;
-use crate::to_pcm::{fill, has_unknown_filling};
+use crate::to_pcm::{fill_of_options, has_unknown_filling};
 use crate::value::{flag, number_if_given};
 use crate::wave::{
     has_preset_beside_use, has_unknown_channels, has_unknown_depth, has_unknown_mono,
@@ -171,7 +171,7 @@ fn fills_valid_samples(options: &ArgMatches<'_>) -> bool
     requires { AreTaken (options_of options.now) }
     ensures { result ≡ fills_valid_samples (options_of options.now) }
 {
-    fill(options).is_some() && flag(options, "valid")
+    fill_of_options(options).is_some() && flag(options, "valid")
 }
 
 /// Whether marked blocks are to be given, but no filling is named.
@@ -179,7 +179,7 @@ fn has_marked_unfilled(options: &ArgMatches<'_>) -> bool
     requires { AreTaken (options_of options.now) }
     ensures { result ≡ has_marked_unfilled (options_of options.now) }
 {
-    flag(options, "marked") && fill(options).is_none()
+    flag(options, "marked") && fill_of_options(options).is_none()
 }
 
 /// Whether samples are to be exact, and others are to replace some.
@@ -187,7 +187,7 @@ fn has_exact_and_others(options: &ArgMatches<'_>) -> bool
     requires { AreTaken (options_of options.now) }
     ensures { result ≡ has_exact_and_others (options_of options.now) }
 {
-    flag(options, "exact") && (fill(options).is_some() || flag(options, "valid"))
+    flag(options, "exact") && (fill_of_options(options).is_some() || flag(options, "valid"))
 }
 
 /// Whether words of codes are to follow a line, and the place of its block too.

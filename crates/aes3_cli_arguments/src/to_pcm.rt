@@ -15,7 +15,7 @@ pub(crate) fn to_pcm(options: &ArgMatches<'_>) -> ReadWork
     requires { AreTaken (options_of options.now) }
     ensures { AsksToRead (codes "to-pcm") (options_of options.now) result }
 {
-    match fill(options) {
+    match fill_of_options(options) {
         Some(fill) => ReadWork::ToFilledPcm {
             format: format(options),
             fill,
@@ -32,7 +32,7 @@ pub(crate) fn to_pcm(options: &ArgMatches<'_>) -> ReadWork
 }
 
 /// The filling by the options for time that no block covers, if they name one.
-pub(crate) fn fill(options: &ArgMatches<'_>) -> Option<Fill>
+pub(crate) fn fill_of_options(options: &ArgMatches<'_>) -> Option<Fill>
     ensures { result ≡ fill_by (options_of options.now) }
 {
     let Some(text) = options.get_str("fill") else {

@@ -6,10 +6,8 @@ ghost use Rattle.aes3_cli_arguments.specs.Jobs.{AreTaken, AsksToRead, every_by, 
 use crate::event_style::{rate, style};
 use crate::value::number_if_given;
 use aes3_cli_jobs::ReadWork;
+use aes3_frame::FRAME_CELLS;
 use clap::ArgMatches;
-
-/// How many cells a frame has.
-const FRAME_CELLS: u64 = 128;
 
 /// What `watch` does, with its options.
 pub(crate) fn watch(options: &ArgMatches<'_>) -> ReadWork

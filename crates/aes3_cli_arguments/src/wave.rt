@@ -10,7 +10,7 @@ ghost use Rattle.aes3_cli_arguments.specs.Jobs.{options_of, use_in, use_named};
 
 use crate::event_style::rate;
 use crate::preset::preset;
-use crate::to_pcm::fill;
+use crate::to_pcm::fill_of_options;
 use crate::value::flag;
 use aes3_cli_jobs::ReadWork;
 use aes3_wave::{Channels, Depth, Mono};
@@ -21,7 +21,7 @@ pub(crate) fn to_wav(options: &ArgMatches<'_>) -> ReadWork
     requires { AreTaken (options_of options.now) }
     ensures { AsksToRead (codes "to-wav") (options_of options.now) result }
 {
-    match fill(options) {
+    match fill_of_options(options) {
         Some(fill) => ReadWork::ToFilledWav {
             depth: depth(options),
             rate: rate(options),

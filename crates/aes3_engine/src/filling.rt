@@ -23,13 +23,11 @@ use crate::samples::put_narrowed;
 use aes3_block::{BLOCK_BYTES, Block, samples_of_block};
 use aes3_cell::{Counts, Fault, Form, RunError, Sink, Source, write_all};
 use aes3_forms_samples::SampleFormat;
-use aes3_frame::{FRAMES, Fill};
+use aes3_frame::{FRAME_CELLS, FRAMES, Fill};
 use aes3_lock::{Ending, Lock};
 use aes3_lock_runs::{Reporter, run_reports};
 
-/// The cells of a frame, the bytes of its samples, and the frames of a block (AES3-3).
-const FRAME_CELLS: u64 = 128;
-
+/// The bytes of a frame's samples, and the frames of a block.
 const FRAME_BYTES: usize = 8;
 
 const BLOCK_FRAMES: u64 = FRAMES as u64;

@@ -6,7 +6,7 @@ mod alsa_am824;
 /// The laws of these forms.
 pub mod laws;
 /// Octets of many words.
-mod many;
+mod word_octets;
 
 pub use alsa_am824::Words;
-pub use many::write_words;
+pub use word_octets::write_words;

@@ -8,6 +8,9 @@ pub const FRAMES: usize = 192;
 /// How many subframes a block has.
 pub const SUBFRAMES: usize = 384;
 
+/// How many cells a frame has.
+pub const FRAME_CELLS: u64 = 2 * SUBFRAME_CELLS;
+
 /// How many cells a block has.
 pub const BLOCK_CELLS: u64 = SUBFRAME_CELLS * SUBFRAMES as u64;
 

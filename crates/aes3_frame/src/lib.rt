@@ -27,7 +27,7 @@ mod parity;
 mod subframe;
 
 pub use aes3_slot::mark_of;
-pub use block::{BLOCK_BYTES, BLOCK_CELLS, Block, FRAMES, SUBFRAMES, zero_words};
+pub use block::{BLOCK_BYTES, BLOCK_CELLS, Block, FRAME_CELLS, FRAMES, SUBFRAMES, zero_words};
 pub use block_cells::fill_block_cells;
 pub use carried::{CarriedBits, ones_in};
 pub use channel::Channel;

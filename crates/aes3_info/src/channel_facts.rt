@@ -7,8 +7,8 @@ ghost use Rattle.aes3_frame.specs.Statuses.{status_of};
 ghost use Rattle.aes3_info.specs.Facts.{channel_facts, differs, first_with, greatest, magnitudes};
 ghost use Rattle.aes3_info.specs.Facts.{more_energy, square, with_block};
 
-use crate::more::{more, more_energy};
 use crate::samples::{magnitude_at, square};
+use crate::saturating::{more, more_energy};
 use aes3_block::{Block, Channel, SUBFRAMES};
 use aes3_frame::{FRAMES, ones_in};
 

@@ -4,7 +4,7 @@ ghost use Rattle.std.specs.Prelude.{◌≡◌, ◌≤◌, ◌^◌, []};
 ghost use Rattle.aes3_lock_gaps.specs.Gaps.{behind_full, full_count, full_gaps, gaps};
 ghost use Rattle.aes3_info.specs.Facts.{both_gaps, gap_facts};
 
-use crate::more::more;
+use crate::saturating::more;
 use aes3_frame::BLOCK_CELLS;
 
 /// How many gaps there are, and how many cells they have.

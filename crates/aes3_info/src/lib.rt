@@ -12,8 +12,6 @@ mod facts;
 mod gaps;
 /// Counting cells as they come, and the page at their end.
 mod inspector;
-/// Counts that stop at the greatest number.
-mod more;
 /// The page, field by field.
 mod page;
 /// The sampling frequency that a channel status names.
@@ -22,5 +20,7 @@ mod rate;
 mod reports;
 /// The magnitudes of a block's samples.
 mod samples;
+/// Counts that stop at the greatest number.
+mod saturating;
 
 pub use inspector::info;

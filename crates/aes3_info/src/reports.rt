@@ -5,7 +5,7 @@ ghost use Rattle.aes3_lock.specs.Following.{report_in};
 ghost use Rattle.aes3_watch.specs.Sums.{is_biphase, is_preamble, is_unclosed};
 ghost use Rattle.aes3_info.specs.Facts.{report_facts, with_report};
 
-use crate::more::more;
+use crate::saturating::more;
 use aes3_lock::{Ending, Lock, Why};
 
 /// How many reports there were of each kind.

@@ -1,6 +1,8 @@
 //! The lock: all reports of any cells, in one pass and fixed memory (AES3-3, IEC 60958-1).
 #![tactic(auto)]
 
+/// All reports of a list of cells, with each place tried by itself.
+mod all_reports;
 /// The cells of one incomplete subframe and of eight at once, and the last eight cells.
 mod begun_subframe;
 /// A place at which a block may begin.
@@ -17,18 +19,16 @@ mod report;
 mod rule;
 /// The scan: all preambles, and nothing else.
 mod scan;
-/// All reports of a list of cells, with each place tried by itself.
-mod slow;
 /// How many reports of each kind there were.
 mod tally;
 /// The preambles that end in a word of cells.
 mod word_marks;
 
+pub use all_reports::reports_of;
 pub use candidate::Candidate;
 pub use lock::Lock;
 pub use parts::LockParts;
 pub use report::{Ending, Report, Why};
 pub use scan::Scan;
-pub use slow::reports_of;
 pub use tally::Tally;
 pub use word_marks::WordMarks;

@@ -10,12 +10,12 @@ mod chunk;
 mod header_error;
 /// What the reader of a header keeps.
 mod header_reader;
+/// The reader of a header.
+mod header_reading;
 /// The laws of headers.
 pub mod laws;
 /// Numbers in octets.
 mod octets;
-/// The reader of a header.
-mod reader;
 /// The octets of a file that are its samples.
 mod span;
 /// The format of the samples.

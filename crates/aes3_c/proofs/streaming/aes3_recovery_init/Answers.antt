@@ -1,4 +1,4 @@
-use Rattle.std.proofs.Common.{◌∙◌, List, ℕ, [], Some, refl, subst, sym}
+use Rattle.std.proofs.Common.{◌∙◌, List, ℕ, [], Some, arith, subst, sym}
 use Rattle.aes3_capture_recovery.proofs.Taking.{took-none}
 use Rattle.aes3_c.specs.Streaming.{TookOctets, told_itself}
 use Rattle.aes3_c.proofs.streaming.aes3_recovery_init.Goals as goal
@@ -17,5 +17,5 @@ returns-clause-taking c =
       kept_is = sym c.parts-recovery.ensures;
       took = subst (λ (l : List ℕ). TookOctets first first [] l []) (sym c.owe_nothing.ensures.none)
           (took-none told_itself first (Some []));
-      goes_on = refl;
+      goes_on = omega (arith);
     }

@@ -1,5 +1,0 @@
-use Rattle.aes3_c.proofs.Shares.{share-is}
-use Rattle.aes3_c.proofs.mark_calls.share.Goals as goal
-
-pub returns-clause-share : goal.returns-clause-share
-returns-clause-share c = share-is c.args.samples c.args.part c.args.cells c.requires.part
