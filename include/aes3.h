@@ -843,6 +843,46 @@ size_t aes3_samples_of_blocks(const uint32_t *words, size_t count, uint8_t form,
  */
 size_t aes3_blocks_of_samples(const uint8_t *octets, size_t count, uint8_t form, uint32_t *words, size_t room);
 
+/**
+ * Finds the first word of blocks whose sample would lose bits in a form, as `aes3 to-pcm --exact` does.
+ *
+ * Only #AES3_SAMPLES_S16 loses bits: the lowest 8 of 24, if one of them is set. aes3_samples_of_blocks() drops them.
+ *
+ * @param words  the words of blocks; it makes no difference whether they are valid, nor whether the last block is whole
+ * @param count  how many words
+ * @param form  an #aes3_sample_form; any other number counts as #AES3_SAMPLES_S32
+ * @return the number of that word, counted from 0 in `words`, or `count` if no sample would lose bits. Divided by 384 and rounded
+ *     down, it is how many whole blocks there are before the first that would lose bits.
+ *
+ * @code
+ * static uint32_t words[384];
+ * words[5] = 0x123400u << 4;
+ * assert(aes3_blocks_fit(words, 384, AES3_SAMPLES_S16) == 384);
+ * words[5] = 0x123401u << 4;
+ * assert(aes3_blocks_fit(words, 384, AES3_SAMPLES_S16) == 5);
+ * assert(aes3_blocks_fit(words, 384, AES3_SAMPLES_S24) == 384);
+ * @endcode
+ */
+size_t aes3_blocks_fit(const uint32_t *words, size_t count, uint8_t form);
+
+/**
+ * Finds the first sample in a form that has more than 24 bits, as `aes3 from-pcm --exact` does.
+ *
+ * Only samples in #AES3_SAMPLES_S32 can have more: their lowest octet is not 0 then. aes3_blocks_of_samples() drops it.
+ *
+ * @param octets  samples, from the lowest octet of the first one on; the last one need not be whole
+ * @param count  how many octets
+ * @param form  an #aes3_sample_form; any other number counts as #AES3_SAMPLES_S32
+ * @return the number of the lowest octet of that sample, counted from 0 in `octets`, or `count` if no sample has more bits
+ *
+ * @code
+ * static const uint8_t octets[12] = {0, 0x56, 0x34, 0x12, 0x01, 0x56, 0x34, 0x12};
+ * assert(aes3_samples_fit(octets, 12, AES3_SAMPLES_S32) == 4);
+ * assert(aes3_samples_fit(octets, 12, AES3_SAMPLES_S24) == 12);
+ * @endcode
+ */
+size_t aes3_samples_fit(const uint8_t *octets, size_t count, uint8_t form);
+
 /** @} */
 
 /**

@@ -193,6 +193,11 @@ inline std::size_t blocks_of_samples(span<const uint8_t> from, uint8_t form, spa
     return aes3_blocks_of_samples(from.data, from.size, form, to.data, to.size);
 }
 
+// The number of the first word whose sample would lose bits in a form, or how many words there are; and of samples in a form the
+// number of the lowest octet of the first that has more than 24 bits, or how many octets there are.
+inline std::size_t blocks_fit(span<const uint32_t> from, uint8_t form) { return aes3_blocks_fit(from.data, from.size, form); }
+inline std::size_t samples_fit(span<const uint8_t> from, uint8_t form) { return aes3_samples_fit(from.data, from.size, form); }
+
 // Of a block, and of its channel 1 or 2. Each answers 384, the number of the first word that is not valid, or
 // AES3_NO_CHANNEL where the channel is another number.
 inline uint32_t encode(const words &block, bool before, cells &to) { return aes3_encode_block(block, before, to); }

@@ -534,6 +534,57 @@ static void frames(void) {
     WANT(aes3_frames_between(most, 0, most) == 0 && aes3_frames_between(0, most, most) == 0);
 }
 
+/* The first sample that would lose bits, or none: in no words and in two blocks, at each word and in each form. */
+static void blocks_that_fit(void) {
+    static uint32_t blocks[2 * AES3_BLOCK_WORDS];
+    const size_t all = sizeof blocks / sizeof *blocks;
+    for (size_t i = 0; i < all; i++)
+        blocks[i] = ((uint32_t)(i * 0x9E3779B9u) & ~0xFF0u) | (uint32_t)i % 16;
+    for (uint8_t form = 0; form < 5; form++) {
+        WANT(aes3_blocks_fit(blocks, 0, form) == 0 && aes3_blocks_fit(blocks, 1, form) == 1);
+        WANT(aes3_blocks_fit(blocks, all, form) == all && aes3_blocks_fit(blocks + 1, all - 1, form) == all - 1);
+        for (size_t i = all; i-- > 0;) {
+            const uint32_t was = blocks[i];
+            int wrong = 0;
+            /* Each of the lowest 8 bits, and none of those around them. */
+            for (int bit = 4; bit < 12; bit++) {
+                blocks[i] = was | 1u << bit;
+                wrong |= aes3_blocks_fit(blocks, all, form) != (form == AES3_SAMPLES_S16 ? i : all);
+                wrong |= aes3_blocks_fit(blocks, i, form) != i;
+                wrong |= aes3_blocks_fit(blocks + i, 1, form) != (form == AES3_SAMPLES_S16 ? 0 : 1);
+            }
+            blocks[i] = was ^ 0xF000100F;
+            wrong |= aes3_blocks_fit(blocks, all, form) != all;
+            blocks[i] = was;
+            WANT(!wrong);
+        }
+    }
+    /* Of several it is the first. */
+    blocks[383] = 0x10, blocks[384] = 0xFF0, blocks[767] = 0x800;
+    WANT(aes3_blocks_fit(blocks, all, AES3_SAMPLES_S16) == 383 && aes3_blocks_fit(blocks + 384, 384, AES3_SAMPLES_S16) == 0);
+    WANT(aes3_blocks_fit(blocks + 385, 383, AES3_SAMPLES_S16) == 382 && aes3_blocks_fit(blocks + 385, 382, AES3_SAMPLES_S16) == 382);
+}
+
+/* The first sample of more than 24 bits, or none: octets of each number, the last sample whole or not. */
+static void samples_that_fit(void) {
+    static uint8_t octets[4 * 70];
+    for (size_t i = 0; i < sizeof octets; i++)
+        octets[i] = i % 4 ? (uint8_t)(i | 1) : 0;
+    for (uint8_t form = 0; form < 5; form++)
+        for (size_t count = 0; count <= sizeof octets; count++) {
+            int wrong = aes3_samples_fit(octets, count, form) != count;
+            for (size_t i = 0; i < sizeof octets; i += 4) {
+                octets[i] = (uint8_t)(1u << i / 4 % 8);
+                wrong |= aes3_samples_fit(octets, count, form) != ((form == AES3_SAMPLES_S32 || form == 4) && i < count ? i : count);
+                octets[i] = 0;
+            }
+            WANT(!wrong);
+        }
+    octets[4] = 0x80, octets[8] = 1;
+    WANT(aes3_samples_fit(octets, sizeof octets, AES3_SAMPLES_S32) == 4 && aes3_samples_fit(octets + 8, 1, AES3_SAMPLES_S32) == 0);
+    WANT(aes3_samples_fit(octets, 4, AES3_SAMPLES_S32) == 4 && aes3_samples_fit(octets, 5, AES3_SAMPLES_S32) == 4);
+}
+
 /* The order of bits in octets of any length, and nothing before or after them. Memory ends at a page that can't be touched. */
 static void reversed(void) {
     const size_t page = (size_t)sysconf(_SC_PAGESIZE);
@@ -685,6 +736,8 @@ int main(void) {
     many_words();
     accounts();
     frames();
+    blocks_that_fit();
+    samples_that_fit();
     reversed();
     captures();
     pieces();

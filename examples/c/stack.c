@@ -51,6 +51,8 @@ static void subframes_of_blocks(void) { aes3_subframes_of_blocks(words, AES3_BLO
 static void blocks_of_subframes(void) { aes3_blocks_of_subframes(packed, sizeof packed, AES3_SUBFRAMES_AM824, words, AES3_BLOCK_WORDS); }
 static void samples_of_blocks(void) { aes3_samples_of_blocks(words, AES3_BLOCK_WORDS, AES3_SAMPLES_S24, packed, sizeof packed); }
 static void blocks_of_samples(void) { aes3_blocks_of_samples(packed, sizeof packed, AES3_SAMPLES_S24, words, AES3_BLOCK_WORDS); }
+static void blocks_fit(void) { word = aes3_blocks_fit(words, AES3_BLOCK_WORDS, AES3_SAMPLES_S16); }
+static void samples_fit(void) { word = aes3_samples_fit(packed, sizeof packed, AES3_SAMPLES_S32); }
 static void block_status(void) { aes3_block_status(words, 1, status); }
 static void block_validity(void) { aes3_block_validity(words, 1, status); }
 static void block_user(void) { aes3_block_user(words, 1, status); }
@@ -117,6 +119,8 @@ int main(void) {
     failed |= tell("aes3_blocks_of_subframes", blocks_of_subframes, 8192);
     failed |= tell("aes3_samples_of_blocks", samples_of_blocks, 8192);
     failed |= tell("aes3_blocks_of_samples", blocks_of_samples, 8192);
+    failed |= tell("aes3_blocks_fit", blocks_fit, 256);
+    failed |= tell("aes3_samples_fit", samples_fit, 256);
     failed |= tell("aes3_lock_init", init, 256);
     failed |= tell("aes3_lock_push, none", begin_block, 8192);
     failed |= tell("aes3_lock_take_words", take_words, 4096);

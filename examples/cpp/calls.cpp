@@ -159,6 +159,9 @@ static void judge_many(const aes3::words &block) {
     judge("the same block", std::memcmp(back, block, sizeof back) == 0);
     judge("samples_of_blocks", aes3::samples_of_blocks(block, AES3_SAMPLES_S16, made) == AES3_BLOCK_WORDS);
     judge("blocks_of_samples", aes3::blocks_of_samples({made, 768}, AES3_SAMPLES_S16, back) == AES3_BLOCK_WORDS && back[0] == 0);
+    back[7] = 1u << 4, made[8] = 1;
+    judge("blocks_fit", aes3::blocks_fit(back, AES3_SAMPLES_S16) == 7 && aes3::blocks_fit(back, AES3_SAMPLES_S24) == AES3_BLOCK_WORDS);
+    judge("samples_fit", aes3::samples_fit({made, 768}, AES3_SAMPLES_S32) == 8 && aes3::samples_fit({made, 768}, AES3_SAMPLES_S16) == 768);
 }
 
 int main() {

@@ -31,6 +31,8 @@ NONE, WHOLE, MARKED, FAULT, UNFINISHED = range(5)
 WHYS = "preamble", "biphase", "unclosed"
 FOUND = "samples", "cells", "period", "edges", "greatest", "squares", "dead", "dead_at", "measured"
 
+_SAMPLE_FORMS = "s32", "s24", "s24in32", "s16"  # by their numbers in aes3.h
+
 _Words = c.c_uint32 * 384
 _Cells = c.c_uint64 * 384
 _Samples = c.c_int32 * 384
@@ -118,6 +120,8 @@ _encode_block = _declare("aes3_encode_block", c.c_uint32, _at, c.c_uint8, _at)
 _encode_blocks = _declare("aes3_encode_blocks", c.c_size_t, _at, c.c_size_t, c.c_uint8, _at, c.c_size_t)
 _samples_of_blocks = _declare("aes3_samples_of_blocks", c.c_size_t, _at, c.c_size_t, c.c_uint8, _at, c.c_size_t)
 _blocks_of_samples = _declare("aes3_blocks_of_samples", c.c_size_t, _at, c.c_size_t, c.c_uint8, _at, c.c_size_t)
+_blocks_fit = _declare("aes3_blocks_fit", c.c_size_t, _at, c.c_size_t, c.c_uint8)
+_samples_fit = _declare("aes3_samples_fit", c.c_size_t, _at, c.c_size_t, c.c_uint8)
 _block_samples = _declare("aes3_block_samples", c.c_uint32, _at, _at)
 _block_of_samples = _declare("aes3_block_of_samples", None, _at, _at)
 _bits = {
@@ -383,6 +387,32 @@ def block_of_samples(samples: Numbers) -> BlockWords:
     _block_of_samples(_Samples(*_block_of(samples, _SAMPLES)), words)
     found: BlockWords = _out(words)
     return found
+
+
+def blocks_fit(words: Numbers, form: str) -> int:
+    """The number of the first word of blocks whose sample would lose bits in a form, or how many words there are.
+
+    The form is `s32`, `s24`, `s24in32` or `s16`. Only `s16` loses bits: the lowest 8 of 24, if one of them is set. `aes3 to-pcm --exact`
+    rejects the block of that word.
+    """
+    numbers = _numbers(words, _BLOCK)
+    return _blocks_fit((c.c_uint32 * len(numbers))(*numbers), len(numbers), _sample_form(form))
+
+
+def samples_fit(octets: Octets, form: str) -> int:
+    """The number of the lowest octet of the first sample that has more than 24 bits, or how many octets there are.
+
+    The octets are samples in a form, as `blocks_fit` has it, the lowest octet first. Only samples in `s32` can have more bits.
+    `aes3 from-pcm --exact` rejects that sample.
+    """
+    owner, at, count = _octets_in(octets, "the octets of samples")
+    return _samples_fit(at, count, _sample_form(form))
+
+
+def _sample_form(form: str) -> int:
+    if form not in _SAMPLE_FORMS:
+        raise ValueError(f"form is one of {', '.join(_SAMPLE_FORMS)}, not {form!r}")
+    return _SAMPLE_FORMS.index(form)
 
 
 def block_status(words: Numbers, channel: int) -> bytes:

@@ -672,6 +672,27 @@ def check_other_octets():
     is_refused(TypeError, aes3.frames_between, 0, 0.5, 0)
 
 
+def check_lost_bits():
+    """The first word and the first octet of a sample that would lose bits."""
+    words = [0x1234 << 12] * 800
+    octets = bytes([0, 1, 2, 3]) * 100
+    for form in "s32", "s24", "s24in32", "s16":
+        assert aes3.blocks_fit([], form) == 0 and aes3.samples_fit(b"", form) == 0
+        assert aes3.blocks_fit(array.array("I", words), form) == 800 and aes3.samples_fit(octets, form) == 400
+        for wrong in 0, 383, 384, 799:
+            other = words[:wrong] + [16] * (800 - wrong)
+            assert aes3.blocks_fit(other, form) == (wrong if form == "s16" else 800)
+        for wrong in 0, 4, 396:
+            other = octets[:wrong] + b"\x80" + octets[wrong + 1 :]
+            assert aes3.samples_fit(other, form) == (wrong if form == "s32" else 400)
+    assert aes3.samples_fit(octets[1:], "s32") == 0 and aes3.samples_fit(bytearray(b"\1"), "s32") == 0
+    for wrong in [-1], [2**32], [0.5], None:
+        assert refusal(aes3.blocks_fit, wrong, "s16") in (TypeError, ValueError)
+    for call in aes3.blocks_fit, aes3.samples_fit:
+        for form in "s8", "", None, 3, ["s16"]:
+            is_refused(ValueError, call, [], form)
+
+
 def check_match():
     if sys.version_info < (3, 10):
         return

@@ -1,6 +1,7 @@
 pub mod Codes
 pub mod Bits
 pub mod Blocks
+pub mod Exact
 pub mod States
 pub mod Professional
 pub mod Consumer

@@ -17,6 +17,8 @@ mod capture;
 mod cell_calls;
 /// The fields of consumer channel status.
 mod consumer_calls;
+/// Samples that would lose bits.
+mod exact_calls;
 /// Frames that fill the time between whole blocks.
 mod frame_calls;
 /// The gaps of the account of all cells.

@@ -10,7 +10,7 @@ use aes3_block::{BLOCK_BYTES, Block};
 use aes3_frame::{AUDIO_LIMIT, payload_of_word};
 
 /// The sample in a word of a block file, in the highest 24 of 32 bits.
-fn sample_of_word(word: u32) -> u32
+pub(crate) fn sample_of_word(word: u32) -> u32
     ensures { result ≡ sample_of (payload_of word) }
 {
     (payload_of_word(word) % AUDIO_LIMIT) << 8

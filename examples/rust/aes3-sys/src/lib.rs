@@ -364,6 +364,10 @@ extern "C" {
     pub fn aes3_samples_of_blocks(words: *const u32, count: usize, form: u8, octets: *mut u8, room: usize) -> usize;
     /// Puts the words of the blocks of samples in a form; returns how many.
     pub fn aes3_blocks_of_samples(octets: *const u8, count: usize, form: u8, words: *mut u32, room: usize) -> usize;
+    /// The number of the first word of blocks whose sample would lose bits in a form, or `count`.
+    pub fn aes3_blocks_fit(words: *const u32, count: usize, form: u8) -> usize;
+    /// The number of the lowest octet of the first sample in a form that has more than 24 bits, or `count`.
+    pub fn aes3_samples_fit(octets: *const u8, count: usize, form: u8) -> usize;
     /// Puts the word of 64 characters, if each is `0` or `1`.
     pub fn aes3_word_of_text(text: *const u8, word: *mut u64) -> bool;
     /// The word of eight octets.
