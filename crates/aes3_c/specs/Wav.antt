@@ -12,8 +12,8 @@ use Rattle.aes3_wave.specs.declared.wave_format.WaveFormat.{WaveFormat}
 use Rattle.aes3_wave.specs.declared.wave_format.Width.{Width}
 use Rattle.aes3_wave.specs.declared.wave_format.Width.TheVariants.{Bits8, Bits16, Bits20, Bits24, Bits32}
 use Rattle.aes3_wave.specs.declared.channels.Channels.{Channels}
-use Rattle.aes3_wave.specs.declared.written.Depth.{Depth}
-use Rattle.aes3_wave.specs.declared.written.Depth.TheVariants.{Sixteen, TwentyFour, ThirtyTwo}
+use Rattle.aes3_wave.specs.declared.header_writing.Depth.{Depth}
+use Rattle.aes3_wave.specs.declared.header_writing.Depth.TheVariants.{Sixteen, TwentyFour, ThirtyTwo}
 use Rattle.aes3_wave.specs.Formats.{container_len, frame_len}
 use Rattle.aes3_wave.specs.Headers.{Judged}
 use Rattle.aes3_wave.specs.Samples.{two_samples}

@@ -8,7 +8,7 @@ ghost use Rattle.aes3_wave.specs.declared.header_error.HeaderError.{HeaderError}
 ghost use Rattle.aes3_wave.specs.Following.{Follows};
 ghost use Rattle.aes3_wave.specs.Headers.{judged};
 ghost use Rattle.aes3_wave.specs.Written.{written};
-ghost use Rattle.aes3_wave.specs.declared.written.Depth.{Depth};
+ghost use Rattle.aes3_wave.specs.declared.header_writing.Depth.{Depth};
 ghost use Rattle.aes3_c.specs.Wav.{answer_code, cause_code, depth_of, frames_len, header_in};
 ghost use Rattle.aes3_c.specs.Wav.{header_len, len_code, wav_of, width_bits};
 

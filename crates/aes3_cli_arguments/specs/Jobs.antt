@@ -46,8 +46,8 @@ use Rattle.aes3_forms_samples.specs.declared.sample_format.SampleFormat.TheVaria
 use Rattle.aes3_wave.specs.declared.channels.Channels.{Channels}
 use Rattle.aes3_wave.specs.declared.channels.Mono.{Mono}
 use Rattle.aes3_wave.specs.declared.channels.Mono.TheVariants as mono
-use Rattle.aes3_wave.specs.declared.written.Depth.{Depth}
-use Rattle.aes3_wave.specs.declared.written.Depth.TheVariants.{Sixteen, TwentyFour, ThirtyTwo}
+use Rattle.aes3_wave.specs.declared.header_writing.Depth.{Depth}
+use Rattle.aes3_wave.specs.declared.header_writing.Depth.TheVariants.{Sixteen, TwentyFour, ThirtyTwo}
 use Rattle.aes3_forms_words.specs.declared.alsa_am824.Words.{Words}
 use Rattle.aes3_forms_words.specs.declared.alsa_am824.Words.TheVariants as word_form
 use Rattle.aes3_cli.specs.CommandLine.{command_line, most_cells, most_frames, most_seconds}

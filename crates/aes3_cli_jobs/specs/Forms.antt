@@ -8,7 +8,7 @@ use Rattle.aes3_cli_jobs.specs.declared.job.Job.TheVariants.{Encode, Stream, Rea
 use Rattle.aes3_cli_jobs.specs.declared.work.ReadWork.{ReadWork}
 use Rattle.aes3_cli_jobs.specs.declared.work.ReadWork.TheVariants.{Check, Account, Watch, WatchSums, Info}
 use Rattle.aes3_cli_jobs.specs.declared.work.ReadWork.TheVariants.{ToWav, ToExactWav, ToFilledWav}
-use Rattle.aes3_wave.specs.declared.written.Depth.{Depth}
+use Rattle.aes3_wave.specs.declared.header_writing.Depth.{Depth}
 
 -- whether it is the packed form
 abbrev pub is_packed : Form → Bool

@@ -1,5 +1,6 @@
-//! Blocks, also made of samples in the form of sound programs.
-use aes3_slot::{SUBFRAME_CELLS, slot_bits};
+//! Blocks, and the words that a block file has for them: bit `n` is time slot `n`, and slots 0 to 3
+//! are zero. Blocks are also made of samples in the form of sound programs.
+use aes3_slot::{SUBFRAME_CELLS, payload_parity, slot_bits};
 use std::marker::Model;
 
 /// How many frames a block has.
@@ -16,6 +17,9 @@ pub const BLOCK_CELLS: u64 = SUBFRAME_CELLS * SUBFRAMES as u64;
 
 /// How many bytes a block has in a block file.
 pub const BLOCK_BYTES: usize = 4 * SUBFRAMES;
+
+/// The number of payloads of 27 bits.
+pub const PAYLOAD_LIMIT: u32 = 1 << 27;
 
 /// A block: 192 frames that begin with preamble Z (AES3-3, IEC 60958-1).
 ///
@@ -37,18 +41,15 @@ impl Model for Block {
     ghost invariant = { λ b. (i : ℕ) → i < block_subframes → is_lawful (get_or b.words i 0) ≡ true };
 }
 
-ghost use Rattle.std.specs.Prelude.{◌≡◌, ◌<◌, ◌+◌, ◌*◌, ℕ, IfErr, IfOk, Some, true, false, get_or};
+ghost use Rattle.std.specs.Prelude.{◌≡◌, ◌<◌, ◌+◌, ◌*◌, ◌/◌, ◌^◌, ℕ, IfErr, IfOk, Some, true, false, get_or};
 ghost use Rattle.std.specs.Prelude.{[], length, map, replicate, slice_get, slice_index_or, slice_set, take};
 ghost use Rattle.aes3_frame.specs.Blocks.{block_subframes, zero_block};
-ghost use Rattle.aes3_frame.specs.Files.{is_lawful, payload_of, words_of};
+ghost use Rattle.aes3_frame.specs.Files.{has_code, has_parity, is_lawful, payload_of, words_of};
 ghost use Rattle.aes3_frame.specs.Subframes.{bits_of};
 ghost use Rattle.aes3_frame.specs.Sampled.{payload_of_sample};
 ghost use Rattle.aes3_slot.specs.ReadWords.{read_word, read_words};
-ghost use Rattle.aes3_slot.specs.Slots.{payload_len};
+ghost use Rattle.aes3_slot.specs.Slots.{payload_bits, payload_len, slots_bits};
 
-use crate::file_word::{
-    PAYLOAD_LIMIT, has_right_code, has_right_parity, payload_of_word, with_bit, word_of_payload,
-};
 use crate::frame::Frame;
 use crate::subframe::Subframe;
 
@@ -58,6 +59,69 @@ pub fn zero_words() -> [u32; SUBFRAMES]
     ensures { result ≡ replicate block_subframes 0 }
 {
     [0; SUBFRAMES]
+}
+
+/// The valid word of a payload.
+pub(crate) fn word_of_payload(payload: u32) -> u32
+    requires { payload < 2 ^ 27 }
+    ensures lawful { is_lawful result ≡ true }
+    ensures payload { payload_of result ≡ payload_bits payload }
+{
+    let parity = u32::from(payload_parity(payload));
+    (payload | (parity << 27)) << 4
+}
+
+/// The payload of a word.
+pub fn payload_of_word(word: u32) -> u32
+    ensures bound { result < 2 ^ 27 }
+    ensures bits { payload_bits result ≡ payload_of word }
+{
+    (word >> 4) % PAYLOAD_LIMIT
+}
+
+/// Whether the bit at `place` of a word's payload is set.
+#[inline(always)]
+pub(crate) fn bit_of_word(word: u32, place: u32) -> bool
+    requires { place < 27 }
+    ensures { slice_index_or (payload_of word) place false ≡ result }
+{
+    word >> (4 + place) & 1 == 1
+}
+
+/// The valid word of the same payload with another bit at `place`.
+#[inline(always)]
+pub(crate) fn with_bit(word: u32, place: u32, value: bool) -> u32
+    requires lawful { is_lawful word ≡ true }
+    requires place { place < 27 }
+    ensures lawful { is_lawful result ≡ true }
+    ensures payload { payload_of result ≡ slice_set (payload_of word) place value }
+{
+    // If the bit changes, so does the parity: inverting it keeps it right, without a count of ones.
+    let slot = 4 + place;
+    let turned = (word ^ u32::from(value) << slot) & 1 << slot;
+    word ^ (turned | turned << (31 - slot))
+}
+
+/// The bits in slots 4 to 31 of a word, with its parity bit.
+pub(crate) fn slots_of_word(word: u32) -> u32
+    ensures bound { result < 2 ^ 28 }
+    ensures value { result ≡ word / 16 }
+{
+    word >> 4
+}
+
+/// Whether bits 0 to 3 of a word are zero.
+pub fn has_right_code(word: u32) -> bool
+    ensures { result ≡ has_code word }
+{
+    word % 16 == 0
+}
+
+/// Whether bit 31 of a word makes the number of ones in bits 4 to 31 even.
+pub fn has_right_parity(word: u32) -> bool
+    ensures { result ≡ has_parity word }
+{
+    (word >> 4).count_ones() % 2 == 0
 }
 
 /// Whether a word is valid in a block file.

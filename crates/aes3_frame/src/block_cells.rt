@@ -5,8 +5,7 @@ ghost use Rattle.std.specs.List.{flat_map};
 ghost use Rattle.aes3_level.specs.Words.{word_cells};
 ghost use Rattle.aes3_frame.specs.Blocks.{block_cells};
 
-use crate::block::{Block, SUBFRAMES};
-use crate::file_word::slots_of_word;
+use crate::block::{Block, SUBFRAMES, slots_of_word};
 use aes3_level::Level;
 use aes3_slot::{Mark, slots_cells, slots_cells_of_four};
 use std::simd::prelude::*;

@@ -19,9 +19,8 @@ ghost use Rattle.aes3_frame.specs.Statuses.{bits_at, bits_of_bytes, bytes_in, pl
 ghost use Rattle.aes3_frame.specs.Statuses.{first_subframe_of, validity_of, user_of, with_bits_at};
 ghost use Rattle.aes3_frame.specs.Statuses.{with_validity, with_user, status_of, with_status};
 
-use crate::block::{Block, FRAMES};
+use crate::block::{Block, FRAMES, bit_of_word};
 use crate::channel::{Channel, STATUS_LEN};
-use crate::file_word::bit_of_word;
 
 impl Block {
     /// The validity bits of a channel (AES3-1, IEC 60958-1): bit `i % 8` of byte `i / 8` is the V

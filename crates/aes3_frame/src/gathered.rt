@@ -42,7 +42,7 @@ ghost use Rattle.aes3_frame.specs.Blocks.{block_cells, block_subframes, mark_at}
 ghost use Rattle.aes3_frame.specs.Files.{is_lawful, payload_of};
 ghost use Rattle.aes3_frame.specs.Gathered.{IsRight, with_first};
 
-use crate::file_word::{payload_of_word, word_of_payload};
+use crate::block::{payload_of_word, word_of_payload};
 use crate::parity::wrong_parities;
 
 /// Not zero if a subframe's last cell differs from the level `before`, as it does if its parity is

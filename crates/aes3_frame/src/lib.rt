@@ -2,7 +2,7 @@
 //! as they are gathered from a line.
 #![tactic(auto)]
 
-/// A block: the words of its 384 subframes, also made of samples.
+/// A block: the words of its 384 subframes in a block file, also made of samples.
 mod block;
 /// The cells of a block, made four subframes at a time.
 mod block_cells;
@@ -11,8 +11,6 @@ mod block_cells;
 mod carried;
 /// The two channels of a line.
 mod channel;
-/// A word of a block file: bit `n` is time slot `n`.
-mod file_word;
 /// What fills the place of frames that no block has.
 mod fill;
 /// A frame: its two subframes.
@@ -27,11 +25,13 @@ mod parity;
 mod subframe;
 
 pub use aes3_slot::mark_of;
-pub use block::{BLOCK_BYTES, BLOCK_CELLS, Block, FRAME_CELLS, FRAMES, SUBFRAMES, zero_words};
+pub use block::{
+    BLOCK_BYTES, BLOCK_CELLS, Block, FRAME_CELLS, FRAMES, PAYLOAD_LIMIT, SUBFRAMES, has_right_code,
+    has_right_parity, payload_of_word, zero_words,
+};
 pub use block_cells::fill_block_cells;
 pub use carried::{CarriedBits, ones_in};
 pub use channel::Channel;
-pub use file_word::{PAYLOAD_LIMIT, has_right_code, has_right_parity, payload_of_word};
 pub use fill::Fill;
 pub use frame::Frame;
 pub use gathered::{GatheredCells, wrong_in};

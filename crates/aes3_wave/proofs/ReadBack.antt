@@ -7,8 +7,8 @@ use Rattle.std.specs.Int.{to_le_bytes, w32, w64}
 use Rattle.std.proofs.lemmas.Bool.{ltb-true, ne_eqb}
 use Rattle.std.proofs.lemmas.List.{length-append}
 use Rattle.aes3_wave.specs.declared.chunk.Known.{Known}
-use Rattle.aes3_wave.specs.declared.written.Depth.{Depth}
-use Rattle.aes3_wave.specs.declared.written.Depth.TheVariants.{Sixteen, TwentyFour, ThirtyTwo}
+use Rattle.aes3_wave.specs.declared.header_writing.Depth.{Depth}
+use Rattle.aes3_wave.specs.declared.header_writing.Depth.TheVariants.{Sixteen, TwentyFour, ThirtyTwo}
 use Rattle.aes3_wave.specs.Octets.{u32_at, u64_at}
 use Rattle.aes3_wave.specs.Formats.{format_of}
 use Rattle.aes3_wave.specs.Chunks.{head, known_with}

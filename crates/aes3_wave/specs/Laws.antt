@@ -5,7 +5,7 @@ use Rattle.std.specs.List.{concat}
 use Rattle.std.specs.Option.{ForSome}
 use Rattle.aes3_wave.specs.declared.chunk.Known.{Known}
 use Rattle.aes3_wave.specs.declared.chunk.WaveHeader.{WaveHeader}
-use Rattle.aes3_wave.specs.declared.written.Depth.{Depth}
+use Rattle.aes3_wave.specs.declared.header_writing.Depth.{Depth}
 use Rattle.aes3_wave.specs.Chunks.{chunk_len, head, is_data, known_with}
 use Rattle.aes3_wave.specs.Headers.{first_known, found, header_in, judged}
 use Rattle.aes3_wave.specs.Written.{written, written_format}

@@ -9,8 +9,8 @@ use Rattle.aes3_wave.specs.declared.wave_format.Container.TheVariants.{Octets2, 
 use Rattle.aes3_wave.specs.declared.wave_format.Width.{Width}
 use Rattle.aes3_wave.specs.declared.wave_format.Width.TheVariants.{Bits16, Bits24, Bits32}
 use Rattle.aes3_wave.specs.declared.wave_format.WaveFormat.{WaveFormat}
-use Rattle.aes3_wave.specs.declared.written.Depth.{Depth}
-use Rattle.aes3_wave.specs.declared.written.Depth.TheVariants.{Sixteen, TwentyFour, ThirtyTwo}
+use Rattle.aes3_wave.specs.declared.header_writing.Depth.{Depth}
+use Rattle.aes3_wave.specs.declared.header_writing.Depth.TheVariants.{Sixteen, TwentyFour, ThirtyTwo}
 use Rattle.aes3_wave.specs.Formats.{container_len, guid_end}
 
 -- the format of samples of so many bits

@@ -12,6 +12,8 @@ mod header_error;
 mod header_reader;
 /// The reader of a header.
 mod header_reading;
+/// Writing the header.
+mod header_writing;
 /// The laws of headers.
 pub mod laws;
 /// Numbers in octets.
@@ -20,13 +22,11 @@ mod octets;
 mod span;
 /// The format of the samples.
 mod wave_format;
-/// Writing the header.
-mod written;
 
 pub use channels::{Channels, Mono};
 pub use chunk::WaveHeader;
 pub use header_error::{Cause, HeaderError};
 pub use header_reader::HeaderReader;
+pub use header_writing::{Depth, HeaderOctets, header_of};
 pub use span::SampleSpan;
 pub use wave_format::{Container, WaveFormat, Width};
-pub use written::{Depth, HeaderOctets, header_of};

@@ -17,7 +17,7 @@ use Rattle.aes3_lock.specs.Reports.{decided, reports}
 use Rattle.aes3_lock_runs.specs.Listening.{reports_in}
 use Rattle.aes3_lock_runs.specs.Reporting.{decided_at_end, decided_by}
 use Rattle.aes3_lock_runs.proofs.Reports.{decided-more, reports-more}
-use Rattle.aes3_wave.specs.declared.written.Depth.{Depth}
+use Rattle.aes3_wave.specs.declared.header_writing.Depth.{Depth}
 use Rattle.aes3_wave_runs.specs.declared.headed.Header.{Header}
 use Rattle.aes3_wave_runs.specs.HeadedSamples.{IsOpened, IsQuiet, close_of, headed, named_after, open_after, opened_after}
 use Rattle.aes3_wave.specs.Written.{written}

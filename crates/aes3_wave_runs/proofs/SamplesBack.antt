@@ -15,8 +15,8 @@ use Rattle.aes3_forms_samples.specs.Formats.{fours, narrow_one, narrowed, widene
 use Rattle.aes3_status.specs.Consumer as con
 use Rattle.aes3_status.specs.Professional as pro
 use Rattle.aes3_status.specs.Statuses.{is_professional}
-use Rattle.aes3_wave.specs.declared.written.Depth.{Depth}
-use Rattle.aes3_wave.specs.declared.written.Depth.TheVariants.{Sixteen, TwentyFour, ThirtyTwo}
+use Rattle.aes3_wave.specs.declared.header_writing.Depth.{Depth}
+use Rattle.aes3_wave.specs.declared.header_writing.Depth.TheVariants.{Sixteen, TwentyFour, ThirtyTwo}
 use Rattle.aes3_wave.specs.Formats.{frame_len}
 use Rattle.aes3_wave.specs.Written.{written_format}
 use Rattle.aes3_wave.proofs.ReadBack.{written-read}

@@ -9,8 +9,8 @@ use Rattle.aes3_wave.specs.declared.wave_format.Container.{Container}
 use Rattle.aes3_wave.specs.declared.wave_format.WaveFormat.{WaveFormat}
 use Rattle.aes3_wave.specs.declared.wave_format.Width.{Width}
 use Rattle.aes3_wave.specs.declared.channels.Channels.{Channels}
-use Rattle.aes3_wave.specs.declared.written.Depth.{Depth}
-use Rattle.aes3_wave.specs.declared.written.Depth.TheVariants.{Sixteen, TwentyFour, ThirtyTwo}
+use Rattle.aes3_wave.specs.declared.header_writing.Depth.{Depth}
+use Rattle.aes3_wave.specs.declared.header_writing.Depth.TheVariants.{Sixteen, TwentyFour, ThirtyTwo}
 use Rattle.aes3_wave.specs.Formats.{frame_len}
 use Rattle.aes3_wave.specs.Samples.{two_samples}
 use Rattle.aes3_wave.specs.Written.{written_format}

@@ -42,8 +42,8 @@ use Rattle.aes3_engine.proofs.FillRuns.{is-filled, is-mended}
 use Rattle.aes3_engine.proofs.FillSteps.{before-filled, with-filled}
 use Rattle.aes3_engine.proofs.GivenBlocks.{before-mended, with-mended}
 use Rattle.aes3_engine.proofs.PcmRuns.{block-whole, narrowed-begun, narrowed-whole, valid-whole}
-use Rattle.aes3_wave.specs.declared.written.Depth.{Depth}
-use Rattle.aes3_wave.specs.declared.written.Depth.TheVariants.{Sixteen, TwentyFour, ThirtyTwo}
+use Rattle.aes3_wave.specs.declared.header_writing.Depth.{Depth}
+use Rattle.aes3_wave.specs.declared.header_writing.Depth.TheVariants.{Sixteen, TwentyFour, ThirtyTwo}
 use Rattle.aes3_wave.specs.Written.{written}
 use Rattle.aes3_wave_runs.specs.declared.headed.Headed.{Headed}
 use Rattle.aes3_wave_runs.specs.declared.options.ExactWave.{ExactWave}

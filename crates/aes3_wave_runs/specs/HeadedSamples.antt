@@ -9,7 +9,7 @@ use Rattle.aes3_input.specs.Taking.{Writing, before_end, with_end}
 use Rattle.aes3_lock.specs.declared.report.Report.{Report}
 use Rattle.aes3_lock.specs.Reports.{decided, reports}
 use Rattle.aes3_lock_runs.specs.ReportRuns.{counts_of}
-use Rattle.aes3_wave.specs.declared.written.Depth.{Depth}
+use Rattle.aes3_wave.specs.declared.header_writing.Depth.{Depth}
 use Rattle.aes3_wave_runs.specs.declared.headed.Header.{Header}
 use Rattle.aes3_wave_runs.specs.declared.options.WaveWritten.{WaveWritten}
 use Rattle.aes3_wave_runs.specs.ToWav.{IsNamed, first_given, header_by, named_first, named_in, opened_by}

@@ -6,7 +6,7 @@ use Rattle.aes3_frame.specs.Blocks.{IsBlock}
 use Rattle.aes3_frame.specs.Samples.{samples}
 use Rattle.aes3_forms_samples.specs.Formats.{narrowed, widened}
 use Rattle.aes3_wave.specs.declared.chunk.WaveHeader.{WaveHeader}
-use Rattle.aes3_wave.specs.declared.written.Depth.{Depth}
+use Rattle.aes3_wave.specs.declared.header_writing.Depth.{Depth}
 use Rattle.aes3_wave.specs.Headers.{judged}
 use Rattle.aes3_wave.specs.declared.channels.Mono.{Mono}
 use Rattle.aes3_wave.specs.Samples.{usual_channels}

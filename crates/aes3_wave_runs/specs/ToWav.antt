@@ -22,8 +22,8 @@ use Rattle.aes3_forms_samples.specs.declared.sample_format.SampleFormat.TheVaria
 use Rattle.aes3_forms_samples.specs.Formats.{narrowed}
 use Rattle.aes3_lock_runs.specs.BlockRuns.{decided_blocks}
 use Rattle.aes3_lock_runs.specs.ReportRuns.{counts_of}
-use Rattle.aes3_wave.specs.declared.written.Depth.{Depth}
-use Rattle.aes3_wave.specs.declared.written.Depth.TheVariants.{Sixteen, TwentyFour, ThirtyTwo}
+use Rattle.aes3_wave.specs.declared.header_writing.Depth.{Depth}
+use Rattle.aes3_wave.specs.declared.header_writing.Depth.TheVariants.{Sixteen, TwentyFour, ThirtyTwo}
 use Rattle.aes3_wave.specs.Written.{written}
 use Rattle.aes3_wave_runs.specs.declared.options.ExactWave.{ExactWave}
 use Rattle.aes3_wave_runs.specs.declared.options.FilledWave.{FilledWave}

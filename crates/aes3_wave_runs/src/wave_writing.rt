@@ -6,7 +6,7 @@ ghost use Rattle.aes3_forms_samples.specs.Formats.{narrowed};
 ghost use Rattle.aes3_input.specs.Inputs.{cells_of};
 ghost use Rattle.aes3_input.specs.Running.{InputRun, movement_of};
 ghost use Rattle.aes3_lock.specs.Reports.{blocks};
-ghost use Rattle.aes3_wave.specs.declared.written.Depth.TheVariants.{Sixteen};
+ghost use Rattle.aes3_wave.specs.declared.header_writing.Depth.TheVariants.{Sixteen};
 ghost use Rattle.aes3_wave_runs.specs.HeadedSamples.{IsQuiet, headed_cells};
 ghost use Rattle.aes3_wave_runs.specs.ToWav.{exact_pcm, exact_wave_cells, file_by, filled_pcm};
 ghost use Rattle.aes3_wave_runs.specs.ToWav.{filled_wave_cells, format_of, valid_pcm};

@@ -1,6 +1,6 @@
 use Rattle.std.proofs.Common.{◌∙◌, Option, codes, false, not, is_some, sym, ap}
 use Rattle.std.specs.Option.{option_map_or}
-use Rattle.aes3_wave.specs.declared.written.Depth.{Depth}
+use Rattle.aes3_wave.specs.declared.header_writing.Depth.{Depth}
 use Rattle.aes3_cli_arguments.specs.Jobs.{depth_in}
 use Rattle.aes3_cli_arguments.proofs.Misuses.{none_is}
 use Rattle.aes3_cli_arguments.proofs.OptionReads.{text_is}

@@ -1,7 +1,7 @@
 use Rattle.std.proofs.Common.{◌*◌, ◌^◌, ◌%◌, ap, bit_or, ◌∙◌, rules}
 use Rattle.aes3_frame.specs.Files.{is_lawful, payload_of}
 use Rattle.aes3_frame.proofs.BitLemmas.{word-lawful, word-payload}
-use Rattle.aes3_frame.proofs.file_word.word_of_payload.Goals as goal
+use Rattle.aes3_frame.proofs.block.word_of_payload.Goals as goal
 
 pub returns-clause-lawful : goal.returns-clause-lawful
 returns-clause-lawful c =

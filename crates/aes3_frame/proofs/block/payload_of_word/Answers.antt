@@ -1,7 +1,7 @@
 use Rattle.std.proofs.Common.{◌/◌}
 use Rattle.aes3_slot.specs.Slots.{payload_len}
 use Rattle.aes3_frame.proofs.BitLemmas.{low_bits-mod}
-use Rattle.aes3_frame.proofs.file_word.payload_of_word.Goals as goal
+use Rattle.aes3_frame.proofs.block.payload_of_word.Goals as goal
 
 pub returns-clause-bits : goal.returns-clause-bits
 unfolding payload_len

@@ -1,7 +1,7 @@
 use Rattle.std.proofs.Common.{◌+◌, ◌*◌, ◌^◌, ◌%◌, ap, bit_and, bit_or, bit_xor, ◌∙◌, rules}
 use Rattle.aes3_frame.specs.Files.{is_lawful, payload_of}
 use Rattle.aes3_frame.proofs.WordBits.{turned-word, turned-lawful, turned-payload}
-use Rattle.aes3_frame.proofs.file_word.with_bit.Goals as goal
+use Rattle.aes3_frame.proofs.block.with_bit.Goals as goal
 
 pub returns-clause-lawful : goal.returns-clause-lawful
 returns-clause-lawful c =
