@@ -15,3 +15,4 @@ pub mod Owed
 pub mod Streaming
 pub mod Marks
 pub mod Setting
+pub mod Watches

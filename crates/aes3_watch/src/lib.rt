@@ -19,5 +19,6 @@ mod watching;
 
 pub use accounting::account;
 pub use gap_line::line_of_gap;
+pub use signals::{ChannelSignals, EVENTS, Signals};
 pub use summing::watch_sums;
-pub use watching::watch;
+pub use watching::{Watched, watch};

@@ -19,8 +19,8 @@ use std::simd::prelude::*;
 /// How many validity bits a channel has in a block.
 const VALIDITY_BITS: u64 = FRAMES as u64;
 
-/// How many events are gathered at most.
-pub(crate) const EVENTS: usize = 8;
+/// How many events are gathered at most: those of a report and those after it.
+pub const EVENTS: usize = 8;
 
 /// How many words are taken at once.
 const LANES: usize = 16;
@@ -31,17 +31,18 @@ const FIRST_CELLS: u8 = 1 | 1 << 4;
 
 /// What a whole block says of a channel's samples.
 #[derive(Clone, Copy)]
-pub(crate) struct ChannelSignals {
-    pub(crate) status: [u8; 24],
-    /// How many validity bits are 1.
-    pub(crate) invalid: u64,
+pub struct ChannelSignals {
+    /// The channel status (AES3-2, IEC 60958-3).
+    pub status: [u8; 24],
+    /// How many validity bits are 1, at most 192.
+    pub invalid: u64,
 }
 
 /// What a whole block says of both channels' samples.
 #[derive(Clone, Copy)]
-pub(crate) struct Signals {
-    pub(crate) first: ChannelSignals,
-    pub(crate) second: ChannelSignals,
+pub struct Signals {
+    pub first: ChannelSignals,
+    pub second: ChannelSignals,
 }
 
 /// What a block says of a channel's samples.
@@ -57,7 +58,7 @@ fn channel_signals(block: &Block, channel: Channel) -> ChannelSignals
 impl Signals {
     /// What a block says of its samples.
     #[tactic(auto, unfolding(crate::specs::Signals::signals_of))]
-    pub(crate) fn of(block: &Block) -> Self
+    pub fn of(block: &Block) -> Self
         ensures { result ≡ signals_of block.now }
     {
         Signals {

@@ -48,22 +48,22 @@ pub(crate) fn put_events<T: Sink>(
 
 /// The state of a line after some cells.
 #[derive(Clone, Copy)]
-pub(crate) struct Watched {
+pub struct Watched {
     /// Whether a whole block has come.
-    pub(crate) found: bool,
+    pub found: bool,
     /// The cell after the last whole block, or the first cell of all.
-    pub(crate) place: u64,
+    pub place: u64,
     /// Whether the cells from there on are reported as lost.
-    pub(crate) lost: bool,
+    pub lost: bool,
     /// How often cells were reported as lost, and whole blocks as slipped.
-    pub(crate) losses: u64,
+    pub losses: u64,
     /// What the last whole block says of its samples, if there is one.
-    pub(crate) latest: Option<Signals>,
+    pub latest: Option<Signals>,
 }
 
 impl Watched {
     /// The state before the first cell.
-    fn new() -> Self
+    pub fn new() -> Self
         ensures { result ≡ unwatched }
     {
         Watched {
@@ -161,6 +161,63 @@ impl Watched {
             events.push(Event::Slipped { at, cells });
         }
     }
+
+    /// Advances to cell `to`, and adds the event of the cells that are lost before it, if any. No
+    /// whole block begins before it.
+    #[inline(always)]
+    pub fn go_on(&mut self, events: &mut ArrayVec<Event, EVENTS>, to: u64)
+        requires few { self.old.losses + 1 < 2 ^ 64 }
+        requires room { array_vec_len events.old + 1 ≤ EVENTS }
+        ensures state { self.new ≡ up_to self.old to }
+        ensures few { self.new.losses ≤ self.old.losses + 1 }
+        ensures latest { self.new.latest ≡ self.old.latest }
+        ensures events { events.new.items ≡ events.old.items ++ loss_events self.old to }
+        ensures len { array_vec_len events.new ≤ array_vec_len events.old + 1 }
+    {
+        self.add_loss(events, to);
+        *self = self.up_to(to);
+    }
+
+    /// Advances to and past a whole block at cell `at` with these signals, and adds its events.
+    pub fn take_whole(
+        &mut self,
+        events: &mut ArrayVec<Event, EVENTS>,
+        at: u64,
+        before: Level,
+        now: Signals,
+    )
+        requires few { self.old.losses + 2 < 2 ^ 64 }
+        requires near { at ≤ 2 ^ 43 }
+        requires room { array_vec_len events.old + 6 ≤ EVENTS }
+        ensures state { self.new ≡ behind_whole (up_to self.old at) at now }
+        ensures few { self.new.losses ≤ self.old.losses + 2 }
+        ensures latest { self.new.latest ≡ Some now }
+        ensures events { events.new.items ≡ events.old.items ++ (loss_events self.old at
+            ++ (whole_events (up_to self.old at) at before ++ change_events at self.old.latest now)) }
+        ensures len { array_vec_len events.new ≤ array_vec_len events.old + 6 }
+    {
+        self.go_on(events, at);
+        self.add_whole(events, at, before);
+        add_changes(events, at, &self.latest, &now);
+        *self = self.behind_whole(at, now);
+    }
+
+    /// Advances to the end of `seen` cells, and adds the events of the end. No whole block begins
+    /// in the cells that are left.
+    pub fn go_to_end(&mut self, events: &mut ArrayVec<Event, EVENTS>, seen: u64)
+        requires few { self.old.losses + 1 < 2 ^ 64 }
+        requires room { array_vec_len events.old + 2 ≤ EVENTS }
+        ensures state { self.new ≡ up_to self.old seen }
+        ensures events { events.new.items ≡ events.old.items ++ (loss_events self.old seen
+            ++ End seen (is_locked (up_to self.old seen)) ∷ []) }
+        ensures len { array_vec_len events.new ≤ array_vec_len events.old + 2 }
+    {
+        self.go_on(events, seen);
+        events.push(Event::End {
+            at: seen,
+            locked: self.is_locked(),
+        });
+    }
 }
 
 /// What is kept of a watched line.
@@ -218,8 +275,7 @@ impl Watcher {
         ensures events { events.new.items ≡ events.old.items ++ loss_events self.old.state to }
         ensures len { array_vec_len events.new ≤ array_vec_len events.old + 1 }
     {
-        self.state.add_loss(events, to);
-        self.state = self.state.up_to(to);
+        self.state.go_on(events, to);
     }
 
     /// Advances to and past a lock's whole block at cell `at`.
@@ -246,11 +302,8 @@ impl Watcher {
             (signals_of (payloads_of (read_words lock.now.words))))) }
         ensures len { array_vec_len events.new ≤ array_vec_len events.old + 6 }
     {
-        self.go_on(events, at);
-        self.state.add_whole(events, at, before);
         let now = self.signals(lock);
-        add_changes(events, at, &self.state.latest, &now);
-        self.state = self.state.behind_whole(at, now);
+        self.state.take_whole(events, at, before, now);
     }
 
     /// Advances to a report.
@@ -290,11 +343,7 @@ impl Watcher {
         ensures events { events.new.items ≡ events.old.items ++ (loss_events self.old.state seen
             ++ End seen (is_locked (up_to self.old.state seen)) ∷ []) }
     {
-        self.go_on(events, seen);
-        events.push(Event::End {
-            at: seen,
-            locked: self.state.is_locked(),
-        });
+        self.state.go_to_end(events, seen);
     }
 }
 
