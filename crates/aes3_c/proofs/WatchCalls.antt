@@ -1,12 +1,14 @@
 -- A line that is watched, kept without the number of its losses, and what was put of it so far.
-use Rattle.std.proofs.Common.{◌≡◌, ℕ, suc, ◌+◌, ◌-◌, ◌<◌, ◌≤◌, ◌^◌, ◌⊎◌, inl, inr, ◌∙◌, Bool, true, false, cond, ltb, List}
+use Rattle.std.proofs.Common.{◌≡◌, ℕ, zero, suc, ◌+◌, ◌-◌, ◌*◌, ◌<◌, ◌≤◌, ◌^◌, ◌⊎◌, inl, inr, ◌∙◌, Bool, true, false, cond, List}
 use Rattle.std.proofs.Common.{[], ◌∷◌, ◌++◌, length, map, refl, sym, ap, ap₂, subst, arith, append-nil, append_assoc}
-use Rattle.std.proofs.Common.{length-append}
-use Rattle.std.specs.Prelude.{◌||◌, nat_lt, min}
-use Rattle.std.proofs.lemmas.Bool.{cases_lt, le-ltb, lt-ltb, ltb-false}
-use Rattle.std.proofs.lemmas.List.{append_cancel_left, map-append}
+use Rattle.std.proofs.Common.{drop, get_or, length-append, length-set, set, take}
+use Rattle.std.specs.Prelude.{◌||◌, nat_lt}
+use Rattle.std.proofs.lemmas.Bool.{cases_eq, cases_lt, le-ltb, lt-ltb}
+use Rattle.std.proofs.lemmas.List.{append_cancel_left, drop-set-lt, ext_get_or, get_or-map, get_or-set_other}
+use Rattle.std.proofs.lemmas.List.{get_or-set_same, length-map, map-append, take_more, take_more_set}
 use Rattle.aes3_level.specs.declared.level.Level.{Level}
 use Rattle.aes3_frame.specs.Blocks.{block_len}
+use Rattle.aes3_frame.specs.Files.{payload_of}
 use Rattle.aes3_lock.specs.declared.report.Report.{Report}
 use Rattle.aes3_lock.specs.declared.report.Report.TheVariants.{Whole, Marked, Fault, Unfinished}
 use Rattle.aes3_lock.specs.Remains.{place_of}
@@ -112,9 +114,9 @@ loss-before : (w : Watched) (a b : ℕ) → a ≤ b → loss_events (up_to w b) 
 loss-before w a b h = loss-told (up_to w b) a true (told-before (up_to w b) a b h (up-is-told w b))
 
 -- what was put so far, with more numbers behind it
-more-put : {put now : List Aes3Event} {begun all : List Event} (told : List Event) → put ≡ map event_numbers begun
+more-put : {put now : List Aes3Event} (begun told all : List Event) → put ≡ map event_numbers begun
     → now ≡ map event_numbers told → begun ++ told ≡ all → put ++ now ≡ map event_numbers all
-more-put {begun = begun} told p n e =
+more-put begun told all p n e =
     ap₂ (λ a b. a ++ b) p n ∙ sym (map-append event_numbers begun told) ∙ ap (map event_numbers) e
 
 -- a report is of one of the cells
@@ -211,7 +213,7 @@ report-put {k} k' {c} {r} {put} {now} x w told p (rest, h) e f g n =
       begins = h ∙ sym (append_assoc r (x ∷ []) rest);
       later = λ y more m. omega arith;
       state_is = g ∙ next-is ∙ ap uncounted (sym (up-first behind));
-      put_is = more-put told p.put_is n events-are;
+      put_is = more-put _ told _ p.put_is n events-are;
     }
 
 -- on to a place before which no report begins, from one that was reached
@@ -239,7 +241,7 @@ further-put {k} k' {c} {r} {put} {now} a w told p short far e f g n = go (cases_
       begins = p.begins;
       later = p.later;
       state_is = g ∙ next-is ∙ ap uncounted (up-before v a p.reached (omega arith));
-      put_is = more-put told p.put_is n
+      put_is = more-put _ told _ p.put_is n
           (ap (λ z. (events_from unwatched r ++ loss_events v p.reached) ++ z)
           (told-is ∙ loss-before v a p.reached (omega arith))
           ∙ append-nil (events_from unwatched r ++ loss_events v p.reached));
@@ -252,7 +254,7 @@ further-put {k} k' {c} {r} {put} {now} a w told p short far e f g n = go (cases_
       begins = p.begins;
       later = far;
       state_is = g ∙ next-is ∙ ap uncounted (sym (up-join v p.reached a l));
-      put_is = more-put told p.put_is n
+      put_is = more-put _ told _ p.put_is n
           (append_assoc (events_from unwatched r) (loss_events v p.reached) told
           ∙ ap (λ z. events_from unwatched r ++ (loss_events v p.reached ++ z)) told-is
           ∙ ap (λ z. events_from unwatched r ++ z) (sym (loss-join v p.reached a l)));
@@ -291,7 +293,7 @@ passed-begun {k} c d {r} {put} {now} a told p q s f n = go (cases_lt a p.reached
     go : (a < p.reached) ⊎ (p.reached ≤ a) → HasBegun c (put ++ now)
     go (inl l) = (
       loss_events (up_to v a) p.reached,
-      more-put told p.put_is n
+      more-put _ told _ p.put_is n
           (ap (λ z. (events_from unwatched r ++ loss_events v p.reached) ++ z)
           (told-is ∙ loss-before v a p.reached (omega arith))
           ∙ append-nil (events_from unwatched r ++ loss_events v p.reached)
@@ -301,7 +303,7 @@ passed-begun {k} c d {r} {put} {now} a told p q s f n = go (cases_lt a p.reached
     )
     go (inr l) = (
       [],
-      more-put told p.put_is n
+      more-put _ told _ p.put_is n
           (append_assoc (events_from unwatched r) (loss_events v p.reached) told
           ∙ ap (λ z. events_from unwatched r ++ (loss_events v p.reached ++ z)) told-is
           ∙ ap (λ z. events_from unwatched r ++ z) (sym (loss-join v p.reached a l)) ∙ sym begun
@@ -324,8 +326,67 @@ pub ended-put : {k : Aes3Watch} (c : List Level) {r : List Report} {put now : Li
     → now ≡ map event_numbers told → put ++ now ≡ map event_numbers (watch_events c)
 ended-put {k} c {r} {put} {now} told n p q s f m =
     let v = behind_reports unwatched r in
-    more-put told p.put_is m
+    more-put _ told _ p.put_is m
     (append_assoc (events_from unwatched r) (loss_events v p.reached) told
     ∙ ap (λ z. events_from unwatched r ++ (loss_events v p.reached ++ z))
     (f ∙ ap (last_events (watched_in k)) s ∙ last-alike (watched_in k) (up_to v p.reached) (length c) p.state_is)
     ∙ ap (λ z. events_from unwatched r ++ z) (sym (last-join v p.reached (length c) p.within)) ∙ sym (all-is c r q))
+
+-- numbers that are put one by one
+pub more-events : (told : List Event) (events : List Aes3Event) (i : ℕ) (x : Aes3Event) (d : Event) → i < length events
+    → i < length told → x ≡ event_numbers (get_or told i d) → take i events ≡ map event_numbers (take i told)
+    → take (i + 1) (set events i x) ≡ map event_numbers (take (i + 1) told)
+more-events told events i x d l m e p =
+    take_more_set events i x l ∙ ap₂ (λ a y. a ++ y ∷ []) p e
+    ∙ sym (map-append event_numbers (take i told) (get_or told i d ∷ []))
+    ∙ ap (map event_numbers) (sym (take_more told i d m))
+
+drop-none : {A : Type 0} (n : ℕ) → drop {A = A} n [] ≡ []
+drop-none zero = refl
+drop-none (suc n) = refl
+
+one-more : {A : Type 0} (i : ℕ) (xs : List A) → drop (i + 1) xs ≡ drop 1 (drop i xs)
+one-more zero xs = refl
+one-more (suc i) [] = drop-none (suc i + 1)
+one-more (suc i) (x ∷ xs) =
+    let n : suc i + 1 ≡ suc (i + 1) = omega arith in ap (λ n. drop n (x ∷ xs)) n ∙ one-more i xs
+
+pub fewer-left : {A : Type 0} (xs ys : List A) (i : ℕ) (y : A) → drop i xs ≡ drop i ys
+    → drop (i + 1) (set xs i y) ≡ drop (i + 1) ys
+fewer-left xs ys i y e =
+    drop-set-lt (i + 1) xs i y (omega arith) ∙ one-more i xs ∙ ap (drop 1) e ∙ sym (one-more i ys)
+
+-- payloads that are set two by two
+two-below : (k i : ℕ) → k < 2 * (i + 1) → (k ≡ 2 * i + 1 → ⊥) → (k ≡ 2 * i → ⊥) → k < 2 * i
+two-below k i h q r = omega arith
+
+pub two-payloads : (b : List (List Bool)) (words : List ℕ) (i : ℕ) (x y : List Bool) → 2 * i + 1 < length b
+    → x ≡ payload_of (get_or words (2 * i) 0) → y ≡ payload_of (get_or words (2 * i + 1) 0)
+    → ((k : ℕ) → k < 2 * i → get_or b k [] ≡ payload_of (get_or words k 0))
+    → (k : ℕ) → k < 2 * (i + 1)
+    → get_or (set (set b (2 * i) x) (2 * i + 1) y) k [] ≡ payload_of (get_or words k 0)
+two-payloads b words i x y l e f p k h = go (cases_eq k (2 * i + 1)) (cases_eq k (2 * i))
+  where
+    one : List (List Bool)
+    one = set b (2 * i) x
+
+    len : length one ≡ length b
+    len = length-set b (2 * i) x
+
+    go : (k ≡ 2 * i + 1) ⊎ (k ≡ 2 * i + 1 → ⊥) → (k ≡ 2 * i) ⊎ (k ≡ 2 * i → ⊥)
+        → get_or (set one (2 * i + 1) y) k [] ≡ payload_of (get_or words k 0)
+    go (inl q) c =
+        ap (λ k. get_or (set one (2 * i + 1) y) k []) q
+        ∙ get_or-set_same one (2 * i + 1) y [] (omega (arith, len, l)) ∙ f
+        ∙ ap (λ k. payload_of (get_or words k 0)) (sym q)
+    go (inr q) (inl r) =
+        get_or-set_other one (2 * i + 1) k y [] q ∙ ap (λ k. get_or one k []) r
+        ∙ get_or-set_same b (2 * i) x [] (omega arith) ∙ e ∙ ap (λ k. payload_of (get_or words k 0)) (sym r)
+    go (inr q) (inr r) =
+        get_or-set_other one (2 * i + 1) k y [] q ∙ get_or-set_other b (2 * i) k x [] r ∙ p k (two-below k i h q r)
+
+pub all-payloads : (b : List (List Bool)) (words : List ℕ) → length b ≡ length words
+    → ((k : ℕ) → k < length b → get_or b k [] ≡ payload_of (get_or words k 0)) → b ≡ map payload_of words
+all-payloads b words l p =
+    ext_get_or [] b (map payload_of words) (l ∙ sym (length-map words payload_of))
+    (λ k h. p k h ∙ sym (get_or-map payload_of words k 0 [] (omega (arith, l, h))))

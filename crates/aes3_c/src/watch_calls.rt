@@ -109,10 +109,12 @@ fn keep_watched(state: &Watched, kept: &mut Aes3Watch)
     match state.latest {
         None => kept.known = 0,
         Some(latest) => {
+            let first = latest.first.status;
+            let second = latest.second.status;
             kept.known = 1;
-            kept.first_status = latest.first.status;
+            kept.first_status = first;
             kept.first_invalid = latest.first.invalid;
-            kept.second_status = latest.second.status;
+            kept.second_status = second;
             kept.second_invalid = latest.second.invalid;
         }
     }
