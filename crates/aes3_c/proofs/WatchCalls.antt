@@ -172,8 +172,8 @@ late-more c (l ∷ d) x rest e = go (one-answer 0 c l) (late-more (c ++ l ∷ []
         subst (λ (z : Report). length c ≤ place_of z + block_len) q (late-decided c (l ∷ []) y.0 more)
 
 -- none given
-pub begins-put : (k : Aes3Watch) (c : List Level) → length c ≤ 2 ^ 43 → watched_in k ≡ uncounted unwatched → HasPut k c [] []
-begins-put k c s e = record {
+pub begins_put : (k : Aes3Watch) (c : List Level) → length c ≤ 2 ^ 43 → watched_in k ≡ uncounted unwatched → HasPut k c [] []
+begins_put k c s e = record {
   reached = 0;
   within = omega arith;
   few = s;

@@ -277,6 +277,7 @@ fn take_ending(
 
 /// Makes the state of a line of which no report has come.
 #[unsafe(no_mangle)]
+#[tactic(auto, using(crate::proofs::WatchCalls::begins_put))]
 pub extern "C" fn aes3_watch_init(watch: &mut Aes3Watch)
     ensures { (c : List Level) → length c ≤ 2 ^ 43 → HasPut watch.new c [] [] }
 {
