@@ -12,7 +12,8 @@
  *
  * - No pointer is null. Each points to the number of objects that its type or `count` says, aligned as C requires it.
  * - What a function writes overlaps no other argument of that call.
- * - A lock was made by aes3_lock_init(), an account by aes3_account_init(), and only the functions here write them.
+ * - A lock was made by aes3_lock_init(), an account by aes3_account_init(), the state of a watched line by aes3_watch_init(), and
+ *   only the functions here write them.
  *
  * The words that are used here:
  *
@@ -111,7 +112,8 @@ enum {
     AES3_NO_CHANNEL = 385,    /**< what a call returns if the channel is neither 1 nor 2 */
     AES3_STATUS_BYTES = 24,   /**< bytes of a channel status */
     AES3_STATUS_TEXT = 800,   /**< characters of the text of a channel status, at most */
-    AES3_WAV_OCTETS = 104     /**< octets of the header of a WAV file that is written, at most */
+    AES3_WAV_OCTETS = 104,    /**< octets of the header of a WAV file that is written, at most */
+    AES3_EVENTS = 6           /**< events that a call puts, at most */
 };
 
 /**
@@ -535,6 +537,182 @@ bool aes3_account_end(aes3_account *account, uint64_t seen, aes3_gap *gap);
  * @endcode
  */
 uint64_t aes3_frames_between(uint64_t first, uint64_t before, uint64_t at);
+
+/** @} */
+
+/**
+ * @defgroup watch Watch
+ * Gives the events of a line: where it locks, is lost, comes back or slips, and where its channel status or its validity bits
+ * change.
+ *
+ * Each report of the lock goes to aes3_watch_report(), that of a whole block with its words. Then aes3_watch_passed() is asked:
+ *
+ * @code
+ * do {
+ *     at += aes3_lock_take_octets(&lock, octets, count, at, &report);
+ *     if (report.kind == AES3_WHOLE)
+ *         aes3_lock_block(&lock, report.words);
+ *     print_events(aes3_watch_report(&watch, &report, events));
+ *     print_events(aes3_watch_passed(&watch, aes3_lock_seen(&lock), events));
+ * } while (report.kind != AES3_NONE);
+ * aes3_lock_finish(&lock, &report);
+ * print_events(aes3_watch_report(&watch, &report, events));
+ * print_events(aes3_watch_end(&watch, aes3_lock_seen(&lock), events));
+ * @endcode
+ *
+ * All events, in this order, are the lines of `aes3 watch`.
+ * @{
+ */
+
+/**
+ * The state of a line that is watched, in memory of its caller. It may be copied by assignment.
+ */
+typedef struct aes3_watch {
+    uint64_t state[10]; /**< opaque */
+} aes3_watch;
+AES3_SIZE(aes3_watch, 80);
+
+/** What changes on a line. */
+enum aes3_event_kind {
+    AES3_EVENT_LOCKED = 1,   /**< the first whole block: `at`, `before` */
+    AES3_EVENT_LOST = 2,     /**< 24,576 cells or more are in no whole block: `at` */
+    AES3_EVENT_BACK = 3,     /**< the first whole block after lost cells: `at`, `cells` */
+    AES3_EVENT_SLIPPED = 4,  /**< a whole block after fewer than 24,576 cells that are in none: `at`, `cells` */
+    AES3_EVENT_STATUS = 5,   /**< a whole block with another channel status than the one before it: `at`, `channel`, `status` */
+    AES3_EVENT_VALIDITY = 6, /**< one with other validity bits than the one before it: `at`, `channel`, `validity` */
+    AES3_EVENT_END = 7       /**< the cells end; only of aes3_watch_end(): `at`, `locked` */
+};
+
+/** What the 192 validity bits of a channel in a block are. A bit is 0 if the sample may be converted to analogue. */
+enum aes3_validity {
+    AES3_VALIDITY_CLEAR = 0, /**< all are 0 */
+    AES3_VALIDITY_SET = 1,   /**< all are 1 */
+    AES3_VALIDITY_MIXED = 2  /**< some are 0, some are 1 */
+};
+
+/** An event, as `aes3 watch` prints it. Its kind says which fields have a meaning; each other is 0. */
+typedef struct aes3_event {
+    uint64_t at;        /**< place: where cells are lost, of the first of them; at the end, the number of cells; else that of the
+                             block's first cell */
+    uint64_t cells;     /**< where the line comes back, how many cells were lost; where it slips, how many cells are between the
+                             block and the one before it */
+    uint8_t status[24]; /**< the new channel status */
+    uint8_t kind;       /**< an #aes3_event_kind */
+    uint8_t channel;    /**< 1 or 2 */
+    uint8_t before;     /**< the level before the block's first cell */
+    uint8_t validity;   /**< an #aes3_validity */
+    uint8_t locked;     /**< 1 if the last whole block is followed by fewer than 24,576 cells, else 0 */
+} aes3_event;
+AES3_SIZE(aes3_event, 48);
+
+/**
+ * The word of a kind of event. The line that `aes3 watch` prints of an event begins with it.
+ *
+ * @param kind  an #aes3_event_kind
+ * @return a constant text: `locked`, `lost`, `back`, `slipped`, `status`, `validity` or `end`; of any other number `unknown event`
+ *
+ * @code
+ * assert(strcmp(aes3_event_text(AES3_EVENT_SLIPPED), "slipped") == 0);
+ * assert(strcmp(aes3_event_text(0), "unknown event") == 0);
+ * @endcode
+ */
+static inline const char *aes3_event_text(uint8_t kind) {
+    static const char *const texts[] = {"locked", "lost", "back", "slipped", "status", "validity", "end"};
+    return kind >= AES3_EVENT_LOCKED && kind <= AES3_EVENT_END ? texts[kind - 1] : "unknown event";
+}
+
+/**
+ * The word of a state of validity bits, as `aes3 watch` prints it.
+ *
+ * @param validity  an #aes3_validity
+ * @return a constant text: `clear`, `set` or `mixed`; of any other number `unknown validity`
+ *
+ * @code
+ * assert(strcmp(aes3_validity_text(AES3_VALIDITY_MIXED), "mixed") == 0);
+ * @endcode
+ */
+static inline const char *aes3_validity_text(uint8_t validity) {
+    static const char *const texts[] = {"clear", "set", "mixed"};
+    return validity <= AES3_VALIDITY_MIXED ? texts[validity] : "unknown validity";
+}
+
+/**
+ * Makes the state of a line for a lock that has seen no cell.
+ *
+ * @param[out] watch  the state
+ *
+ * @code
+ * aes3_watch watch;
+ * aes3_watch_init(&watch);
+ * @endcode
+ */
+void aes3_watch_init(aes3_watch *watch);
+
+/**
+ * Puts the events of a report.
+ *
+ * Each report of the lock goes here once, in turn. That of a whole block needs its words: aes3_lock_push() and
+ * aes3_lock_finish() put them, and aes3_lock_block() puts them after the other calls. If the report is #AES3_NONE, nothing
+ * changes.
+ *
+ * @param[in,out] watch  the state
+ * @param report  the report
+ * @param[out] events  room for #AES3_EVENTS events; unchanged after those put
+ * @return how many events it put, 0 to 6
+ *
+ * @code
+ * aes3_watch watch;
+ * aes3_event events[AES3_EVENTS];
+ * static aes3_report report; // a block of zeros
+ * report.kind = AES3_WHOLE;
+ * report.at = 100;
+ * aes3_watch_init(&watch);
+ * assert(aes3_watch_report(&watch, &report, events) == 1 && events[0].kind == AES3_EVENT_LOCKED && events[0].at == 100);
+ * report.at = 100 + 24576 + 5;
+ * assert(aes3_watch_report(&watch, &report, events) == 1 && events[0].kind == AES3_EVENT_SLIPPED && events[0].cells == 5);
+ * @endcode
+ */
+uint32_t aes3_watch_report(aes3_watch *watch, const aes3_report *report, aes3_event events[AES3_EVENTS]);
+
+/**
+ * Puts the loss of a line that no later cell changes, if there is one: two blocks' cells have come from its first cell on.
+ *
+ * So a line without signal is reported while it has none. Without this call the same events come later, in the same order.
+ *
+ * @param[in,out] watch  the state, to which each report of the lock was given
+ * @param seen  how many cells the lock has seen
+ * @param[out] events  room for #AES3_EVENTS events; unchanged after those put
+ * @return how many events it put, 0 or 1
+ *
+ * @code
+ * aes3_watch watch;
+ * aes3_event events[AES3_EVENTS];
+ * aes3_watch_init(&watch);
+ * assert(aes3_watch_passed(&watch, 2 * 24576 - 1, events) == 0);
+ * assert(aes3_watch_passed(&watch, 2 * 24576, events) == 1 && events[0].kind == AES3_EVENT_LOST && events[0].at == 0);
+ * assert(aes3_watch_passed(&watch, 3 * 24576, events) == 0); // it is lost already
+ * @endcode
+ */
+uint32_t aes3_watch_passed(aes3_watch *watch, uint64_t seen, aes3_event events[AES3_EVENTS]);
+
+/**
+ * Puts the events of the end of the cells: a loss that is left, if any, and #AES3_EVENT_END. The state is unchanged.
+ *
+ * @param watch  the state, to which each report of the lock was given, with that of aes3_lock_finish()
+ * @param seen  how many cells the lock has seen
+ * @param[out] events  room for #AES3_EVENTS events; unchanged after those put
+ * @return how many events it put, 1 or 2
+ *
+ * @code
+ * aes3_watch watch;
+ * aes3_event events[AES3_EVENTS];
+ * aes3_watch_init(&watch);
+ * assert(aes3_watch_end(&watch, 800, events) == 1 && events[0].kind == AES3_EVENT_END);
+ * assert(events[0].at == 800 && events[0].locked == 0);
+ * assert(aes3_watch_end(&watch, 24576, events) == 2 && events[0].kind == AES3_EVENT_LOST);
+ * @endcode
+ */
+uint32_t aes3_watch_end(const aes3_watch *watch, uint64_t seen, aes3_event events[AES3_EVENTS]);
 
 /** @} */
 

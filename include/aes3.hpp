@@ -17,6 +17,7 @@ namespace aes3 {
 
 using report = aes3_report;
 using gap = aes3_gap;
+using event = aes3_event;
 using words = uint32_t[AES3_BLOCK_WORDS];  // a block
 using cells = uint64_t[AES3_BLOCK_WORDS];  // its cells
 using samples = int32_t[AES3_BLOCK_WORDS]; // its samples, channel 1 and channel 2 of each frame
@@ -76,6 +77,32 @@ class account {
     template <class Tell> void end(uint64_t seen, Tell &&tell) {
         for (gap it; aes3_account_end(&state, seen, &it);)
             tell(it);
+    }
+};
+
+// Tells the events of a line, as `aes3 watch` does, by tell(const event &): those of each report that the lock tells, a loss that stands
+// whatever follows the cells that it has seen, and at the end of the cells what is left. The report of a whole block has its words.
+class watch {
+    aes3_watch state;
+
+    template <class Tell> static void hand(const event *told, uint32_t count, Tell &tell) {
+        for (uint32_t i = 0; i < count; i++)
+            tell(told[i]);
+    }
+
+  public:
+    watch() { aes3_watch_init(&state); }
+    template <class Tell> void take(const report &told, Tell &&tell) {
+        event put[AES3_EVENTS];
+        hand(put, aes3_watch_report(&state, &told, put), tell);
+    }
+    template <class Tell> void passed(uint64_t seen, Tell &&tell) {
+        event put[AES3_EVENTS];
+        hand(put, aes3_watch_passed(&state, seen, put), tell);
+    }
+    template <class Tell> void end(uint64_t seen, Tell &&tell) const {
+        event put[AES3_EVENTS];
+        hand(put, aes3_watch_end(&state, seen, put), tell);
     }
 };
 
@@ -325,9 +352,12 @@ inline uint32_t write_wav(uint8_t bits, uint32_t rate, uint64_t frames, std::spa
 #endif
 inline uint32_t version() { return aes3_version(); }
 
-// Constant texts: the words of a report in its line of `aes3 check`, of a check byte in that of `aes3 show`, and what an answer of read_wav says.
+// Constant texts: the words of a report in its line of `aes3 check`, of an event in that of `aes3 watch`, of a check byte in that of `aes3 show`,
+// and what an answer of read_wav says.
 inline const char *kind_text(const report &of) { return aes3_kind_text(of.kind); }
 inline const char *why_text(const report &of) { return aes3_why_text(of.why); }
+inline const char *kind_text(const event &of) { return aes3_event_text(of.kind); }
+inline const char *validity_text(const event &of) { return aes3_validity_text(of.validity); }
 inline const char *text_of(aes3_check of) { return aes3_check_text(static_cast<uint8_t>(of)); }
 inline const char *text_of(aes3_set of) { return aes3_set_text(static_cast<uint8_t>(of)); }
 inline const char *text_of(aes3_wav_answer of) { return aes3_wav_answer_text(static_cast<uint8_t>(of)); }

@@ -472,6 +472,71 @@ static void accounts(void) {
     WANT(!aes3_account_end(&copy, 2 * block + 5, &gap));
 }
 
+/* The event that was put. */
+static int is_event(const aes3_event *event, uint8_t kind, uint64_t at, uint64_t cells) {
+    return event->kind == kind && event->at == at && event->cells == cells;
+}
+
+static void watches(void) {
+    const uint64_t block = AES3_BLOCK_CELLS;
+    static aes3_report report;
+    static uint8_t status[AES3_STATUS_BYTES], bits[AES3_STATUS_BYTES];
+    aes3_watch watch, copy;
+    aes3_event put[AES3_EVENTS];
+    memset(put, 0x55, sizeof put);
+    aes3_watch_init(&watch);
+    report.kind = AES3_NONE;
+    WANT(aes3_watch_report(&watch, &report, put) == 0 && put[0].kind == 0x55);
+    report.kind = 9;
+    WANT(aes3_watch_report(&watch, &report, put) == 0 && put[0].kind == 0x55);
+    WANT(aes3_watch_passed(&watch, 2 * block - 1, put) == 0 && put[0].kind == 0x55);
+    copy = watch;
+    WANT(aes3_watch_passed(&watch, 2 * block, put) == 1 && is_event(put, AES3_EVENT_LOST, 0, 0) && put[1].kind == 0x55);
+    WANT(aes3_watch_passed(&watch, 9 * block, put) == 0 && is_event(put, AES3_EVENT_LOST, 0, 0));
+    /* A line that is lost from its first cell on comes, and locks. */
+    report.kind = AES3_FAULT;
+    report.at = 2 * block + 9;
+    WANT(aes3_watch_report(&watch, &report, put) == 0);
+    report.kind = AES3_WHOLE;
+    report.before = 1;
+    report.at = 2 * block + 20;
+    WANT(aes3_watch_report(&watch, &report, put) == 1 && is_event(put, AES3_EVENT_LOCKED, 2 * block + 20, 0) && put[0].before == 1);
+    report.at += block;
+    WANT(aes3_watch_report(&watch, &report, put) == 0);
+    report.at += block + 7;
+    WANT(aes3_watch_report(&watch, &report, put) == 1 && is_event(put, AES3_EVENT_SLIPPED, report.at, 7));
+    /* All six events: of cells that are lost, of the block, and of what both channels say. */
+    status[0] = 4;
+    memset(bits, 0xFF, sizeof bits);
+    for (uint8_t channel = 1; channel <= 2; channel++) {
+        WANT(aes3_block_set_status(report.words, channel, status) == AES3_BLOCK_WORDS);
+        WANT(aes3_block_set_validity(report.words, channel, bits) == AES3_BLOCK_WORDS);
+    }
+    report.at += 3 * block;
+    WANT(aes3_watch_report(&watch, &report, put) == 6);
+    WANT(is_event(&put[0], AES3_EVENT_LOST, report.at - 2 * block, 0) && is_event(&put[1], AES3_EVENT_BACK, report.at, 2 * block));
+    for (int i = 2; i < 6; i++) {
+        WANT(is_event(&put[i], i < 4 ? AES3_EVENT_STATUS : AES3_EVENT_VALIDITY, report.at, 0) && put[i].channel == 1 + i % 2);
+        WANT(i < 4 ? memcmp(put[i].status, status, sizeof status) == 0 : put[i].validity == AES3_VALIDITY_SET);
+    }
+    /* The words of a block are taken as they are, without a right parity bit too. */
+    report.at += block;
+    report.words[1] ^= UINT32_C(1) << 28;
+    WANT(aes3_watch_report(&watch, &report, put) == 1 && is_event(put, AES3_EVENT_VALIDITY, report.at, 0));
+    WANT(put[0].channel == 2 && put[0].validity == AES3_VALIDITY_MIXED);
+    /* The end changes nothing, and may be asked for again. */
+    WANT(aes3_watch_end(&watch, report.at + 2 * block - 1, put) == 1 && put[0].locked == 1);
+    WANT(aes3_watch_end(&watch, report.at + 2 * block, put) == 2 && is_event(&put[0], AES3_EVENT_LOST, report.at + block, 0));
+    WANT(is_event(&put[1], AES3_EVENT_END, report.at + 2 * block, 0) && put[1].locked == 0);
+    WANT(aes3_watch_end(&watch, report.at + 2 * block - 1, put) == 1 && put[0].locked == 1);
+    /* The copy goes on by itself. */
+    WANT(aes3_watch_end(&copy, 5, put) == 1 && is_event(put, AES3_EVENT_END, 5, 0) && put[0].locked == 0);
+    /* Places that no lock has do no harm. */
+    report.at = UINT64_MAX;
+    WANT(aes3_watch_report(&watch, &report, put) <= AES3_EVENTS);
+    WANT(aes3_watch_end(&watch, UINT64_MAX, put) <= 2);
+}
+
 /* Where cells are in a capture, with marks after each piece and with much that is owed; and between marks of any numbers. */
 static void marks(void) {
     enum { CELLS = 2 * AES3_BLOCK_CELLS, SAMPLES = 4 * CELLS };
@@ -705,12 +770,16 @@ static void texts(void) {
     static const char *const kinds[] = {"none", "whole", "marked", "fault", "unfinished"};
     static const char *const whys[] = {"preamble", "biphase", "unclosed"};
     static const char *const checks[] = {"good", "absent", "bad"};
+    static const char *const events[] = {"locked", "lost", "back", "slipped", "status", "validity", "end"};
+    static const char *const validities[] = {"clear", "set", "mixed"};
     for (int i = 0; i < 256; i++) {
         const uint8_t number = (uint8_t)i;
         WANT(strcmp(aes3_kind_text(number), i <= AES3_UNFINISHED ? kinds[i] : "unknown kind") == 0);
         WANT(strcmp(aes3_why_text(number), i <= AES3_UNCLOSED ? whys[i] : "unknown cause") == 0);
         WANT(strcmp(aes3_check_text(number), i <= AES3_BAD ? checks[i] : "unknown state") == 0);
         WANT((strcmp(aes3_wav_answer_text(number), "unknown answer") == 0) == (i > AES3_WAV_ENDED));
+        WANT(strcmp(aes3_event_text(number), i >= 1 && i <= AES3_EVENT_END ? events[i - 1] : "unknown event") == 0);
+        WANT(strcmp(aes3_validity_text(number), i <= AES3_VALIDITY_MIXED ? validities[i] : "unknown validity") == 0);
     }
     WANT(strcmp(aes3_wav_answer_text(AES3_WAV_MORE), "more octets are needed") == 0);
     WANT(strcmp(aes3_wav_answer_text(AES3_WAV_ENDED), "the file ends before its samples") == 0);
@@ -735,6 +804,7 @@ int main(void) {
     octets();
     many_words();
     accounts();
+    watches();
     frames();
     blocks_that_fit();
     samples_that_fit();

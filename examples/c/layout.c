@@ -182,6 +182,64 @@ static void gaps(void) {
     WANT(put.gap.at == at + cells + AES3_BLOCK_CELLS && put.gap.cells == 1 && put.gap.counts == counts[0]);
 }
 
+/* Each kind of event, octet by octet; each field that it has no use for is 0. */
+static void events(void) {
+    enum { BLOCK = AES3_BLOCK_CELLS };
+    static aes3_watch watch;
+    static union {
+        aes3_event events[AES3_EVENTS + 1];
+        unsigned char bytes[(AES3_EVENTS + 1) * sizeof(aes3_event)];
+    } put, due;
+    const uint64_t first = 100000, slipped = first + BLOCK + 7, back = slipped + 3 * (uint64_t)BLOCK, lost = slipped + BLOCK;
+    const uint64_t seven = 7, many = 2 * (uint64_t)BLOCK, seen = back + BLOCK + 5;
+    const uint8_t kinds[] = {0, 1, 2, 3, 4, 5, 6, 7}, one = 1, two = 2;
+    const uint8_t status[AES3_STATUS_BYTES] = {4, 0, 0, 2};
+    uint8_t bits[AES3_STATUS_BYTES] = {1};
+#define DUE(i, name, value) (memcpy(due.bytes + (i) * sizeof(aes3_event) + offsetof(aes3_event, name), (value), sizeof due.events[i].name))
+#define BEGIN(count) \
+    (memset(&put, 0xAA, sizeof put), memset(&due, 0xAA, sizeof due), memset(&due, 0, (count) * sizeof(aes3_event)))
+    /* What fills the last octets of an event is not told. */
+#define SAME(count) \
+    for (size_t i = 0; i < (count); i++) { \
+        size_t used = offsetof(aes3_event, locked) + 1, at = i * sizeof(aes3_event); \
+        memcpy(due.bytes + at + used, put.bytes + at + used, sizeof(aes3_event) - used); \
+    } \
+    WANT(memcmp(&put, &due, sizeof put) == 0)
+    aes3_watch_init(&watch);
+    memset(&told, 0, sizeof told);
+    told.report.kind = AES3_WHOLE;
+    told.report.at = first;
+    told.report.before = 1;
+    BEGIN(2);
+    WANT(aes3_watch_report(&watch, &told.report, put.events) == 2);
+    const uint64_t start = 0;
+    DUE(0, at, &start), DUE(0, kind, &kinds[AES3_EVENT_LOST]);
+    DUE(1, at, &first), DUE(1, kind, &kinds[AES3_EVENT_LOCKED]), DUE(1, before, &one);
+    SAME(2);
+    told.report.at = slipped;
+    WANT(aes3_block_set_status(told.report.words, 2, status) == AES3_BLOCK_WORDS);
+    WANT(aes3_block_set_validity(told.report.words, 1, bits) == AES3_BLOCK_WORDS);
+    BEGIN(3);
+    WANT(aes3_watch_report(&watch, &told.report, put.events) == 3);
+    DUE(0, at, &slipped), DUE(0, cells, &seven), DUE(0, kind, &kinds[AES3_EVENT_SLIPPED]);
+    DUE(1, at, &slipped), DUE(1, kind, &kinds[AES3_EVENT_STATUS]), DUE(1, channel, &two), DUE(1, status, status);
+    DUE(2, at, &slipped), DUE(2, kind, &kinds[AES3_EVENT_VALIDITY]), DUE(2, channel, &one), DUE(2, validity, &two);
+    SAME(3);
+    told.report.at = back;
+    memset(bits, 0xFF, sizeof bits);
+    WANT(aes3_block_set_validity(told.report.words, 1, bits) == AES3_BLOCK_WORDS);
+    BEGIN(3);
+    WANT(aes3_watch_report(&watch, &told.report, put.events) == 3);
+    DUE(0, at, &lost), DUE(0, kind, &kinds[AES3_EVENT_LOST]);
+    DUE(1, at, &back), DUE(1, cells, &many), DUE(1, kind, &kinds[AES3_EVENT_BACK]);
+    DUE(2, at, &back), DUE(2, kind, &kinds[AES3_EVENT_VALIDITY]), DUE(2, channel, &one), DUE(2, validity, &one);
+    SAME(3);
+    BEGIN(1);
+    WANT(aes3_watch_end(&watch, seen, put.events) == 1);
+    DUE(0, at, &seen), DUE(0, kind, &kinds[AES3_EVENT_END]), DUE(0, locked, &one);
+    SAME(1);
+}
+
 /* The header of a file of three channels, 20 bits of 24, whose lengths are in its chunk ds64. */
 static void wavs(void) {
     static const uint8_t octets[] =
@@ -237,11 +295,13 @@ static void marks(void) {
 int main(void) {
     WANT(sizeof(aes3_lock) == 3104 && sizeof(aes3_report) == 1560);
     WANT(sizeof(aes3_account) == 16 && sizeof(aes3_gap) == 24);
+    WANT(sizeof(aes3_watch) == 80 && sizeof(aes3_event) == 48);
     WANT(sizeof(aes3_professional) == 32 && sizeof(aes3_consumer) == 33 && sizeof(aes3_capture) == 80);
     WANT(sizeof(aes3_wav) == 24 && sizeof(aes3_recovery) == 6504 && sizeof(aes3_mark) == 16);
     statuses();
     reports();
     gaps();
+    events();
     marks();
     wavs();
     if (!failed)

@@ -15,6 +15,8 @@ static aes3_lock lock;
 static aes3_report report;
 static aes3_account account;
 static aes3_gap gap;
+static aes3_watch watch;
+static aes3_event events[AES3_EVENTS];
 static aes3_professional professional;
 static aes3_consumer consumer;
 static uint32_t words[AES3_BLOCK_WORDS];
@@ -44,6 +46,10 @@ static void account_init(void) { aes3_account_init(&account); }
 static void account_before(void) { aes3_account_before(&account, &report, &gap); }
 static void account_passed(void) { aes3_account_passed(&account, 100000, &gap); }
 static void account_end(void) { aes3_account_end(&account, 100000, &gap); }
+static void watch_init(void) { aes3_watch_init(&watch); }
+static void watch_report(void) { aes3_watch_report(&watch, &report, events); }
+static void watch_passed(void) { aes3_watch_passed(&watch, 200000, events); }
+static void watch_end(void) { aes3_watch_end(&watch, 200000, events); }
 static void frames_between(void) { word = aes3_frames_between(5, 100000, 200000); }
 static void encode_block(void) { aes3_encode_block(words, 0, cells); }
 static void encode_blocks(void) { aes3_encode_blocks(words, AES3_BLOCK_WORDS, 0, packed, sizeof packed); }
@@ -133,6 +139,14 @@ int main(void) {
     failed |= tell("aes3_account_before", account_before, 256);
     failed |= tell("aes3_account_passed", account_passed, 256);
     failed |= tell("aes3_account_end", account_end, 256);
+    failed |= tell("aes3_watch_init", watch_init, 1024);
+    failed |= tell("aes3_watch_report, locked", watch_report, 8192);
+    failed |= events[0].kind != AES3_EVENT_LOCKED;
+    report.at += 5, report.words[0] ^= UINT32_C(5) << 28, report.words[1] ^= UINT32_C(5) << 28;
+    failed |= tell("aes3_watch_report, changes", watch_report, 8192);
+    failed |= events[0].kind != AES3_EVENT_VALIDITY && events[1].kind != AES3_EVENT_VALIDITY;
+    failed |= tell("aes3_watch_passed", watch_passed, 4096);
+    failed |= tell("aes3_watch_end", watch_end, 4096);
     failed |= tell("aes3_frames_between", frames_between, 256);
     for (int i = 0; i < AES3_BLOCK_WORDS; i++)
         aes3_octets_of_word(cells[i], line_octets + 8 * i);

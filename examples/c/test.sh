@@ -51,6 +51,20 @@ for name in $inputs dead none few; do
     echo $? >>$name.gaps
 done
 
+# The events of each, and of a line that slips twice and whose status and validity bits change.
+{
+    head -c 900000 line.txt; tail -c +900006 line.txt | head -c 700000; head -c 70 line.txt; tail -c +1600000 line.txt
+    "$program" rewrite --set2 emphasis=50/15 <line.txt
+    "$program" to-pcm <line.txt | "$program" from-pcm --valid1 1 | "$program" encode
+} >changes.txt
+for name in $inputs dead none few changes; do
+    "$program" watch <$name.txt >$name.events
+    echo $? >>$name.events
+done
+for event in locked lost back slipped status validity end; do
+    judge "an event '$event' in the tests" grep -q "^$event " ./*.events
+done
+
 # Samples, not of whole blocks, and the block file of them with the status that samples.c makes.
 "$program" to-pcm <line.txt | head -c 400000 >speech.s32
 status=85022c0000004a4154480000000000000000000000000000
@@ -119,6 +133,17 @@ gaps() {
     done
 }
 
+# The lines of watch.c, on each input, with its cells in pieces too.
+events() {
+    for name in $inputs dead none few changes; do
+        for seed in '' 1 2; do
+            # shellcheck disable=SC2086
+            { ./watch $seed <$name.txt && echo 0 || echo $?; } >got
+            judge "watch ${seed:+in pieces $seed }by $1 on $name" cmp -s $name.events got
+        done
+    done
+}
+
 # A command that tells the reports of cells, on each input.
 compare() {
     for name in $inputs; do
@@ -147,7 +172,7 @@ build() { # COMPILER FLAGS..
         echo "left out: the checks of addresses and undefined behaviour by $compiler (they do not work here)"
         checks=
     }
-    for example in check gaps encode calls layout user samples capture stream places wav recover blocks; do
+    for example in check gaps watch encode calls layout user samples capture stream places wav recover blocks; do
         "$compiler" "$@" -O2 -Wall -Wextra -pedantic -Werror $checks -I"$here/../../include" \
             -o $example "$here/$example.c" -x none "$library" || {
             differs "$example.c, which $compiler does not compile,"
@@ -200,6 +225,7 @@ build() { # COMPILER FLAGS..
     for name in $rejected; do judge "the cause of $name.wav by $compiler" says_why $name.wav; done
     compare ./check
     gaps "$compiler"
+    events "$compiler"
     for each in capture:0:1 wide:11:2; do
         IFS=: read -r name bit unit <<WORDS
 $each

@@ -261,6 +261,20 @@ int main() {
     account.end(3 * AES3_BLOCK_CELLS + 10, tell_gap);
     judge("gaps", gaps[0] == 4 && gaps[1] == 2 * AES3_BLOCK_CELLS + 10 && lost == 2);
 
+    // Events: a line that locks, slips and is lost.
+    aes3::watch watch;
+    std::string events;
+    const auto tell_event = [&](const aes3::event &it) { events += aes3::kind_text(it) + (" at " + std::to_string(it.at)) + "\n"; };
+    watch.passed(2 * AES3_BLOCK_CELLS - 1, tell_event);
+    whole.at = 100;
+    watch.take(whole, tell_event);
+    whole.at += AES3_BLOCK_CELLS + 7;
+    watch.take(whole, tell_event);
+    watch.passed(3 * AES3_BLOCK_CELLS + 107, tell_event);
+    watch.passed(4 * AES3_BLOCK_CELLS + 107, tell_event);
+    watch.end(5 * AES3_BLOCK_CELLS, tell_event);
+    judge("events", events == "locked at 100\nslipped at 24683\nlost at 49259\nend at 122880\n");
+
     // The same once more, of samples: four of each cell, in bit 2.
     static std::uint8_t samples[4 * AES3_BLOCK_CELLS], packed[AES3_BLOCK_CELLS];
     for (int i = 0; i < 4 * AES3_BLOCK_CELLS; i++)

@@ -25,9 +25,10 @@ The samples of a logic analyser go to a `Recovery` likewise, which gives the cel
 """
 
 from aes3.calls import (
-    FAULT, FOUND, MARKED, NONE, UNFINISHED, WHOLE, WHYS, Account, Gap, Lock, Mark, Recovery, Report, block_of_samples, block_samples,
-    block_status, block_user, block_validity, blocks_fit, cells_of_samples, check_byte, encode_block, frames_between, library_version,
-    reverse_octets, sample_between, samples_fit, status_text, with_status, with_user, with_validity, words_of_packed, words_of_text,
+    EVENTS, FAULT, FOUND, MARKED, NONE, UNFINISHED, VALIDITIES, WHOLE, WHYS, Account, Event, Gap, Lock, Mark, Recovery, Report, Watch,
+    block_of_samples, block_samples, block_status, block_user, block_validity, blocks_fit, cells_of_samples, check_byte, encode_block,
+    frames_between, library_version, reverse_octets, sample_between, samples_fit, status_text, with_status, with_user, with_validity,
+    words_of_packed, words_of_text,
 )
 from aes3.line import Decoded, decode, encode
 from aes3.status import Status
@@ -37,9 +38,9 @@ VERSION = "0.1.0"  # of the program aes3 and of aes3.h
 __version__ = VERSION
 
 __all__ = [
-    "FAULT", "FOUND", "MARKED", "NONE", "UNFINISHED", "VERSION", "WHOLE", "WHYS", "Account", "Decoded", "Gap", "Lock", "Mark", "Recovery",
-    "Report", "Status", "Wav", "block_of_samples", "block_samples", "block_status", "block_user", "block_validity", "blocks_fit",
-    "cells_of_samples", "check_byte", "decode", "encode", "encode_block", "frames_between", "library_version", "read_wav", "reverse_octets",
-    "sample_between", "samples_fit", "status_text", "with_status", "with_user", "with_validity", "words_of_packed", "words_of_text",
-    "write_wav",
+    "EVENTS", "FAULT", "FOUND", "MARKED", "NONE", "UNFINISHED", "VALIDITIES", "VERSION", "WHOLE", "WHYS", "Account", "Decoded", "Event",
+    "Gap", "Lock", "Mark", "Recovery", "Report", "Status", "Watch", "Wav", "block_of_samples", "block_samples", "block_status",
+    "block_user", "block_validity", "blocks_fit", "cells_of_samples", "check_byte", "decode", "encode", "encode_block", "frames_between",
+    "library_version", "read_wav", "reverse_octets", "sample_between", "samples_fit", "status_text", "with_status", "with_user",
+    "with_validity", "words_of_packed", "words_of_text", "write_wav",
 ]

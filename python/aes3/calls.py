@@ -29,6 +29,8 @@ if TYPE_CHECKING:
 
 NONE, WHOLE, MARKED, FAULT, UNFINISHED = range(5)
 WHYS = "preamble", "biphase", "unclosed"
+EVENTS = "locked", "lost", "back", "slipped", "status", "validity", "end"
+VALIDITIES = "clear", "set", "mixed"
 FOUND = "samples", "cells", "period", "edges", "greatest", "squares", "dead", "dead_at", "measured"
 
 _SAMPLE_FORMS = "s32", "s24", "s24in32", "s16"  # by their numbers in aes3.h
@@ -77,6 +79,18 @@ class _Gap(c.Structure):
     _fields_ = [("at", c.c_uint64), ("cells", c.c_uint64), ("counts", c.c_uint8)]
 
 
+class _Watch(c.Structure):
+    _fields_ = [("state", c.c_uint64 * 10)]
+
+
+class _Event(c.Structure):
+    _fields_ = [("at", c.c_uint64), ("cells", c.c_uint64), ("status", _Status), ("kind", c.c_uint8), ("channel", c.c_uint8),
+                ("before", c.c_uint8), ("validity", c.c_uint8), ("locked", c.c_uint8)]
+
+
+_Events = _Event * 6
+
+
 class _Capture(c.Structure):
     _fields_ = [(name, c.c_uint64) for name in ("octets", *FOUND)]
 
@@ -115,6 +129,10 @@ _account_init = _declare("aes3_account_init", None, _at)
 _before = _declare("aes3_account_before", c.c_bool, _at, _at, _at)
 _passed = _declare("aes3_account_passed", c.c_bool, _at, c.c_uint64, _at)
 _end = _declare("aes3_account_end", c.c_bool, _at, c.c_uint64, _at)
+_watch_init = _declare("aes3_watch_init", None, _at)
+_watch_report = _declare("aes3_watch_report", c.c_uint32, _at, _at, _at)
+_watch_passed = _declare("aes3_watch_passed", c.c_uint32, _at, c.c_uint64, _at)
+_watch_end = _declare("aes3_watch_end", c.c_uint32, _at, c.c_uint64, _at)
 _frames_between = _declare("aes3_frames_between", c.c_uint64, c.c_uint64, c.c_uint64, c.c_uint64)
 _encode_block = _declare("aes3_encode_block", c.c_uint32, _at, c.c_uint8, _at)
 _encode_blocks = _declare("aes3_encode_blocks", c.c_size_t, _at, c.c_size_t, c.c_uint8, _at, c.c_size_t)
@@ -794,6 +812,12 @@ class Gap:
         return f"gap at {self.at} cells {self.cells}"
 
 
+def _told_of(report: Report) -> _Report:
+    """A report as the library tells it, but for the words of a block."""
+    place, cell = (_number(it, "a place", 0, 2**64 - 1) for it in (report.at, report.cell))
+    return _Report(at=place, cell=cell, wrong=report.wrong, kind=report.kind, before=report.before, why=report.why)
+
+
 class Account:
     """Tells the gaps between the whole blocks of a lock's cells."""
 
@@ -805,8 +829,7 @@ class Account:
         """The list of the gaps before a report. Each report of the lock goes here in turn, and is told then."""
         if not isinstance(report, Report):
             raise TypeError(f"a gap is before a Report of a lock, not before {_named(report)}")
-        place, cell = (_number(it, "a place", 0, 2**64 - 1) for it in (report.at, report.cell))
-        told = _Report(at=place, cell=cell, wrong=report.wrong, kind=report.kind, before=report.before, why=report.why)
+        told = _told_of(report)
         return self._gaps(lambda gap: _before(c.byref(self._account), c.byref(told), gap))
 
     def passed(self, seen: int) -> List[Gap]:
@@ -826,3 +849,96 @@ class Account:
         while put(c.byref(gap)):
             gaps.append(Gap(gap))
         return gaps
+
+
+# ---- a line that is watched
+
+
+class Event:
+    """What changes on a line, and where; the fields are those of aes3.h.
+
+    kind      "locked", "lost", "back", "slipped", "status", "validity" or "end"
+    at        the cell where it happens: of "lost" the first lost cell, of "end" the number of cells, else a block's first cell
+    cells     of "back" how many cells were lost; of "slipped" how many cells are between the block and the one before it
+    channel   of "status" and "validity" 1 or 2
+    status    of "status" the new channel status, 24 octets
+    validity  of "validity" "clear", "set" or "mixed"
+    before    of "locked" the level of the cell before the block
+    locked    of "end" whether the last whole block is followed by fewer than 24,576 cells
+
+    Fields that its kind does not name are 0, empty or False. Events are equal where all of this is. `match` takes the first three
+    fields by their place, as `case aes3.Event("slipped", at, cells): ...` does.
+    """
+
+    __slots__ = ("kind", "at", "cells", "channel", "status", "validity", "before", "locked")
+    __match_args__ = ("kind", "at", "cells")
+
+    def __init__(self, told: _Event) -> None:
+        self.kind = EVENTS[told.kind - 1]
+        self.at: int = told.at
+        self.cells: int = told.cells
+        self.channel: int = told.channel
+        self.status = bytes(told.status) if self.kind == "status" else b""
+        self.validity = VALIDITIES[told.validity] if self.kind == "validity" else ""
+        self.before: int = told.before
+        self.locked = bool(told.locked)
+
+    def _fields(self) -> Tuple[object, ...]:
+        return self.kind, self.at, self.cells, self.channel, self.status, self.validity, self.before, self.locked
+
+    def __eq__(self, other: object) -> bool:
+        if not isinstance(other, Event):
+            return NotImplemented
+        return self._fields() == other._fields()
+
+    def __hash__(self) -> int:
+        return hash(self._fields())
+
+    def __repr__(self) -> str:
+        return f"Event({self})"
+
+    def __str__(self) -> str:
+        """Its line, as `aes3 watch` writes it."""
+        rest = {
+            "locked": f" before {self.before}",
+            "lost": "",
+            "back": f" lost {self.cells}",
+            "slipped": f" cells {self.cells}",
+            "status": f" channel {self.channel} {self.status.hex()}",
+            "validity": f" channel {self.channel} {self.validity}",
+            "end": " locked" if self.locked else " lost",
+        }
+        return f"{self.kind} at {self.at}{rest[self.kind]}"
+
+
+class Watch:
+    """Tells the events of a line: where it locks, is lost, comes back or slips, and where its status or validity bits change."""
+
+    def __init__(self) -> None:
+        self._watch = _Watch()
+        _watch_init(c.byref(self._watch))
+
+    def report(self, report: Report) -> List[Event]:
+        """The list of the events of a report. Each report of the lock goes here once, in turn."""
+        if not isinstance(report, Report):
+            raise TypeError(f"an event is of a Report of a lock, not of {_named(report)}")
+        told = _told_of(report)
+        if report._block is not None:
+            told.words = report._block
+        return self._events(lambda events: _watch_report(c.byref(self._watch), c.byref(told), events))
+
+    def passed(self, seen: int) -> List[Event]:
+        """The list of the loss that stands whatever follows the `seen` cells, all of whose reports were told, or of none."""
+        seen = _number(seen, "the number of cells", 0, 2**64 - 1)
+        return self._events(lambda events: _watch_passed(c.byref(self._watch), seen, events))
+
+    def end(self, seen: int) -> List[Event]:
+        """The list of the events of the end of the `seen` cells, all of whose reports were told. The state is unchanged."""
+        seen = _number(seen, "the number of cells", 0, 2**64 - 1)
+        return self._events(lambda events: _watch_end(c.byref(self._watch), seen, events))
+
+    @staticmethod
+    def _events(put: Callable[[Any], int]) -> List[Event]:
+        events = _Events()
+        count = put(events)
+        return [Event(events[i]) for i in range(count)]

@@ -62,6 +62,10 @@ def main() -> None:
     told: List[aes3.Report] = lock.take(words) + lock.push(*rest) + lock.finish()
     gaps: List[aes3.Gap] = [gap for report in told for gap in account.before(report)] + account.end(lock.seen())
     assert told == reports and gaps == [] and count == 0
+    watch = aes3.Watch()
+    events: List[aes3.Event] = [event for report in told for event in watch.report(report)]
+    events += watch.passed(lock.seen()) + watch.end(lock.seen())
+    assert [event.kind for event in events] == ["locked", "end"] and events[1].locked and events[0].status == b""
     block = told[0].words
     assert block is not None
     changed: numpy.typing.NDArray[numpy.uint32] = aes3.with_user(aes3.with_validity(block, 1, bytes(24)), 2, bytes(24))

@@ -369,6 +369,33 @@ def check_gaps():
     assert repr(first) == "Gap(gap at 0 cells 24576)" and first != "gap at 0 cells 24576"
 
 
+def check_events():
+    samples = array.array("i", 6 * 384 * [256])
+    line = aes3.encode(samples, 48000, channels=2, form="raw")
+    other = aes3.encode(samples, 44100, channels=2, form="raw")
+    block = len(line) // 6
+    # Three blocks, eight cells too many, one block, three blocks without signal, and two blocks with another status.
+    cells = line[: 3 * block] + b"\xcc" + line[:block] + bytes(3 * block) + other[: 2 * block]
+    for piece in (777, 4 * block):
+        lock, watch = aes3.Lock(), aes3.Watch()
+        events = []
+        for at in range(0, len(cells), piece):
+            events += [it for report in lock.take_octets(cells[at : at + piece]) for it in watch.report(report)] + watch.passed(lock.seen())
+        events += [it for report in lock.finish() for it in watch.report(report)]
+        assert watch.end(lock.seen()) == watch.end(lock.seen())
+        events += watch.end(lock.seen())
+        kinds = [it.kind for it in events]
+        assert kinds == ["locked", "slipped", "lost", "back", "status", "status", "end"], events
+        locked, slipped, lost, back, first, second, end = events
+        assert str(locked) == "locked at 0 before 0" and repr(slipped) == f"Event(slipped at {24 * block + 8} cells 8)"
+        assert (lost.at, back.at - lost.at, back.cells) == (32 * block + 8, 24 * block, 24 * block)
+        assert first.channel == 1 and second.channel == 2 and first.status == bytes(aes3.decode(other, form="raw").status[0])
+        assert str(first) == f"status at {back.at} channel 1 {first.status.hex()}" and first != second and len({first, second, lost}) == 3
+        assert str(end) == f"end at {lock.seen()} locked" and end.locked and not lost.locked
+    lost = aes3.Watch().passed(2 * 24576)
+    assert str(lost) == "[Event(lost at 0)]" and lost[0] != "lost at 0"
+
+
 def wav_of(form, container, bits, channels, octets, before=b"", after=b"", length=None):
     """A WAV file, extensible where not all bits of a sample count."""
     frame = channels * container

@@ -6,6 +6,8 @@ use Rattle.aes3_status.specs.declared.check.Check.{Check}
 use Rattle.aes3_status.specs.declared.check.Check.TheVariants.{Good, Absent, Bad}
 use Rattle.aes3_lock.specs.declared.report.Why.{Why}
 use Rattle.aes3_lock.specs.declared.report.Why.TheVariants.{Preamble, Biphase, Unclosed}
+use Rattle.aes3_text_lines.specs.declared.event.Marking.{Marking}
+use Rattle.aes3_text_lines.specs.declared.event.Marking.TheVariants.{Clear, Set, Mixed}
 
 -- a version by its three numbers
 abbrev pub version_number : ℕ → ℕ → ℕ → ℕ
@@ -33,6 +35,16 @@ is_channel n = (n == 1) || (n == 2)
 
 abbrev pub channel_of : ℕ → Channel
 channel_of n = if n == 1 then First else Second
+
+abbrev pub channel_code : Channel → ℕ
+channel_code First = 1
+channel_code Second = 2
+
+-- the number of a state of validity bits
+abbrev pub marking_code : Marking → ℕ
+marking_code Clear = 0
+marking_code Set = 1
+marking_code Mixed = 2
 
 -- what a code adds to its byte, where its field begins with this bit
 abbrev pub code_from : ℕ → ℕ → ℕ

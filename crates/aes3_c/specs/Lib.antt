@@ -16,3 +16,4 @@ pub mod Owed
 pub mod Streaming
 pub mod Marks
 pub mod Setting
+pub mod Watches

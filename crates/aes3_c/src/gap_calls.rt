@@ -73,7 +73,7 @@ fn put_gap(told: Gap, gap: &mut Aes3Gap)
 }
 
 /// The ending of a block that a report gives, if it gives one.
-fn ending_of(report: &Aes3Report) -> Option<Ending>
+pub(crate) fn ending_of(report: &Aes3Report) -> Option<Ending>
     ensures { (block : List (List Bool)) → told_of block report.now
         ≡ option_map (report_with block) result }
 {

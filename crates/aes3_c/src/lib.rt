@@ -63,6 +63,8 @@ mod taking;
 mod text;
 /// The version of the library.
 mod version;
+/// A watched line.
+mod watch_calls;
 /// WAV files: their header, read and written.
 mod wav;
 /// The samples of WAV files.

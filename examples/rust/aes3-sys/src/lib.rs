@@ -14,6 +14,8 @@ pub const AES3_BLOCK_OCTETS: usize = 3072;
 pub const AES3_STATUS_BYTES: usize = 24;
 /// Characters of the text of a channel status, at most.
 pub const AES3_STATUS_TEXT: usize = 800;
+/// Events that a call puts, at most.
+pub const AES3_EVENTS: usize = 6;
 /// What a call returns if the channel is neither 1 nor 2.
 pub const AES3_NO_CHANNEL: u32 = 385;
 
@@ -97,6 +99,58 @@ pub struct aes3_gap {
     pub cells: u64,
     /// 1 if it counts among the faults, else 0.
     pub counts: u8,
+}
+
+/// The state of a line that is watched, in memory of its caller.
+#[repr(C)]
+#[derive(Clone, Copy)]
+pub struct aes3_watch {
+    /// Opaque: only the calls write it.
+    pub state: [u64; 10],
+}
+
+/// `kind`: the first whole block: `at`, `before`.
+pub const AES3_EVENT_LOCKED: u8 = 1;
+/// `kind`: 24,576 cells or more are in no whole block: `at`.
+pub const AES3_EVENT_LOST: u8 = 2;
+/// `kind`: the first whole block after lost cells: `at`, `cells`.
+pub const AES3_EVENT_BACK: u8 = 3;
+/// `kind`: a whole block after fewer than 24,576 cells that are in none: `at`, `cells`.
+pub const AES3_EVENT_SLIPPED: u8 = 4;
+/// `kind`: a whole block with another channel status than the one before it: `at`, `channel`, `status`.
+pub const AES3_EVENT_STATUS: u8 = 5;
+/// `kind`: one with other validity bits than the one before it: `at`, `channel`, `validity`.
+pub const AES3_EVENT_VALIDITY: u8 = 6;
+/// `kind`: the cells end: `at`, `locked`.
+pub const AES3_EVENT_END: u8 = 7;
+
+/// `validity`: all bits are 0.
+pub const AES3_VALIDITY_CLEAR: u8 = 0;
+/// `validity`: all bits are 1.
+pub const AES3_VALIDITY_SET: u8 = 1;
+/// `validity`: some bits are 0, some are 1.
+pub const AES3_VALIDITY_MIXED: u8 = 2;
+
+/// What changes on a line, and where. A field that its kind does not name is 0.
+#[repr(C)]
+#[derive(Clone, Copy, Debug, Default, PartialEq, Eq)]
+pub struct aes3_event {
+    /// Place: where cells are lost, of the first of them; at the end, the number of cells; else that of the block's first cell.
+    pub at: u64,
+    /// Where the line comes back, how many cells were lost; where it slips, how many are between the blocks.
+    pub cells: u64,
+    /// The new channel status.
+    pub status: [u8; AES3_STATUS_BYTES],
+    /// `AES3_EVENT_LOCKED` to `AES3_EVENT_END`.
+    pub kind: u8,
+    /// 1 or 2.
+    pub channel: u8,
+    /// The level before the block's first cell.
+    pub before: u8,
+    /// `AES3_VALIDITY_CLEAR` to `AES3_VALIDITY_MIXED`.
+    pub validity: u8,
+    /// 1 if the last whole block is followed by fewer than 24,576 cells, else 0.
+    pub locked: u8,
 }
 
 /// The fields of a status for professional use.
@@ -290,6 +344,8 @@ const _: () = {
     assert!(core::mem::size_of::<aes3_report>() == 1560);
     assert!(core::mem::size_of::<aes3_account>() == 16);
     assert!(core::mem::size_of::<aes3_gap>() == 24);
+    assert!(core::mem::size_of::<aes3_watch>() == 80);
+    assert!(core::mem::size_of::<aes3_event>() == 48);
     assert!(core::mem::size_of::<aes3_professional>() == 32);
     assert!(core::mem::size_of::<aes3_consumer>() == 33);
     assert!(core::mem::size_of::<aes3_capture>() == 80);
@@ -336,6 +392,14 @@ extern "C" {
     pub fn aes3_account_passed(account: *mut aes3_account, seen: u64, gap: *mut aes3_gap) -> bool;
     /// Puts the next gap at the end of the cells, if there is one.
     pub fn aes3_account_end(account: *mut aes3_account, seen: u64, gap: *mut aes3_gap) -> bool;
+    /// Makes the state of a line for a lock that has seen no cell.
+    pub fn aes3_watch_init(watch: *mut aes3_watch);
+    /// Puts the events of a report, with room for `AES3_EVENTS` of them; returns how many.
+    pub fn aes3_watch_report(watch: *mut aes3_watch, report: *const aes3_report, events: *mut aes3_event) -> u32;
+    /// Puts the loss that no later cell changes, if there is one; returns how many events.
+    pub fn aes3_watch_passed(watch: *mut aes3_watch, seen: u64, events: *mut aes3_event) -> u32;
+    /// Puts the events of the end of the cells; returns how many.
+    pub fn aes3_watch_end(watch: *const aes3_watch, seen: u64, events: *mut aes3_event) -> u32;
     /// Puts the cells of a block after the level `before`; returns 384, or the number of the first word that is not valid.
     pub fn aes3_encode_block(words: *const u32, before: u8, cells: *mut u64) -> u32;
     /// Puts the cells of blocks as octets; returns how many words it took, or the number of the first that is not valid.

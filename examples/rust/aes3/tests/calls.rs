@@ -1,7 +1,8 @@
 //! Each call, with answers that are known.
 
 use aes3::{
-    Account, Block, Channel, Check, Error, Form, Gap, Lock, Report, Reports, Status, Why, BLOCK_CELLS, BLOCK_WORDS,
+    Account, Block, Channel, Check, Error, Event, Form, Gap, Lock, Report, Reports, Status, Validity, Watch, Why,
+    BLOCK_CELLS, BLOCK_WORDS,
 };
 use aes3::{Recovery, SampleForm, SubframeForm, BLOCK_OCTETS};
 use aes3::{Wav, WavBits, WavFault, WavRead};
@@ -216,6 +217,40 @@ fn gaps() {
         ]
     );
     assert_eq!(told[1].to_string(), "gap at 24576 cells 7");
+}
+
+#[test]
+fn events() {
+    let block_cells = BLOCK_CELLS as u64;
+    let mut watch = Watch::new();
+    let mut told = Vec::new();
+    let mut block = Block::silence();
+    watch.passed(2 * block_cells - 1, |event| panic!("{event}"));
+    watch.report(&Report::Whole { at: 100, before: true, block: block.clone() }, |event| told.push(event));
+    assert_eq!(told, [Event::Locked { at: 100, before: true }]);
+    block.set_status(Channel::Two, &Status { bytes: [4; 24] }).unwrap();
+    block.set_validity(Channel::One, &[255; 24]).unwrap();
+    let at = 107 + block_cells;
+    watch.report(&Report::Whole { at, before: true, block: block.clone() }, |event| told.push(event));
+    assert_eq!(
+        told[1..],
+        [
+            Event::Slipped { at, cells: 7 },
+            Event::Status { at, channel: Channel::Two, status: Status { bytes: [4; 24] } },
+            Event::Validity { at, channel: Channel::One, validity: Validity::Set },
+        ]
+    );
+    let clone = watch.clone();
+    watch.passed(at + 3 * block_cells, |event| told.push(event));
+    assert_eq!(told[4..], [Event::Lost { at: at + block_cells }]);
+    watch.report(&Report::Whole { at: at + 3 * block_cells, before: true, block }, |event| told.push(event));
+    watch.end(at + 4 * block_cells, |event| told.push(event));
+    clone.end(at + block_cells, |event| told.push(event));
+    let lines: Vec<String> = told[5..].iter().map(|event| event.to_string()).collect();
+    assert_eq!(lines, ["back at 98411 lost 49152", "end at 122987 locked", "end at 49259 locked"]);
+    assert_eq!(told[2].to_string(), format!("status at {at} channel 2 {}", "04".repeat(24)));
+    assert_eq!(told[3].to_string(), format!("validity at {at} channel 1 set"));
+    assert_eq!(told[0].to_string(), "locked at 100 before 1");
 }
 
 #[test]
