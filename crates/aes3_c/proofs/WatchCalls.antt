@@ -195,16 +195,16 @@ report-put {k} k' {c} {r} {put} {now} x w told p (rest, h) e f g n =
     let far = p.later x rest q in
     let behind = behind_reports unwatched (r ++ x ∷ []) in
     let next-is : uncounted w ≡ uncounted behind =
-        ap uncounted e ∙ next-alike (watched_in k) (up_to v p.reached) x p.state_is
-        ∙ ap uncounted (sym (next-join v p.reached x far) ∙ sym (behind-push unwatched r x)) in
+    ap uncounted e ∙ next-alike (watched_in k) (up_to v p.reached) x p.state_is
+    ∙ ap uncounted (sym (next-join v p.reached x far) ∙ sym (behind-push unwatched r x)) in
     let events-are : (events_from unwatched r ++ loss_events v p.reached) ++ told
-        ≡ events_from unwatched (r ++ x ∷ []) ++ loss_events behind 0 =
-        ap (λ z. (events_from unwatched r ++ loss_events v p.reached) ++ z)
-        (f ∙ told-alike (watched_in k) (up_to v p.reached) x p.state_is)
-        ∙ append_assoc (events_from unwatched r) (loss_events v p.reached) (told_events (up_to v p.reached) x)
-        ∙ ap (λ z. events_from unwatched r ++ z) (sym (report-join v p.reached x far))
-        ∙ sym (events-push unwatched r x) ∙ sym (append-nil (events_from unwatched (r ++ x ∷ [])))
-        ∙ ap (λ z. events_from unwatched (r ++ x ∷ []) ++ z) (sym (loss-first behind)) in
+    ≡ events_from unwatched (r ++ x ∷ []) ++ loss_events behind 0 =
+    ap (λ z. (events_from unwatched r ++ loss_events v p.reached) ++ z)
+    (f ∙ told-alike (watched_in k) (up_to v p.reached) x p.state_is)
+    ∙ append_assoc (events_from unwatched r) (loss_events v p.reached) (told_events (up_to v p.reached) x)
+    ∙ ap (λ z. events_from unwatched r ++ z) (sym (report-join v p.reached x far))
+    ∙ sym (events-push unwatched r x) ∙ sym (append-nil (events_from unwatched (r ++ x ∷ [])))
+    ∙ ap (λ z. events_from unwatched (r ++ x ∷ []) ++ z) (sym (loss-first behind)) in
     record {
       reached = 0;
       within = omega arith;
