@@ -51,7 +51,7 @@ for name in $inputs dead none few; do
     echo $? >>$name.gaps
 done
 
-# The events of each, and of a line that slips twice and whose status and validity bits change.
+# The events of each, and of a line that slips, is lost and comes back, and whose status and validity bits change.
 {
     head -c 900000 line.txt; tail -c +900006 line.txt | head -c 700000; head -c 70 line.txt; tail -c +1600000 line.txt
     "$program" rewrite --set2 emphasis=50/15 <line.txt

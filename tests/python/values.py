@@ -375,7 +375,7 @@ def check_events():
     other = aes3.encode(samples, 44100, channels=2, form="raw")
     block = len(line) // 6
     # Three blocks, eight cells too many, one block, three blocks without signal, and two blocks with another status.
-    cells = line[: 3 * block] + b"\xcc" + line[:block] + bytes(3 * block) + other[: 2 * block]
+    cells = line[: 3 * block] + b"\xcc" + line[:block] + 3 * block * b"\xff" + other[: 2 * block]
     for piece in (777, 4 * block):
         lock, watch = aes3.Lock(), aes3.Watch()
         events = []

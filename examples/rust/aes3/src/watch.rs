@@ -103,11 +103,11 @@ impl fmt::Display for Event {
 /// validity bits change. A clone goes on from there by itself.
 ///
 /// ```
-/// use aes3::{Block, Form, Reports, Watch};
+/// use aes3::{encode_blocks, Block, Form, Reports, Watch, BLOCK_OCTETS};
 ///
 /// // A block, and 40 cells without signal.
-/// let mut line = vec![0; aes3::BLOCK_OCTETS + 5];
-/// aes3::encode_blocks(&Block::silence().words, false, &mut line)?;
+/// let mut line = vec![0xff; BLOCK_OCTETS + 5];
+/// encode_blocks(&[Block::silence()], false, &mut line)?;
 /// let mut lines = Vec::new();
 /// let (mut watch, mut reports) = (Watch::new(), Reports::new(&line[..], Form::Raw));
 /// while let Some(report) = reports.next() {
@@ -115,7 +115,7 @@ impl fmt::Display for Event {
 ///     watch.passed(reports.seen(), |event| lines.push(event.to_string()));
 /// }
 /// watch.end(reports.seen(), |event| lines.push(event.to_string()));
-/// assert_eq!(lines, ["lost at 0", "end at 24616 lost"]);
+/// assert_eq!(lines, ["locked at 0 before 0", "end at 24616 locked"]);
 /// # Ok::<(), Box<dyn std::error::Error>>(())
 /// ```
 #[derive(Clone)]

@@ -226,12 +226,12 @@ fn events() {
     let mut told = Vec::new();
     let mut block = Block::silence();
     watch.passed(2 * block_cells - 1, |event| panic!("{event}"));
-    watch.report(&Report::Whole { at: 100, before: true, block: block.clone() }, |event| told.push(event));
+    watch.report(&Report::Whole { at: 100, before: true, block }, |event| told.push(event));
     assert_eq!(told, [Event::Locked { at: 100, before: true }]);
     block.set_status(Channel::Two, &Status { bytes: [4; 24] }).unwrap();
     block.set_validity(Channel::One, &[255; 24]).unwrap();
     let at = 107 + block_cells;
-    watch.report(&Report::Whole { at, before: true, block: block.clone() }, |event| told.push(event));
+    watch.report(&Report::Whole { at, before: true, block }, |event| told.push(event));
     assert_eq!(
         told[1..],
         [
