@@ -144,7 +144,7 @@ int main(void) {
     failed |= events[0].kind != AES3_EVENT_LOCKED;
     report.at += 5, report.words[0] ^= UINT32_C(5) << 28, report.words[1] ^= UINT32_C(5) << 28;
     failed |= tell("aes3_watch_report, changes", watch_report, 8192);
-    failed |= events[0].kind != AES3_EVENT_VALIDITY && events[1].kind != AES3_EVENT_VALIDITY;
+    failed |= events[0].kind != AES3_EVENT_STATUS || events[2].kind != AES3_EVENT_VALIDITY;
     failed |= tell("aes3_watch_passed", watch_passed, 4096);
     failed |= tell("aes3_watch_end", watch_end, 4096);
     failed |= tell("aes3_frames_between", frames_between, 256);

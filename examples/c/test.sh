@@ -55,7 +55,7 @@ done
 {
     head -c 900000 line.txt; tail -c +900006 line.txt | head -c 700000; head -c 70 line.txt; tail -c +1600000 line.txt
     "$program" rewrite --set2 emphasis=50/15 <line.txt
-    "$program" to-pcm <line.txt | "$program" from-pcm --valid1 1 | "$program" encode
+    "$program" rewrite --valid1 1 <line.txt
 } >changes.txt
 for name in $inputs dead none few changes; do
     "$program" watch <$name.txt >$name.events
