@@ -9,8 +9,8 @@ use Rattle.std.proofs.lemmas.Option.{slice_get-get_or, get_or_from_slice_get}
 use Rattle.aes3_bits.specs.Bits.{low_bits, number}
 use Rattle.aes3_slot.specs.Slots.{IsPayload, payload_len}
 use Rattle.aes3_bits.proofs.Bits.{length-low_bits, number-low_bits, low_bits-number}
-use Rattle.aes3_frame.specs.declared.channel.Channel.{Channel}
-use Rattle.aes3_frame.specs.declared.channel.Channel.TheVariants.{First, Second}
+use Rattle.aes3_frame.specs.declared.block.Channel.{Channel}
+use Rattle.aes3_frame.specs.declared.block.Channel.TheVariants.{First, Second}
 use Rattle.aes3_frame.specs.Blocks.{IsBlock}
 use Rattle.aes3_frame.specs.Subframes.{audio_len}
 use Rattle.aes3_frame.specs.Statuses.{of_channel, status_place, status_bit, status_bits, status_len, status_of}

@@ -3,8 +3,8 @@ use Rattle.std.specs.Prelude.{ℕ, List, [], ◌++◌, Bool, Some, Ok, length, m
 use Rattle.std.specs.Prelude.{slice_index_or, All, ◌≡◌, ◌<◌, ◌+◌, ◌-◌, ◌*◌, ◌/◌, ◌%◌, ◌==◌}
 use Rattle.std.specs.Int.{bit_at}
 use Rattle.aes3_level.specs.declared.level.Level.{Level}
-use Rattle.aes3_frame.specs.declared.channel.Channel.{Channel}
-use Rattle.aes3_frame.specs.declared.channel.Channel.TheVariants.{First, Second}
+use Rattle.aes3_frame.specs.declared.block.Channel.{Channel}
+use Rattle.aes3_frame.specs.declared.block.Channel.TheVariants.{First, Second}
 use Rattle.aes3_frame.specs.Blocks.{IsBlock, block_len, block_cells, stream}
 use Rattle.aes3_frame.specs.Files.{file, file_blocks, IsBlockFile}
 use Rattle.aes3_block.specs.Readers.{reader_of, end_answer}

@@ -2,7 +2,7 @@
 use Rattle.std.specs.Prelude.{ℕ, Bool, List, ◌≡◌, ◌≢◌, ◌<◌, false, get_or, map, true}
 use Rattle.aes3_frame.specs.Files.{is_lawful, payload_of}
 use Rattle.aes3_frame.specs.Statuses.{status_of, user_of, validity_of, with_status, with_user, with_validity}
-use Rattle.aes3_frame.specs.declared.channel.Channel.{Channel}
+use Rattle.aes3_frame.specs.declared.block.Channel.{Channel}
 use Rattle.aes3_c.specs.Blocks.{IsFirstWrong, word_in}
 use Rattle.aes3_c.specs.Codes.{channel_of, is_channel}
 use Rattle.aes3_c.specs.declared.bits.ChannelBits.{ChannelBits}

@@ -1,7 +1,7 @@
 -- Numbers that stand for the variants of an enum.
 use Rattle.std.specs.Prelude.{ℕ, Bool, List, ◌∷◌, ◌+◌, ◌*◌, ◌^◌, ◌==◌, ◌||◌, get_or, if◌then◌else◌}
-use Rattle.aes3_frame.specs.declared.channel.Channel.{Channel}
-use Rattle.aes3_frame.specs.declared.channel.Channel.TheVariants.{First, Second}
+use Rattle.aes3_frame.specs.declared.block.Channel.{Channel}
+use Rattle.aes3_frame.specs.declared.block.Channel.TheVariants.{First, Second}
 use Rattle.aes3_status.specs.declared.check.Check.{Check}
 use Rattle.aes3_status.specs.declared.check.Check.TheVariants.{Good, Absent, Bad}
 use Rattle.aes3_lock.specs.declared.report.Why.{Why}

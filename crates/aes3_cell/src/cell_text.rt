@@ -13,7 +13,7 @@ ghost use Rattle.std.specs.List.{flat_map};
 ghost use Rattle.aes3_level.specs.declared.level.Level.{Level};
 ghost use Rattle.aes3_cell.specs.TextLines.{LineBegins};
 
-use crate::run_error::BadCell;
+use crate::refusal::BadCell;
 use crate::scattered::cells_among;
 use crate::some_cells::SomeCells;
 use crate::word::{LINE_LEN, word_of_text};

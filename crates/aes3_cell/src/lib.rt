@@ -31,8 +31,8 @@ mod packed_in;
 mod packed_out;
 /// Octets of packed cells as words of cells, many at once.
 mod packed_words;
-/// Why a run is rejected.
-mod run_error;
+/// Refusals: why a run is rejected, and the number of each.
+mod refusal;
 /// Cells among separators, 64 bytes at once.
 mod scattered;
 /// A sink in memory that takes few bytes in a call, for tests.
@@ -62,7 +62,7 @@ pub use memory::{MemorySink, MemorySource};
 pub use packed_in::PackedIn;
 pub use packed_out::PackedOut;
 pub use packed_words::words_of_octets;
-pub use run_error::{BadCell, BadPadding, RunError};
+pub use refusal::{BadCell, BadPadding, RunError};
 pub use short::ShortSink;
 pub use some_cells::SomeCells;
 pub use standard::{StdSink, StdSource};

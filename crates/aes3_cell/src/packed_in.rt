@@ -30,7 +30,7 @@ ghost use Rattle.aes3_cell.specs.PackedReading.{packed_reader_of, end_answer};
 ghost use Rattle.aes3_level.specs.Words.{word_cells};
 
 use crate::packed_words::words_of_octets;
-use crate::run_error::BadPadding;
+use crate::refusal::BadPadding;
 use crate::word::word_of_octets;
 
 /// Whether the last `unused` cells of an octet, fewer than eight, are Low.

@@ -12,9 +12,9 @@ use Rattle.clap.specs.Simple.{Shape, built}
 use Rattle.clap.specs.Walk.{Row, Rule, Text, first_of}
 use Rattle.aes3_cli.specs.CommandLine.{check, command_line, cut, decode, encode, from_pcm, normal, reader, rewrite}
 use Rattle.aes3_cli.specs.CommandLine.{from_wav, info, show, to_bits, to_pcm, to_wav, watch}
-use Rattle.aes3_frame.specs.declared.channel.Channel.{Channel}
-use Rattle.aes3_frame.specs.declared.channel.Channel.TheVariants.{First, Second}
-use Rattle.aes3_frame.specs.declared.carried.CarriedBits.{CarriedBits}
+use Rattle.aes3_frame.specs.declared.block.Channel.{Channel}
+use Rattle.aes3_frame.specs.declared.block.Channel.TheVariants.{First, Second}
+use Rattle.aes3_frame.specs.declared.block.CarriedBits.{CarriedBits}
 use Rattle.aes3_cli_arguments.specs.Jobs.{IsNumber, Options, StandsIn, bits_by, bits_in, has_unknown_bits, number_of}
 use Rattle.aes3_cli_arguments.proofs.LineWalks.{level_checked, level_fits}
 use Rattle.aes3_cli_arguments.proofs.OptionRows.{FitAll}

@@ -17,13 +17,13 @@ use Rattle.clap.specs.declared.error.kind.ErrorKind.{ErrorKind}
 use Rattle.clap.specs.declared.error.kind.ErrorKind.TheVariants.{DisplayHelp, DisplayVersion, OutOfMemory}
 use Rattle.aes3_cell.specs.declared.form.Form.{Form}
 use Rattle.aes3_cell.specs.declared.form.Form.TheVariants as form
-use Rattle.aes3_cell.specs.declared.run_error.RunError.TheVariants.{BadStatusText, Inexact, Memory}
+use Rattle.aes3_cell.specs.declared.refusal.RunError.TheVariants.{BadStatusText, Inexact, Memory}
 use Rattle.aes3_frame.specs.declared.fill.Fill.{Fill}
 use Rattle.aes3_frame.specs.declared.fill.Fill.TheVariants.{Zero, Hold}
-use Rattle.aes3_frame.specs.declared.channel.Channel.{Channel}
-use Rattle.aes3_frame.specs.declared.channel.Channel.TheVariants.{First, Second}
-use Rattle.aes3_frame.specs.declared.carried.CarriedBits.{CarriedBits}
-use Rattle.aes3_frame.specs.declared.carried.CarriedBits.TheVariants.{Validity, User, Status}
+use Rattle.aes3_frame.specs.declared.block.Channel.{Channel}
+use Rattle.aes3_frame.specs.declared.block.Channel.TheVariants.{First, Second}
+use Rattle.aes3_frame.specs.declared.block.CarriedBits.{CarriedBits}
+use Rattle.aes3_frame.specs.declared.block.CarriedBits.TheVariants.{Validity, User, Status}
 use Rattle.aes3_status.specs.declared.change.Change.{Change}
 use Rattle.aes3_status.specs.declared.setting.Settings.{Settings}
 use Rattle.aes3_status.specs.Settings.{set_all}

@@ -1,8 +1,8 @@
 //! What `to-bits` does.
 
 ghost use Rattle.std.specs.Prelude.{◌≡◌, Some, codes};
-ghost use Rattle.aes3_frame.specs.declared.channel.Channel.{Channel};
-ghost use Rattle.aes3_frame.specs.declared.carried.CarriedBits.{CarriedBits};
+ghost use Rattle.aes3_frame.specs.declared.block.Channel.{Channel};
+ghost use Rattle.aes3_frame.specs.declared.block.CarriedBits.{CarriedBits};
 ghost use Rattle.aes3_cli_arguments.specs.Jobs.{AsksToRead, IsNumber, bits_by, bits_in, number_of};
 ghost use Rattle.aes3_cli_arguments.specs.Jobs.{options_of};
 

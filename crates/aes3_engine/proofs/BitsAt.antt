@@ -4,8 +4,8 @@ use Rattle.std.proofs.Common.{refl, ap, ap₂, ◌∙◌, arith, get_or-set_same
 use Rattle.std.proofs.lemmas.List.{length-set, take-set-le}
 use Rattle.aes3_bits.specs.Bits.{number}
 use Rattle.aes3_slot.specs.Slots.{IsPayload, payload_len}
-use Rattle.aes3_frame.specs.declared.channel.Channel.{Channel}
-use Rattle.aes3_frame.specs.declared.channel.Channel.TheVariants.{First, Second}
+use Rattle.aes3_frame.specs.declared.block.Channel.{Channel}
+use Rattle.aes3_frame.specs.declared.block.Channel.TheVariants.{First, Second}
 use Rattle.aes3_frame.specs.Blocks.{IsBlock}
 use Rattle.aes3_frame.specs.Samples.{sample_of}
 use Rattle.aes3_frame.specs.Subframes.{audio_len}

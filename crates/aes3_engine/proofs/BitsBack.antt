@@ -3,15 +3,15 @@ use Rattle.std.proofs.Common.{◌≡◌, ◌≢◌, ℕ, suc, ◌<◌, List, [],
 use Rattle.std.proofs.Common.{◌∙◌, arith}
 use Rattle.std.specs.List.{flat_map, All}
 use Rattle.aes3_slot.specs.Slots.{payload_len}
-use Rattle.aes3_frame.specs.declared.channel.Channel.{Channel}
-use Rattle.aes3_frame.specs.declared.channel.Channel.TheVariants.{First, Second}
+use Rattle.aes3_frame.specs.declared.block.Channel.{Channel}
+use Rattle.aes3_frame.specs.declared.block.Channel.TheVariants.{First, Second}
 use Rattle.aes3_frame.specs.Blocks.{IsBlock}
 use Rattle.aes3_frame.specs.Subframes.{audio_len}
 use Rattle.aes3_frame.specs.Statuses.{bits_at, bits_of_bytes, bytes_in, status_len, status_place, user_of, user_place}
 use Rattle.aes3_frame.specs.Statuses.{validity_of, validity_place, with_bits_at, with_status, with_user, with_validity}
 use Rattle.aes3_block.specs.Laws.{other_channel}
-use Rattle.aes3_frame.specs.declared.carried.CarriedBits.{CarriedBits}
-use Rattle.aes3_frame.specs.declared.carried.CarriedBits.TheVariants.{Validity, User, Status}
+use Rattle.aes3_frame.specs.declared.block.CarriedBits.{CarriedBits}
+use Rattle.aes3_frame.specs.declared.block.CarriedBits.TheVariants.{Validity, User, Status}
 use Rattle.aes3_status.specs.declared.change.Change.{Change}
 use Rattle.aes3_engine.specs.Rewriting.{all_bits, cleared, rewritten, rewritten_blocks, set_user, set_validity}
 use Rattle.aes3_engine.specs.Rewriting.{with_bits_given}

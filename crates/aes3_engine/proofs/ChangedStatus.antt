@@ -4,8 +4,8 @@ use Rattle.std.proofs.Common.{sym, ap, ap₂, subst, ◌∙◌, ◌/◌, arith, 
 use Rattle.std.specs.Option.{unwrap_or}
 use Rattle.std.proofs.lemmas.List.{length-map, length-set}
 use Rattle.std.specs.List.{All}
-use Rattle.aes3_frame.specs.declared.channel.Channel.{Channel}
-use Rattle.aes3_frame.specs.declared.channel.Channel.TheVariants.{First, Second}
+use Rattle.aes3_frame.specs.declared.block.Channel.{Channel}
+use Rattle.aes3_frame.specs.declared.block.Channel.TheVariants.{First, Second}
 use Rattle.aes3_frame.specs.Blocks.{IsBlock, block_subframes}
 use Rattle.aes3_frame.specs.Files.{payload_of}
 use Rattle.aes3_frame.specs.Statuses.{bits_of_bytes, bytes_in, status_len, status_of, status_place, with_bits, with_status}

@@ -4,8 +4,8 @@ use Rattle.std.proofs.Common.{◌∙◌, ◌≤◌, arith}
 use Rattle.aes3_level.specs.declared.level.Level.{Level}
 use Rattle.aes3_cell.specs.declared.form.Form.{Form}
 use Rattle.aes3_cell.specs.Written.{ending}
-use Rattle.aes3_frame.specs.declared.channel.Channel.{Channel}
-use Rattle.aes3_frame.specs.declared.channel.Channel.TheVariants.{First, Second}
+use Rattle.aes3_frame.specs.declared.block.Channel.{Channel}
+use Rattle.aes3_frame.specs.declared.block.Channel.TheVariants.{First, Second}
 use Rattle.aes3_frame.specs.Subframes.{audio_len}
 use Rattle.aes3_frame.specs.Statuses.{status_of, bits_of_bytes, with_bits_at, with_status, with_user, with_validity}
 use Rattle.aes3_frame.specs.Statuses.{status_place, user_place, validity_place}

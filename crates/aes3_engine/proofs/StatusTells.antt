@@ -8,8 +8,8 @@ use Rattle.std.proofs.lemmas.Option.{get_or_from_slice_get}
 use Rattle.aes3_bits.specs.Bits.{low_bits, number}
 use Rattle.aes3_bits.proofs.Bits.{length-low_bits}
 use Rattle.aes3_frame.specs.declared.subframe.Subframe.{Subframe}
-use Rattle.aes3_frame.specs.declared.channel.Channel.{Channel}
-use Rattle.aes3_frame.specs.declared.channel.Channel.TheVariants.{First, Second}
+use Rattle.aes3_frame.specs.declared.block.Channel.{Channel}
+use Rattle.aes3_frame.specs.declared.block.Channel.TheVariants.{First, Second}
 use Rattle.aes3_frame.specs.Subframes.{bits_of}
 use Rattle.aes3_frame.specs.Statuses.{bytes_in, status_bits, status_len, status_of, status_place}
 use Rattle.aes3_frame.proofs.StatusBits.{bits-get, first-get, second-get, status-get}

@@ -2,14 +2,14 @@
 use Rattle.std.specs.Prelude.{ℕ, List, Bool, Option, Some, None, ◌≡◌, ◌≢◌}
 use Rattle.std.specs.List.{flat_map, All}
 use Rattle.aes3_cell.specs.declared.form.Form.{Form}
-use Rattle.aes3_frame.specs.declared.channel.Channel.{Channel}
-use Rattle.aes3_frame.specs.declared.channel.Channel.TheVariants.{First, Second}
+use Rattle.aes3_frame.specs.declared.block.Channel.{Channel}
+use Rattle.aes3_frame.specs.declared.block.Channel.TheVariants.{First, Second}
 use Rattle.aes3_frame.specs.Blocks.{IsBlock}
 use Rattle.aes3_frame.specs.Statuses.{status_of, user_of, validity_of}
 use Rattle.aes3_lock.specs.Reports.{blocks}
 use Rattle.aes3_input.specs.Inputs.{cells_of}
-use Rattle.aes3_frame.specs.declared.carried.CarriedBits.{CarriedBits}
-use Rattle.aes3_frame.specs.declared.carried.CarriedBits.TheVariants.{Validity, User, Status}
+use Rattle.aes3_frame.specs.declared.block.CarriedBits.{CarriedBits}
+use Rattle.aes3_frame.specs.declared.block.CarriedBits.TheVariants.{Validity, User, Status}
 use Rattle.aes3_status.specs.declared.change.Change.{Change}
 use Rattle.aes3_lock_runs.specs.BlockRuns.{written_stream}
 use Rattle.aes3_engine.specs.Rewriting.{all_bits, cleared, rewritten_blocks}

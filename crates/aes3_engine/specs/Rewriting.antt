@@ -3,8 +3,8 @@ use Rattle.std.specs.Prelude.{ℕ, List, Bool, false, Option, Some, None, map, t
 use Rattle.std.specs.Prelude.{if◌then◌else◌, ◌≡◌, All, length}
 use Rattle.aes3_block.specs.Laws.{IsByte}
 use Rattle.aes3_cell.specs.declared.form.Form.{Form}
-use Rattle.aes3_frame.specs.declared.channel.Channel.{Channel}
-use Rattle.aes3_frame.specs.declared.channel.Channel.TheVariants.{First, Second}
+use Rattle.aes3_frame.specs.declared.block.Channel.{Channel}
+use Rattle.aes3_frame.specs.declared.block.Channel.TheVariants.{First, Second}
 use Rattle.aes3_frame.specs.Statuses.{status_len, status_of, with_status, with_user, with_validity}
 use Rattle.aes3_status.specs.Statuses.{is_professional}
 use Rattle.aes3_status.specs.Check.{check_byte_of}

@@ -9,8 +9,8 @@ use Rattle.std.proofs.lemmas.List.{drop-append-le, take-append-drop, take-set-le
 use Rattle.aes3_bits.specs.Bits.{low_bits, number}
 use Rattle.aes3_slot.specs.Slots.{payload_len, payload_bits}
 use Rattle.aes3_bits.proofs.Bits.{low_bits-add, length-low_bits, number-low_bits}
-use Rattle.aes3_frame.specs.declared.channel.Channel.{Channel}
-use Rattle.aes3_frame.specs.declared.channel.Channel.TheVariants.{First, Second}
+use Rattle.aes3_frame.specs.declared.block.Channel.{Channel}
+use Rattle.aes3_frame.specs.declared.block.Channel.TheVariants.{First, Second}
 use Rattle.aes3_frame.specs.Blocks.{block_subframes, IsBlock}
 use Rattle.aes3_frame.specs.Files.{bytes_number, words_of, word_bytes}
 use Rattle.aes3_frame.specs.Samples.{sample_of, block_samples, samples}

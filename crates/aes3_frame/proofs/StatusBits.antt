@@ -14,8 +14,8 @@ use Rattle.std.proofs.lemmas.List.{get_or_append_left, drop-drop}
 use Rattle.std.proofs.lemmas.Option.{slice_get-map, slice_get-get_or, slice_get_within, get_or_from_slice_get}
 use Rattle.aes3_bits.specs.Bits.{low_bits, number}
 use Rattle.aes3_bits.proofs.Bits.{length-low_bits, low_bits-at, number-lt, number-push}
-use Rattle.aes3_frame.specs.declared.channel.Channel.{Channel}
-use Rattle.aes3_frame.specs.declared.channel.Channel.TheVariants.{First, Second}
+use Rattle.aes3_frame.specs.declared.block.Channel.{Channel}
+use Rattle.aes3_frame.specs.declared.block.Channel.TheVariants.{First, Second}
 use Rattle.aes3_frame.specs.declared.subframe.Subframe.{Subframe}
 use Rattle.aes3_frame.specs.Subframes.{audio_len, bits_of}
 use Rattle.aes3_frame.specs.Statuses.{of_channel, validity_place, user_place, status_place, first_subframe_of, bits_at, status_len}

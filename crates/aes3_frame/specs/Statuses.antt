@@ -2,10 +2,10 @@
 use Rattle.std.specs.Prelude.{ℕ, zero, suc, List, [], ◌∷◌, Bool, false, ◌+◌, map, take, drop, slice_index_or, slice_set}
 use Rattle.std.specs.List.{flat_map}
 use Rattle.aes3_bits.specs.Bits.{low_bits, number}
-use Rattle.aes3_frame.specs.declared.carried.CarriedBits.{CarriedBits}
-use Rattle.aes3_frame.specs.declared.carried.CarriedBits.TheVariants.{Validity, User, Status}
-use Rattle.aes3_frame.specs.declared.channel.Channel.{Channel}
-use Rattle.aes3_frame.specs.declared.channel.Channel.TheVariants.{First, Second}
+use Rattle.aes3_frame.specs.declared.block.CarriedBits.{CarriedBits}
+use Rattle.aes3_frame.specs.declared.block.CarriedBits.TheVariants.{Validity, User, Status}
+use Rattle.aes3_frame.specs.declared.block.Channel.{Channel}
+use Rattle.aes3_frame.specs.declared.block.Channel.TheVariants.{First, Second}
 use Rattle.aes3_frame.specs.Subframes.{audio_len}
 
 -- the payloads of a channel: payloads are of the first and the second channel in turn, so behind one the two change

@@ -1,5 +1,6 @@
 //! Blocks, and the words that a block file has for them: bit `n` is time slot `n`, and slots 0 to 3
-//! are zero. Blocks are also made of samples in the form of sound programs.
+//! are zero. Blocks are also made of samples in the form of sound programs, and the V, U and C bits
+//! of their two channels are read and set as bytes.
 use aes3_slot::{SUBFRAME_CELLS, payload_parity, slot_bits};
 use std::marker::Model;
 
@@ -18,8 +19,32 @@ pub const BLOCK_CELLS: u64 = SUBFRAME_CELLS * SUBFRAMES as u64;
 /// How many bytes a block has in a block file.
 pub const BLOCK_BYTES: usize = 4 * SUBFRAMES;
 
+/// How many bytes the channel status of one channel has in a block.
+pub const STATUS_LEN: usize = 24;
+
 /// The number of payloads of 27 bits.
 pub const PAYLOAD_LIMIT: u32 = 1 << 27;
+
+/// One of the two channels of a line.
+#[derive(Clone, Copy, PartialEq, Eq)]
+pub enum Channel {
+    /// Channel 1, the first subframe of each frame.
+    First,
+    /// Channel 2, the second subframe of each frame.
+    Second,
+}
+
+/// The bits that each subframe carries after its audio, 192 of each kind for a channel in a block
+/// (AES3-1, IEC 60958-1).
+#[derive(Clone, Copy, PartialEq, Eq)]
+pub enum CarriedBits {
+    /// V, which is 0 if the sample is valid.
+    Validity,
+    /// U, the user data.
+    User,
+    /// C, the channel status.
+    Status,
+}
 
 /// A block: 192 frames that begin with preamble Z (AES3-3, IEC 60958-1).
 ///
@@ -41,10 +66,16 @@ impl Model for Block {
     ghost invariant = { λ b. (i : ℕ) → i < block_subframes → is_lawful (get_or b.words i 0) ≡ true };
 }
 
-ghost use Rattle.std.specs.Prelude.{◌≡◌, ◌<◌, ◌+◌, ◌*◌, ◌/◌, ◌^◌, ℕ, IfErr, IfOk, Some, true, false, get_or};
-ghost use Rattle.std.specs.Prelude.{[], length, map, replicate, slice_get, slice_index_or, slice_set, take};
+ghost use Rattle.std.specs.Prelude.{◌≡◌, ◌<◌, ◌≤◌, ◌+◌, ◌*◌, ◌/◌, ◌^◌, ℕ, IfErr, IfOk, Some, true, false};
+ghost use Rattle.std.specs.Prelude.{[], count_ones, drop, get_or, length, map, replicate, slice_get};
+ghost use Rattle.std.specs.Prelude.{slice_index_or, slice_set, take};
+ghost use Rattle.aes3_bits.specs.Bits.{number};
 ghost use Rattle.aes3_frame.specs.Blocks.{block_subframes, zero_block};
 ghost use Rattle.aes3_frame.specs.Files.{has_code, has_parity, is_lawful, payload_of, words_of};
+ghost use Rattle.aes3_frame.specs.Ones.{ones_in};
+ghost use Rattle.aes3_frame.specs.Statuses.{bits_at, bits_of_bytes, bytes_in, place_of, status_len};
+ghost use Rattle.aes3_frame.specs.Statuses.{first_subframe_of, validity_of, user_of, with_bits_at};
+ghost use Rattle.aes3_frame.specs.Statuses.{with_validity, with_user, status_of, with_status};
 ghost use Rattle.aes3_frame.specs.Subframes.{bits_of};
 ghost use Rattle.aes3_frame.specs.Sampled.{payload_of_sample};
 ghost use Rattle.aes3_slot.specs.ReadWords.{read_word, read_words};
@@ -52,6 +83,21 @@ ghost use Rattle.aes3_slot.specs.Slots.{payload_bits, payload_len, slots_bits};
 
 use crate::frame::Frame;
 use crate::subframe::Subframe;
+
+impl Channel {
+    /// The number of its first subframe in a block; each later one is two subframes after the one
+    /// before.
+    #[inline(always)]
+    pub fn first_subframe(self) -> usize
+        ensures subframe { result ≡ first_subframe_of self }
+        ensures few { result ≤ 1 }
+    {
+        match self {
+            Channel::First => 0,
+            Channel::Second => 1,
+        }
+    }
+}
 
 /// Words of payloads that are 0.
 #[tactic(auto, unfolding(crate::specs::Blocks::block_subframes))]
@@ -154,6 +200,28 @@ pub(crate) fn word_of_cells(cells: u64) -> u32
     ensures payload { payload_of result ≡ take payload_len (read_word cells) }
 {
     word_of_payload(slot_bits(cells) % PAYLOAD_LIMIT)
+}
+
+/// The place of the bit in a payload.
+#[inline(always)]
+fn place_in_payload(bit: CarriedBits) -> u32
+    ensures place { result ≡ place_of bit }
+    ensures bound { result < 27 }
+{
+    match bit {
+        CarriedBits::Validity => 24,
+        CarriedBits::User => 25,
+        CarriedBits::Status => 26,
+    }
+}
+
+/// Bit `i` of bytes.
+#[inline(always)]
+fn bit_of(bytes: &[u8; STATUS_LEN], i: usize) -> bool
+    requires { i < FRAMES }
+    ensures { slice_get (bits_of_bytes bytes.now) i ≡ Some result }
+{
+    bytes[i / 8] >> (i % 8) & 1 == 1
 }
 
 impl Block {
@@ -269,4 +337,135 @@ impl Block {
     {
         &self.words
     }
+
+    /// The validity bits of a channel (AES3-1, IEC 60958-1): bit `i % 8` of byte `i / 8` is the V
+    /// bit of frame `i`, as in a channel status.
+    #[tactic(auto, unfolding(crate::specs::Statuses::validity_of))]
+    pub fn validity(&self, channel: Channel) -> [u8; STATUS_LEN]
+        ensures { result ≡ validity_of self.now channel }
+    {
+        self.bytes(CarriedBits::Validity, channel)
+    }
+
+    /// Sets the validity bits of a channel. Everything else is unchanged but the parity bits that
+    /// depend on them.
+    #[tactic(auto, unfolding(crate::specs::Statuses::with_validity))]
+    pub fn set_validity(&mut self, channel: Channel, bytes: &[u8; STATUS_LEN])
+        ensures { self.new ≡ with_validity self.old channel bytes.now }
+    {
+        self.set_bytes(CarriedBits::Validity, channel, bytes);
+    }
+
+    /// The user data bits of a channel (AES3-1, IEC 60958-1): bit `i % 8` of byte `i / 8` is the U
+    /// bit of frame `i`, as in a channel status.
+    #[tactic(auto, unfolding(crate::specs::Statuses::user_of))]
+    pub fn user(&self, channel: Channel) -> [u8; STATUS_LEN]
+        ensures { result ≡ user_of self.now channel }
+    {
+        self.bytes(CarriedBits::User, channel)
+    }
+
+    /// Sets the user data bits of a channel. Everything else is unchanged but the parity bits that
+    /// depend on them.
+    #[tactic(auto, unfolding(crate::specs::Statuses::with_user))]
+    pub fn set_user(&mut self, channel: Channel, bytes: &[u8; STATUS_LEN])
+        ensures { self.new ≡ with_user self.old channel bytes.now }
+    {
+        self.set_bytes(CarriedBits::User, channel, bytes);
+    }
+
+    /// The channel status of a channel (AES3-2, IEC 60958-1): bit `i % 8` of byte `i / 8` is the C
+    /// bit of frame `i`.
+    #[tactic(auto, unfolding(crate::specs::Statuses::status_of))]
+    pub fn channel_status(&self, channel: Channel) -> [u8; STATUS_LEN]
+        ensures { result ≡ status_of self.now channel }
+    {
+        self.bytes(CarriedBits::Status, channel)
+    }
+
+    /// Sets the channel status of a channel. Everything else is unchanged but the parity bits that
+    /// depend on it.
+    #[tactic(auto, unfolding(crate::specs::Statuses::with_status))]
+    pub fn set_channel_status(&mut self, channel: Channel, status: &[u8; STATUS_LEN])
+        ensures { self.new ≡ with_status self.old channel status.now }
+    {
+        self.set_bytes(CarriedBits::Status, channel, status);
+    }
+
+    /// The V, U or C bits of a channel's frames as bytes.
+    #[inline(always)]
+    pub(crate) fn bytes(&self, bit: CarriedBits, channel: Channel) -> [u8; STATUS_LEN]
+        ensures { result ≡ bytes_in status_len (bits_at (place_of bit) self.now channel) }
+    {
+        let mut bytes = [0; STATUS_LEN];
+        for k in 0..STATUS_LEN {
+            bytes[k] = self.byte(bit, channel, k);
+        }
+        bytes
+    }
+
+    /// Sets the V, U or C bits of a channel's frames.
+    #[inline(always)]
+    pub(crate) fn set_bytes(&mut self, bit: CarriedBits, channel: Channel, bytes: &[u8; STATUS_LEN])
+        ensures { self.new ≡ with_bits_at (place_of bit) channel self.old
+            (bits_of_bytes bytes.now) }
+    {
+        let place = place_in_payload(bit);
+        let first = channel.first_subframe();
+        // Byte by byte, so that each bit of a byte has a shift that is known at compile time. The
+        // frames are set in order.
+        for k in 0..STATUS_LEN {
+            for j in 0..8 {
+                let i = 8 * k + j;
+                self.set_bit(2 * i + first, place, bit_of(bytes, i));
+            }
+        }
+    }
+
+    /// Byte `k` of these bits.
+    #[inline(always)]
+    fn byte(&self, bit: CarriedBits, channel: Channel, k: usize) -> u8
+        requires { k < STATUS_LEN }
+        ensures { result
+            ≡ number (take 8 (drop (8 * k) (bits_at (place_of bit) self.now channel))) }
+    {
+        let mut byte = 0;
+        for j in 0..8 {
+            byte |= u8::from(self.bit(bit, channel, 8 * k + j)) << j;
+        }
+        byte
+    }
+
+    /// The V, U or C bit of a channel in frame `i`.
+    #[inline(always)]
+    fn bit(&self, bit: CarriedBits, channel: Channel, i: usize) -> bool
+        requires { i < FRAMES }
+        ensures { slice_get (bits_at (place_of bit) self.now channel) i ≡ Some result }
+    {
+        bit_of_word(
+            self.words()[2 * i + channel.first_subframe()],
+            place_in_payload(bit),
+        )
+    }
+}
+
+/// The number of ones in a byte.
+#[tactic(auto, using(std::proofs::lemmas::Nat::ones_le_self))]
+fn ones(byte: u8) -> u64
+    ensures ones { result ≡ count_ones byte }
+    ensures few { result ≤ 255 }
+{
+    u64::from(byte.count_ones())
+}
+
+/// The number of ones in these bytes. For the bits of a channel it is a number of frames of the
+/// block.
+pub fn ones_in(bytes: &[u8; STATUS_LEN]) -> u64
+    ensures { result ≡ ones_in bytes.now }
+{
+    let mut found = 0;
+    for byte in bytes {
+        found += ones(*byte);
+    }
+    found
 }

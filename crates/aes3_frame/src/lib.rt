@@ -2,15 +2,11 @@
 //! as they are gathered from a line.
 #![tactic(auto)]
 
-/// A block: the words of its 384 subframes in a block file, also made of samples.
+/// A block: the words of its 384 subframes in a block file, also made of samples. Its two channels,
+/// and their validity, user and channel status bits as 24 bytes.
 mod block;
 /// The cells of a block, made four subframes at a time.
 mod block_cells;
-/// The validity, user and channel status bits of a channel, read and set as 24 bytes, and how many
-/// of them are 1.
-mod carried;
-/// The two channels of a line.
-mod channel;
 /// What fills the place of frames that no block has.
 mod fill;
 /// A frame: its two subframes.
@@ -26,12 +22,10 @@ mod subframe;
 
 pub use aes3_slot::mark_of;
 pub use block::{
-    BLOCK_BYTES, BLOCK_CELLS, Block, FRAME_CELLS, FRAMES, PAYLOAD_LIMIT, SUBFRAMES, has_right_code,
-    has_right_parity, payload_of_word, zero_words,
+    BLOCK_BYTES, BLOCK_CELLS, Block, CarriedBits, Channel, FRAME_CELLS, FRAMES, PAYLOAD_LIMIT,
+    SUBFRAMES, has_right_code, has_right_parity, ones_in, payload_of_word, zero_words,
 };
 pub use block_cells::fill_block_cells;
-pub use carried::{CarriedBits, ones_in};
-pub use channel::Channel;
 pub use fill::Fill;
 pub use frame::Frame;
 pub use gathered::{GatheredCells, wrong_in};

@@ -10,8 +10,8 @@ use Rattle.std.specs.Prelude.{slice_get}
 use Rattle.aes3_bits.specs.Bits.{number}
 use Rattle.aes3_bits.proofs.Bits.{number-low_bits}
 use Rattle.aes3_slot.specs.Slots.{payload_bits}
-use Rattle.aes3_frame.specs.declared.channel.Channel.{Channel}
-use Rattle.aes3_frame.specs.declared.channel.Channel.TheVariants.{First, Second}
+use Rattle.aes3_frame.specs.declared.block.Channel.{Channel}
+use Rattle.aes3_frame.specs.declared.block.Channel.TheVariants.{First, Second}
 use Rattle.aes3_frame.specs.Files.{payload_of}
 use Rattle.aes3_frame.specs.Statuses.{first_subframe_of, of_channel}
 use Rattle.aes3_frame.proofs.Samples.{audio-bits}

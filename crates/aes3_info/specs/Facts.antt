@@ -5,8 +5,8 @@ use Rattle.std.specs.List.{flat_map, sum_by}
 use Rattle.std.specs.Str.{bytes_eq}
 use Rattle.aes3_level.specs.declared.level.Level.{Level}
 use Rattle.aes3_bits.specs.Bits.{number}
-use Rattle.aes3_frame.specs.declared.channel.Channel.{Channel}
-use Rattle.aes3_frame.specs.declared.channel.Channel.TheVariants.{First, Second}
+use Rattle.aes3_frame.specs.declared.block.Channel.{Channel}
+use Rattle.aes3_frame.specs.declared.block.Channel.TheVariants.{First, Second}
 use Rattle.aes3_frame.specs.Statuses.{of_channel, status_of, validity_of}
 use Rattle.aes3_frame.specs.Subframes.{audio_len}
 use Rattle.aes3_lock.specs.declared.report.Report.{Report}

@@ -2,8 +2,8 @@
 use Rattle.std.specs.Prelude.{ℕ, List, [], ◌∷◌, ◌++◌, Bool, true, false, Option, Some, None, ◌+◌, ◌/◌, ◌%◌, ◌^◌}
 use Rattle.std.specs.Prelude.{◌==◌, codes, decimal, if◌then◌else◌}
 use Rattle.hex.specs.Hex.{encode_lower}
-use Rattle.aes3_frame.specs.declared.channel.Channel.{Channel}
-use Rattle.aes3_frame.specs.declared.channel.Channel.TheVariants.{First, Second}
+use Rattle.aes3_frame.specs.declared.block.Channel.{Channel}
+use Rattle.aes3_frame.specs.declared.block.Channel.TheVariants.{First, Second}
 use Rattle.aes3_text_lines.specs.Events.{second_cells, seconds}
 use Rattle.aes3_text_lines.specs.StatusLines.{channel_digit}
 use Rattle.aes3_status_text.specs.StatusTexts.{status_text}

@@ -1,8 +1,8 @@
 -- What a run says clause by clause, whatever it promises, and how one promise gives another.
 use Rattle.std.proofs.Common.{◌≡◌, ◌≢◌, ℕ, ◌+◌, ◌≤◌, ◌⊎◌, inl, inr, Bool, List, length, take, Result, Ok, Err, IfOk}
 use Rattle.std.proofs.Common.{OnErr, IfErr, IsOk, refl, ap, subst, arith}
-use Rattle.aes3_cell.specs.declared.run_error.RunError.{RunError}
-use Rattle.aes3_cell.specs.declared.run_error.RunError.TheVariants.{Read, Write}
+use Rattle.aes3_cell.specs.declared.refusal.RunError.{RunError}
+use Rattle.aes3_cell.specs.declared.refusal.RunError.TheVariants.{Read, Write}
 use Rattle.aes3_cell.specs.Ends.{Grew, GrewFront, Told}
 use Rattle.aes3_cell.proofs.Growing.{grew-is, front-is, told-is}
 use Rattle.aes3_input.specs.Running.{Movement, Quiet, Failed, Promise, Complete, InputRan, InputRun}

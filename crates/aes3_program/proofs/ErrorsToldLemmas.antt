@@ -3,7 +3,7 @@ use Rattle.std.proofs.Common.{◌≡◌, ◌≤◌, ◌==◌, ◌&&◌, ◌||◌
 use Rattle.std.proofs.Common.{if◌then◌else◌, nat_lt}
 use Rattle.aes3_cell.specs.declared.counts.Counts.{Counts}
 use Rattle.aes3_cell.specs.declared.form.Form.{Form}
-use Rattle.aes3_cell.specs.declared.run_error.RunError.TheVariants as refusal
+use Rattle.aes3_cell.specs.declared.refusal.RunError.TheVariants as refusal
 use Rattle.aes3_input.specs.Running.{Movement, Promise}
 use Rattle.aes3_cell.proofs.Growing.{grew-is}
 use Rattle.aes3_cli_arguments.specs.declared.command_job.LineFault.{LineFault}
@@ -18,8 +18,8 @@ use Rattle.aes3_cli_jobs.specs.declared.work.ReadWork.TheVariants.{ShowChanges, 
 use Rattle.aes3_cli_jobs.specs.declared.work.ReadWork.TheVariants.{ToWav, ToExactWav, ToFilledWav}
 use Rattle.aes3_cli_jobs.specs.declared.work.StreamWork.{StreamWork}
 use Rattle.aes3_cli_jobs.specs.declared.work.StreamWork.TheVariants.{Normal, Cut, Rewrite}
-use Rattle.aes3_cli_jobs.specs.declared.refusal.Refusal.{Refusal}
-use Rattle.aes3_cli_jobs.specs.declared.refusal.Refusal.TheVariants.{Run}
+use Rattle.aes3_cli_jobs.specs.declared.job_refusal.Refusal.{Refusal}
+use Rattle.aes3_cli_jobs.specs.declared.job_refusal.Refusal.TheVariants.{Run}
 use Rattle.aes3_program.specs.declared.outcome.Outcome.{Outcome}
 use Rattle.aes3_program.specs.declared.outcome.Remark.{Remark}
 use Rattle.aes3_program.specs.declared.outcome.Remark.TheVariants.{Nothing, Filled, LeftOut, Settings, UsualRate, Wave, Inexact}

@@ -1,8 +1,8 @@
 -- A run that is flushed: what is told of it where it was refused, or where that failed.
 use Rattle.std.proofs.Common.{◌≡◌, ◌≢◌, ℕ, ◌+◌, inl, inr, Bool, List, Option, Some, Result, Ok, Err, refl, sym, ap, subst, ◌∙◌}
 use Rattle.std.proofs.Common.{arith}
-use Rattle.aes3_cell.specs.declared.run_error.RunError.{RunError}
-use Rattle.aes3_cell.specs.declared.run_error.RunError.TheVariants.{Read, Write}
+use Rattle.aes3_cell.specs.declared.refusal.RunError.{RunError}
+use Rattle.aes3_cell.specs.declared.refusal.RunError.TheVariants.{Read, Write}
 use Rattle.aes3_cell.specs.declared.counts.Counts.{Counts}
 use Rattle.aes3_input.specs.Running.{Failed, InputRan, InputRun, Movement, Promise, Quiet}
 use Rattle.aes3_input.proofs.InputRuns.{Gives, run-err, run-ok, run-write, run-sink_quiet}
@@ -10,8 +10,8 @@ use Rattle.aes3_cli_jobs.specs.declared.job.Job.{Job}
 use Rattle.aes3_cli_jobs.specs.declared.job.Job.TheVariants as job
 use Rattle.aes3_cli_jobs.specs.declared.work.ReadWork.{ReadWork}
 use Rattle.aes3_cli_jobs.specs.declared.work.StreamWork.{StreamWork}
-use Rattle.aes3_cli_jobs.specs.declared.refusal.Refusal.{Refusal}
-use Rattle.aes3_cli_jobs.specs.declared.refusal.Refusal.TheVariants.{Run}
+use Rattle.aes3_cli_jobs.specs.declared.job_refusal.Refusal.{Refusal}
+use Rattle.aes3_cli_jobs.specs.declared.job_refusal.Refusal.TheVariants.{Run}
 use Rattle.aes3_wave_runs.specs.FromWav.{WaveRan, promise_for}
 use Rattle.aes3_wave_runs.specs.Wave.{limit_of}
 use Rattle.aes3_wave_runs.specs.declared.wave_error.WaveError.{WaveError}

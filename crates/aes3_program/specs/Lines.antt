@@ -1,10 +1,10 @@
 -- The lines that tell a refusal, a remark on a job that ended well, and words that can not be read.
 use Rattle.std.specs.Option.{option_map_or}
 use Rattle.std.specs.Prelude.{ℕ, List, [], ◌∷◌, ◌++◌, Option, Some, None, codes, decimal}
-use Rattle.aes3_cell.specs.declared.run_error.RunError.TheVariants as refusal
+use Rattle.aes3_cell.specs.declared.refusal.RunError.TheVariants as refusal
 use Rattle.aes3_cli_jobs.specs.Refusals.{number_of_refusal, place_of_refusal}
-use Rattle.aes3_cli_jobs.specs.declared.refusal.Refusal.{Refusal}
-use Rattle.aes3_cli_jobs.specs.declared.refusal.Refusal.TheVariants.{Run}
+use Rattle.aes3_cli_jobs.specs.declared.job_refusal.Refusal.{Refusal}
+use Rattle.aes3_cli_jobs.specs.declared.job_refusal.Refusal.TheVariants.{Run}
 use Rattle.aes3_status_text.specs.Refusals.{refusal_text}
 use Rattle.aes3_program.specs.declared.outcome.Remark.{Remark}
 use Rattle.aes3_program.specs.declared.outcome.Remark.TheVariants.{Nothing, Filled, LeftOut, Settings, Inexact}

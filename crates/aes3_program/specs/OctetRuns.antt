@@ -3,14 +3,14 @@ use Rattle.std.specs.Prelude.{ℕ, List, [], Bool, true, false, Option, None, Is
 use Rattle.aes3_level.specs.declared.level.Level.{Level}
 use Rattle.aes3_cell.specs.Ends.{Grew}
 use Rattle.aes3_cell.specs.Packed.{Packs}
-use Rattle.aes3_cell.specs.declared.run_error.RunError.TheVariants.{Read, Write}
+use Rattle.aes3_cell.specs.declared.refusal.RunError.TheVariants.{Read, Write}
 use Rattle.aes3_input.specs.Running.{Movement, Quiet, Failed}
 use Rattle.aes3_cell_octets.specs.Octets.{PacksReversed, reversed}
 use Rattle.aes3_cell_octets.specs.Told.{all_reversed, only, raw_told, reversed_told}
 use Rattle.aes3_status_text.specs.declared.typed_settings.TypedSettings.{TypedSettings}
 use Rattle.aes3_cli_jobs.specs.Forms.{reads_packed, writes_packed}
 use Rattle.aes3_cli_jobs.specs.declared.job.Job.{Job}
-use Rattle.aes3_cli_jobs.specs.declared.refusal.Refusal.TheVariants.{Run}
+use Rattle.aes3_cli_jobs.specs.declared.job_refusal.Refusal.TheVariants.{Run}
 use Rattle.aes3_cli_arguments.specs.declared.layout.Octets.{Octets}
 use Rattle.aes3_program.specs.JobRuns.{IsTold, JobRan, written_whole}
 use Rattle.aes3_program.specs.Streams.{Streams}

@@ -3,11 +3,11 @@ use Rattle.std.specs.Option.{unwrap_or}
 use Rattle.std.specs.Prelude.{ℕ, ◌==◌, ◌∷◌, if◌then◌else◌, replicate, List, [], Option, Some, None, Result, Ok, Err, ◌≡◌}
 use Rattle.std.specs.Prelude.{Bool, ◌||◌, ◌&&◌, not, is_some}
 use Rattle.aes3_cell.specs.declared.counts.Counts.{Counts}
-use Rattle.aes3_cell.specs.declared.run_error.RunError.{RunError}
+use Rattle.aes3_cell.specs.declared.refusal.RunError.{RunError}
 use Rattle.aes3_cell.specs.Ends.{Grew}
 use Rattle.aes3_input.specs.Running.{Movement, Promise, Quiet}
-use Rattle.aes3_cli_jobs.specs.declared.refusal.Refusal.{Refusal}
-use Rattle.aes3_cli_jobs.specs.declared.refusal.Refusal.TheVariants as job_error
+use Rattle.aes3_cli_jobs.specs.declared.job_refusal.Refusal.{Refusal}
+use Rattle.aes3_cli_jobs.specs.declared.job_refusal.Refusal.TheVariants as job_error
 use Rattle.aes3_wave_runs.specs.FromWav.{or_status}
 use Rattle.aes3_wave_runs.specs.Status.{lacks_rate, lacks_width, status_for}
 use Rattle.aes3_wave_runs.specs.declared.wave_error.WaveError.{WaveError}

@@ -4,8 +4,8 @@ use Rattle.std.proofs.Common.{None, length, drop, get_or, refl, ap, ap₂, ◌�
 use Rattle.std.specs.List.{flat_map, range_with_len}
 use Rattle.std.specs.Str.{bytes_eq}
 use Rattle.std.proofs.lemmas.List.{drop-drop, get_or-drop}
-use Rattle.aes3_frame.specs.declared.channel.Channel.{Channel}
-use Rattle.aes3_frame.specs.declared.channel.Channel.TheVariants.{First, Second}
+use Rattle.aes3_frame.specs.declared.block.Channel.{Channel}
+use Rattle.aes3_frame.specs.declared.block.Channel.TheVariants.{First, Second}
 use Rattle.aes3_frame.specs.Statuses.{status_of}
 use Rattle.aes3_lock_runs.specs.BlockRuns.{numbered}
 use Rattle.aes3_text_lines.specs.StatusLines.{status_line}

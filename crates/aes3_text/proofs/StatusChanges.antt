@@ -6,8 +6,8 @@ use Rattle.std.specs.List.{last_or}
 use Rattle.aes3_level.specs.declared.level.Level.{Level}
 use Rattle.aes3_cell.specs.declared.ends.Fault as device
 use Rattle.aes3_cell.specs.declared.form.Form.{Form}
-use Rattle.aes3_frame.specs.declared.channel.Channel.{Channel}
-use Rattle.aes3_frame.specs.declared.channel.Channel.TheVariants.{First, Second}
+use Rattle.aes3_frame.specs.declared.block.Channel.{Channel}
+use Rattle.aes3_frame.specs.declared.block.Channel.TheVariants.{First, Second}
 use Rattle.aes3_frame.specs.Statuses.{status_of}
 use Rattle.aes3_slot.specs.ReadWords.{read_words}
 use Rattle.aes3_lock.specs.declared.report.Ending.{Ending}

@@ -1,8 +1,8 @@
 -- Two changed cells between two slots invert one bit of a channel status at most.
 use Rattle.std.proofs.Common.{◌≡◌, ◌≢◌, ℕ, zero, suc, ◌-◌, ◌/◌, ◌%◌, ◌<◌, ◌⊎◌, inl, inr, List, [], ◌∷◌, ◌++◌}
 use Rattle.std.proofs.Common.{Bool, true, false, not, map, refl, ap, ◌∙◌, sym, subst, arith}
-use Rattle.aes3_frame.specs.declared.channel.Channel.{Channel}
-use Rattle.aes3_frame.specs.declared.channel.Channel.TheVariants.{First, Second}
+use Rattle.aes3_frame.specs.declared.block.Channel.{Channel}
+use Rattle.aes3_frame.specs.declared.block.Channel.TheVariants.{First, Second}
 use Rattle.aes3_frame.specs.Blocks.{block_len, IsBlock}
 use Rattle.aes3_frame.specs.Statuses.{of_channel, status_bit, status_bits, status_of, status_len, bytes_in}
 use Rattle.aes3_frame.specs.Statuses.{bits_of_bytes}

@@ -1,6 +1,6 @@
 -- Laws of what stands behind the lines of channel status.
 use Rattle.std.specs.Prelude.{ℕ, List, [], ◌∷◌, ◌++◌, Bool, ◌≡◌}
-use Rattle.aes3_frame.specs.declared.channel.Channel.{Channel}
+use Rattle.aes3_frame.specs.declared.block.Channel.{Channel}
 use Rattle.aes3_lock.specs.declared.report.Report.{Report}
 use Rattle.aes3_lock.specs.Reports.{wholes}
 use Rattle.aes3_status_text.specs.declared.detail.Detail.{Detail}

@@ -1,6 +1,6 @@
 -- What changed cells that leave a block do to its channel status.
 use Rattle.std.specs.Prelude.{ℕ, suc, List, Bool, true, ◌≡◌, ◌≢◌, ◌<◌}
-use Rattle.aes3_frame.specs.declared.channel.Channel.{Channel}
+use Rattle.aes3_frame.specs.declared.block.Channel.{Channel}
 use Rattle.aes3_frame.specs.Blocks.{block_len, IsBlock}
 use Rattle.aes3_frame.specs.Statuses.{status_of}
 use Rattle.aes3_status.specs.declared.check.Check.TheVariants.{Good}

@@ -8,7 +8,7 @@ mod checking;
 /// Laws over the definitions alone, whatever the cells.
 pub mod laws;
 /// The channel status of blocks, line by line.
-mod status_lines;
+mod showing;
 
 pub use aes3_text_lines::{
     Detail, Lines, SettingsFault, add_choices, consumer_setting, line_of_mark, line_of_status,
@@ -16,4 +16,4 @@ pub use aes3_text_lines::{
 };
 pub use aes3_text_reports::{line_of_report, scan};
 pub use checking::check;
-pub use status_lines::{show, show_changes, show_detail};
+pub use showing::{show, show_changes, show_detail};

@@ -1,7 +1,7 @@
 -- The line of a channel status.
 use Rattle.std.specs.Prelude.{ℕ, List, [], ◌∷◌, ◌++◌, Bool, codes, decimal}
-use Rattle.aes3_frame.specs.declared.channel.Channel.{Channel}
-use Rattle.aes3_frame.specs.declared.channel.Channel.TheVariants.{First, Second}
+use Rattle.aes3_frame.specs.declared.block.Channel.{Channel}
+use Rattle.aes3_frame.specs.declared.block.Channel.TheVariants.{First, Second}
 use Rattle.aes3_frame.specs.Statuses.{status_of, user_of, validity_of}
 use Rattle.aes3_status_text.specs.declared.detail.Detail.{Detail}
 use Rattle.aes3_status_text.specs.declared.detail.Detail.TheVariants.{Plain, Place, Carried, Names}

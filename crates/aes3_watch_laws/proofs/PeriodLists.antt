@@ -8,7 +8,7 @@ use Rattle.std.proofs.lemmas.List.{map-append}
 use Rattle.std.proofs.lemmas.List.Elements.{filter-append}
 use Rattle.std.proofs.lemmas.List.Sums.{sum_by-append}
 use Rattle.aes3_frame.specs.Statuses.{validity_of}
-use Rattle.aes3_frame.specs.declared.channel.Channel.TheVariants.{First, Second}
+use Rattle.aes3_frame.specs.declared.block.Channel.TheVariants.{First, Second}
 use Rattle.aes3_text_lines.specs.declared.event.Event.{Event}
 use Rattle.aes3_text_lines.specs.declared.sum.Figures.{Figures}
 use Rattle.aes3_frame.specs.Ones.{ones_in}

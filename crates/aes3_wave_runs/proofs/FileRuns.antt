@@ -6,8 +6,8 @@ use Rattle.std.proofs.lemmas.Bool.{and_parts, ltb-true}
 use Rattle.std.proofs.lemmas.List.{length-append, take_all}
 use Rattle.aes3_cell.specs.Ends.{Grew, Told}
 use Rattle.aes3_cell.specs.declared.counts.Counts.{Counts}
-use Rattle.aes3_cell.specs.declared.run_error.RunError.{RunError}
-use Rattle.aes3_cell.specs.declared.run_error.RunError.TheVariants.{BadLength, BadSample, Read, SoundHeader, TooLong, Write}
+use Rattle.aes3_cell.specs.declared.refusal.RunError.{RunError}
+use Rattle.aes3_cell.specs.declared.refusal.RunError.TheVariants.{BadLength, BadSample, Read, SoundHeader, TooLong, Write}
 use Rattle.aes3_cell.proofs.Growing.{grew-join, told-is}
 use Rattle.aes3_input.specs.Running.{InputRan, InputRun, Movement, Promise, Quiet}
 use Rattle.aes3_input.proofs.InputRuns.{run-owed}

@@ -6,7 +6,7 @@ use Rattle.std.proofs.lemmas.List.{append_cancel_left}
 use Rattle.aes3_level.specs.declared.level.Level.{Level}
 use Rattle.aes3_input.specs.Taking.{Writing, behind, before_end, with_end}
 use Rattle.aes3_input.proofs.Items.{before-is, before-join}
-use Rattle.aes3_frame.specs.declared.channel.Channel.TheVariants.{First}
+use Rattle.aes3_frame.specs.declared.block.Channel.TheVariants.{First}
 use Rattle.aes3_frame.specs.Statuses.{status_of}
 use Rattle.aes3_lock.specs.declared.report.Ending.{Ending}
 use Rattle.aes3_lock.specs.declared.report.Ending.TheVariants.{Whole as EndsWhole}

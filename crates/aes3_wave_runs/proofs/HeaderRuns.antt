@@ -5,7 +5,7 @@ use Rattle.std.proofs.lemmas.Bool.{cases_lt}
 use Rattle.std.proofs.lemmas.List.{length-append, length-take-le, take_all}
 use Rattle.std.proofs.Math.Seq.{take-append-add}
 use Rattle.aes3_cell.specs.Ends.{Grew}
-use Rattle.aes3_cell.specs.declared.run_error.RunError.TheVariants.{Read, TooLong}
+use Rattle.aes3_cell.specs.declared.refusal.RunError.TheVariants.{Read, TooLong}
 use Rattle.aes3_cell.proofs.Growing.{grew-is, grew-join, grew-none}
 use Rattle.aes3_input.proofs.Pieces.{changed}
 use Rattle.aes3_wave.specs.declared.chunk.WaveHeader.{WaveHeader}

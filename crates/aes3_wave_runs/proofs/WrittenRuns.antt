@@ -5,7 +5,7 @@ use Rattle.std.specs.List.{flat_map}
 use Rattle.aes3_level.specs.declared.level.Level.{Level}
 use Rattle.aes3_cell.specs.declared.counts.Counts.{Counts}
 use Rattle.aes3_cell.specs.declared.form.Form.{Form}
-use Rattle.aes3_cell.specs.declared.run_error.RunError.{RunError}
+use Rattle.aes3_cell.specs.declared.refusal.RunError.{RunError}
 use Rattle.aes3_cell.specs.Ends.{Grew, Told}
 use Rattle.aes3_forms_samples.specs.declared.sample_format.SampleFormat.{SampleFormat}
 use Rattle.aes3_forms_samples.specs.declared.sample_format.SampleFormat.TheVariants.{S16}
@@ -23,7 +23,7 @@ use Rattle.aes3_input.proofs.InputRuns.{Gives, run-err, run-ok, run-told}
 use Rattle.aes3_lock.specs.declared.report.Report.{Report}
 use Rattle.aes3_lock.specs.declared.report.Report.TheVariants.{Whole, Marked, Fault, Unfinished}
 use Rattle.aes3_lock.specs.Reports.{blocks, decided, reports, wholes}
-use Rattle.aes3_lock_runs.specs.declared.reporter.ReportListener.{ReportListener}
+use Rattle.aes3_lock_runs.specs.declared.listeners.ReportListener.{ReportListener}
 use Rattle.aes3_lock_runs.specs.BlockRuns.{numbered, report_bytes}
 use Rattle.aes3_lock_runs.specs.ReportRuns.{counts_of, heard_cells, output, report_writing}
 use Rattle.aes3_lock_runs.specs.Reporting.{reporting}

@@ -4,7 +4,7 @@ use Rattle.std.specs.Prelude.{if◌then◌else◌}
 use Rattle.aes3_level.specs.declared.level.Level.{Level}
 use Rattle.aes3_cell.specs.declared.form.Form.{Form}
 use Rattle.aes3_frame.specs.declared.fill.Fill.{Fill}
-use Rattle.aes3_frame.specs.declared.channel.Channel.TheVariants.{First}
+use Rattle.aes3_frame.specs.declared.block.Channel.TheVariants.{First}
 use Rattle.aes3_frame.specs.Samples.{samples}
 use Rattle.aes3_frame.specs.Statuses.{status_of}
 use Rattle.aes3_input.specs.Driving.{over_cells}

@@ -1,6 +1,6 @@
 use Rattle.std.proofs.Common.{◌∙◌, Option, codes, false, not, is_some, sym, ap}
 use Rattle.std.specs.Option.{option_map_or}
-use Rattle.aes3_frame.specs.declared.carried.CarriedBits.{CarriedBits}
+use Rattle.aes3_frame.specs.declared.block.CarriedBits.{CarriedBits}
 use Rattle.aes3_cli_arguments.specs.Jobs.{bits_in}
 use Rattle.aes3_cli_arguments.proofs.Misuses.{none_is}
 use Rattle.aes3_cli_arguments.proofs.OptionReads.{text_is}

@@ -1,5 +1,5 @@
 use Rattle.std.proofs.Common.{◌≡◌, ◌∙◌, ap, rules}
-use Rattle.aes3_frame.specs.declared.channel.Channel.TheVariants.{First, Second}
+use Rattle.aes3_frame.specs.declared.block.Channel.TheVariants.{First, Second}
 use Rattle.aes3_engine.specs.Rewriting.{with_status_changed}
 use Rattle.aes3_engine.proofs.ChangedStatus.{by-channels}
 use Rattle.aes3_engine.proofs.rewriting.rewrite_block.Goals as goal

@@ -1,5 +1,5 @@
 use Rattle.std.proofs.Common.{◌∙◌, rules}
-use Rattle.aes3_frame.specs.declared.channel.Channel.TheVariants.{First, Second}
+use Rattle.aes3_frame.specs.declared.block.Channel.TheVariants.{First, Second}
 use Rattle.aes3_engine.proofs.RewritingExactly.{both-refused, rising-met}
 use Rattle.aes3_engine.proofs.rewriting_exactly.first_refused.Goals as goal
 

@@ -2,7 +2,7 @@ use Rattle.std.proofs.Common.{◌++◌, ◌+◌, ◌∙◌, ap, append_assoc}
 use Rattle.std.proofs.lemmas.Result.{err_from_is_err_and}
 use Rattle.aes3_cell.proofs.Growing.{front-is, front-join, front-more, grew-is, grew-join}
 use Rattle.aes3_cell.proofs.Writing.{wrote-behind, wrote-is}
-use Rattle.aes3_frame.specs.declared.channel.Channel.TheVariants.{First, Second}
+use Rattle.aes3_frame.specs.declared.block.Channel.TheVariants.{First, Second}
 use Rattle.aes3_info.specs.Pages.{channel_fields, closing, head}
 use Rattle.aes3_info.proofs.Inspecting.{four-parts, page-is}
 use Rattle.aes3_info.proofs.page.put_page.Goals as goal

@@ -1,0 +1,5 @@
+use Rattle.std.proofs.Common.{rules}
+use Rattle.aes3_cell.proofs.refusal.RunError.number.Goals as goal
+
+pub returns-in-BadSample : goal.returns-in-BadSample
+returns-in-BadSample c = search rules

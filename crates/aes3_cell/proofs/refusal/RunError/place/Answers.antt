@@ -1,0 +1,5 @@
+use Rattle.std.proofs.Common.{rules}
+use Rattle.aes3_cell.proofs.refusal.RunError.place.Goals as goal
+
+pub returns-in-BadLength : goal.returns-in-BadLength
+returns-in-BadLength c = search rules

@@ -1,5 +1,0 @@
-use Rattle.std.proofs.Common.{rules}
-use Rattle.aes3_cell.proofs.run_error.RunError.place.Goals as goal
-
-pub returns-in-BadLength : goal.returns-in-BadLength
-returns-in-BadLength c = search rules
