@@ -2,9 +2,8 @@
 //! from samples to cells.
 #![tactic(auto)]
 
-/// How far edges are from their expected positions.
-mod distances;
-/// The places of edges among the levels of many samples, found before the edges are followed.
+/// The places of edges among the levels of many samples, found before the edges are followed, and how
+/// far they are from their expected positions.
 mod edge_places;
 /// The levels of a line among samples of several lines, and the edges among them.
 mod levels;

@@ -7,8 +7,7 @@ ghost use Rattle.aes3_level.specs.declared.level.Level.{Level};
 ghost use Rattle.aes3_level.specs.Cells.{after, other};
 ghost use Rattle.aes3_capture_recovery.specs.Endings.{level_if};
 
-use crate::distances::{Distances, distances_of, spread_behind};
-use crate::edge_places::{BEGIN, Places};
+use crate::edge_places::{BEGIN, Distances, Places, distances_of, spread_behind};
 use crate::levels::are_same;
 use crate::recovery::{DEAD, Recovery, State};
 use aes3_capture::{PARTS, TRACKED};

@@ -2,7 +2,7 @@ use Rattle.std.proofs.Common.{◌≡◌, ◌+◌, ◌*◌, ◌/◌, ◌≤◌, �
 use Rattle.std.proofs.lemmas.List.{length-set}
 use Rattle.aes3_capture_recovery.specs.Distances.{distance_at}
 use Rattle.aes3_capture_recovery.proofs.DistanceSums.{all-more, each-more, square-small}
-use Rattle.aes3_capture_recovery.proofs.distances.distances_of.Goals as goal
+use Rattle.aes3_capture_recovery.proofs.edge_places.distances_of.Goals as goal
 
 pub loop-i-preserved : goal.loop-i-preserved
 loop-i-preserved c =

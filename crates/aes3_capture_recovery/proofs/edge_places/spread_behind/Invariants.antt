@@ -1,6 +1,6 @@
 use Rattle.std.proofs.Common.{◌≡◌, take}
 use Rattle.aes3_capture_recovery.specs.Distances.{spread_after}
-use Rattle.aes3_capture_recovery.proofs.distances.spread_behind.Given as goal
+use Rattle.aes3_capture_recovery.proofs.edge_places.spread_behind.Given as goal
 
 abbrev pub invariant-loop-i : goal.invariant-loop-i
 invariant-loop-i l = record {

@@ -1,6 +1,6 @@
 use Rattle.std.proofs.Common.{arith, take}
 use Rattle.aes3_capture_recovery.proofs.DistanceSums.{spread-most, spread-next, total-part}
-use Rattle.aes3_capture_recovery.proofs.distances.spread_behind.Goals as goal
+use Rattle.aes3_capture_recovery.proofs.edge_places.spread_behind.Goals as goal
 
 pub loop-i-preserved : goal.loop-i-preserved
 loop-i-preserved c =

@@ -1,7 +1,7 @@
 use Rattle.std.proofs.Common.{◌/◌, ◌∙◌, arith}
 use Rattle.std.proofs.lemmas.List.{length-set}
 use Rattle.aes3_capture_recovery.proofs.SmallDistances.{all-small, small-more}
-use Rattle.aes3_capture_recovery.proofs.distances.small_distances.Goals as goal
+use Rattle.aes3_capture_recovery.proofs.edge_places.small_distances.Goals as goal
 
 pub loop-i-preserved : goal.loop-i-preserved
 loop-i-preserved c =

@@ -1,6 +1,6 @@
 use Rattle.std.proofs.Common.{◌≡◌, ◌≤◌, ◌*◌, ◌^◌, length, take}
 use Rattle.aes3_capture_recovery.proofs.SmallDistances.{AreSmall}
-use Rattle.aes3_capture_recovery.proofs.distances.small_distances.Given as goal
+use Rattle.aes3_capture_recovery.proofs.edge_places.small_distances.Given as goal
 
 abbrev pub invariant-loop-i : goal.invariant-loop-i
 invariant-loop-i l = record {

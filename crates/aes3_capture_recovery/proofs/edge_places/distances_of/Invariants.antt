@@ -1,6 +1,6 @@
 use Rattle.std.proofs.Common.{◌≡◌, ◌≤◌, ◌*◌, ◌^◌, length, map, take}
 use Rattle.aes3_capture_recovery.specs.Distances.{distance_at, greatest, squares, total}
-use Rattle.aes3_capture_recovery.proofs.distances.distances_of.Given as goal
+use Rattle.aes3_capture_recovery.proofs.edge_places.distances_of.Given as goal
 
 abbrev pub invariant-loop-i : goal.invariant-loop-i
 invariant-loop-i l = record {
