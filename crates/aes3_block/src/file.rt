@@ -215,7 +215,7 @@ impl BlockFile {
     pub fn feed_word(&mut self, bytes: &[u8; 4]) -> bool
         requires { self.old.seen + 4 ≤ 2 ^ 40 }
         ensures quiet { result ≡ true → TakesQuietly self.old bytes.now self.new }
-        ensures same { result ≡ false → self.new ≡ self.old }
+        ensures unchanged { result ≡ false → self.new ≡ self.old }
         ensures stops { result ≡ false → self.old.bytes ≡ [] → (next : FileReader)
             → ¬ TakesQuietly self.old bytes.now next }
     {
@@ -239,7 +239,7 @@ impl BlockFile {
     pub fn feed_block(&mut self, bytes: &[u8; BLOCK_BYTES]) -> Option<Block>
         requires { self.old.seen + BLOCK_BYTES ≤ 2 ^ 40 }
         ensures taken { IfSome result (λ block. TakesBlock self.old bytes.now block self.new) }
-        ensures same { result ≡ None → self.new ≡ self.old }
+        ensures unchanged { result ≡ None → self.new ≡ self.old }
         ensures owed { self.old.fault ≡ None → self.old.bytes ≡ [] → self.old.words ≡ []
             → ((i : ℕ) → i < block_subframes → is_lawful (get_or (words_of bytes.now) i 0) ≡ true)
             → IsSome result }

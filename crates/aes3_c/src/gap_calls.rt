@@ -126,7 +126,7 @@ pub extern "C" fn aes3_account_before(
         → Tells (account_in account.old) c e → ComesNext c e x
         → Tells (account_in account.new) c (e ++ reported x ∷ []) }
     ensures none { report.now.kind ≡ 0 → result ≡ false }
-    ensures same { report.now.kind ≡ 0 → account.new ≡ account.old }
+    ensures unchanged { report.now.kind ≡ 0 → account.new ≡ account.old }
     ensures code { result ≡ true → gap.new.counts ≤ 1 }
     ensures left { result ≡ false → gap.new ≡ gap.old }
 {
@@ -159,7 +159,7 @@ pub extern "C" fn aes3_account_passed(
     ensures all { result ≡ false → (c d : List Level) (e : List Entry)
         → Tells (account_in account.old) (c ++ d) e → reports_in e ≡ decided c → seen ≡ length c
         → HasBegun c e }
-    ensures same { result ≡ false → account_in account.new ≡ account_in account.old }
+    ensures unchanged { result ≡ false → account_in account.new ≡ account_in account.old }
     ensures code { result ≡ true → gap.new.counts ≤ 1 }
     ensures left { result ≡ false → gap.new ≡ gap.old }
 {
@@ -185,7 +185,7 @@ pub extern "C" fn aes3_account_end(account: &mut Aes3Account, seen: u64, gap: &m
     ensures all { result ≡ false → (c : List Level) (e : List Entry)
         → Tells (account_in account.old) c e → reports_in e ≡ reports c → seen ≡ length c
         → HasAll c e }
-    ensures same { result ≡ false → account_in account.new ≡ account_in account.old }
+    ensures unchanged { result ≡ false → account_in account.new ≡ account_in account.old }
     ensures code { result ≡ true → gap.new.counts ≤ 1 }
     ensures left { result ≡ false → gap.new ≡ gap.old }
 {

@@ -60,7 +60,7 @@ fn recover_all<T: Sink>(
     samples: &[u8],
 ) -> Result<(), Fault>
     requires room { T.failed sink.old + 1 < 2 ^ 64 }
-    ensures err_count { OnErr result (T.failed sink.new ≡ T.failed sink.old + 1) }
+    ensures one_failure { OnErr result (T.failed sink.new ≡ T.failed sink.old + 1) }
     ensures ran { bit_of_line unit < bits_of_sample unit → IfOk result (λ _. RanOver T.taken recovery.old recovery.new
         sink.old sink.new (levels_of_samples unit samples.now)) }
 {

@@ -63,7 +63,7 @@ pub(crate) fn why_of_byte(byte: u8) -> Why
 /// Puts a copy of the words.
 // In place: an array that is returned would be one more on the stack.
 fn put_words(words: &[u32; 384], out: &mut [u32; 384])
-    ensures same { out.new ≡ words.now }
+    ensures copied { out.new ≡ words.now }
     ensures fits { (i : ℕ) → i < 384 → get_or words.now i 0 < 2 ^ 32 }
 {
     // Counting the ones of a word gives a proof the fact that each word has 32 bits.

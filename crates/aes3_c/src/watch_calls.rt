@@ -296,7 +296,7 @@ pub extern "C" fn aes3_watch_report(
         (put : List Aes3Event) → HasPut watch.old c r put → IsNext c r x
         → HasPut watch.new c (r ++ x ∷ []) (put ++ take result events.new) }
     ensures none { told_in report.now ≡ None → result ≡ 0 }
-    ensures same { told_in report.now ≡ None → watch.new ≡ watch.old }
+    ensures unchanged { told_in report.now ≡ None → watch.new ≡ watch.old }
     ensures most { result ≤ 6 }
     ensures left { drop result events.new ≡ drop result events.old }
 {

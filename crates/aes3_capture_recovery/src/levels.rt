@@ -222,7 +222,7 @@ impl Edges {
 #[inline(always)]
 fn same_levels(levels: u64, high: bool) -> u32
     ensures most { result ≤ 64 }
-    ensures same { (n : ℕ) → n ≤ result → low_cells n levels ≡ replicate n (level_if high) }
+    ensures equal { (n : ℕ) → n ≤ result → low_cells n levels ≡ replicate n (level_if high) }
     ensures next { result < 64 → level_of (bit_at levels result) ≡ other (level_if high) }
 {
     if high {

@@ -66,8 +66,8 @@ impl LineFollower {
     /// The sink's fault.
     pub fn take<T: Sink>(&mut self, sink: &mut T, piece: Piece) -> Result<(), Fault>
         requires room { T.failed sink.old + 1 < 2 ^ 64 }
-        ensures count { IfOk result (λ _. T.failed sink.new ≡ T.failed sink.old) }
-        ensures err_count { OnErr result (T.failed sink.new ≡ T.failed sink.old + 1) }
+        ensures no_failure { IfOk result (λ _. T.failed sink.new ≡ T.failed sink.old) }
+        ensures one_failure { OnErr result (T.failed sink.new ≡ T.failed sink.old + 1) }
         ensures followed { (begun : List ℕ) (front : List Level) (first : Follower) (before : Level)
             (levels : List Level)
             → Followed (T.taken sink.old) begun front self.old first before levels []
@@ -198,8 +198,8 @@ impl LineFollower {
     #[inline(always)]
     pub(crate) fn tell<T: Sink>(&mut self, sink: &mut T, high: bool, run: u32) -> Result<(), Fault>
         requires room { T.failed sink.old + 1 < 2 ^ 64 }
-        ensures count { IfOk result (λ _. T.failed sink.new ≡ T.failed sink.old) }
-        ensures err_count { OnErr result (T.failed sink.new ≡ T.failed sink.old + 1) }
+        ensures no_failure { IfOk result (λ _. T.failed sink.new ≡ T.failed sink.old) }
+        ensures one_failure { OnErr result (T.failed sink.new ≡ T.failed sink.old + 1) }
         ensures told { RunTold T.taken self.old self.new sink.old sink.new result run
             (level_if high) }
     {
@@ -211,8 +211,8 @@ impl LineFollower {
     #[inline(always)]
     fn rest<T: Sink>(&mut self, sink: &mut T) -> Result<(), Fault>
         requires room { T.failed sink.old + 1 < 2 ^ 64 }
-        ensures count { IfOk result (λ _. T.failed sink.new ≡ T.failed sink.old) }
-        ensures err_count { OnErr result (T.failed sink.new ≡ T.failed sink.old + 1) }
+        ensures no_failure { IfOk result (λ _. T.failed sink.new ≡ T.failed sink.old) }
+        ensures one_failure { OnErr result (T.failed sink.new ≡ T.failed sink.old + 1) }
         ensures told { SomeTold T.taken self.old self.new sink.old sink.new result }
     {
         if u64::from(self.waiting()) * PARTS / LONG < self.follower.period() {
@@ -227,8 +227,8 @@ impl LineFollower {
     /// The sink's fault.
     pub(crate) fn pass<T: Sink>(&mut self, sink: &mut T) -> Result<(), Fault>
         requires room { T.failed sink.old + 1 < 2 ^ 64 }
-        ensures count { IfOk result (λ _. T.failed sink.new ≡ T.failed sink.old) }
-        ensures err_count { OnErr result (T.failed sink.new ≡ T.failed sink.old + 1) }
+        ensures no_failure { IfOk result (λ _. T.failed sink.new ≡ T.failed sink.old) }
+        ensures one_failure { OnErr result (T.failed sink.new ≡ T.failed sink.old + 1) }
         ensures told { SomeTold T.taken self.old self.new sink.old sink.new result }
         ensures all { self.new.edges.run ≡ 0 }
     {
@@ -245,8 +245,8 @@ impl LineFollower {
     #[inline(always)]
     pub(crate) fn put<T: Sink>(&mut self, sink: &mut T, high: bool, cells: u64) -> Result<(), Fault>
         requires room { T.failed sink.old + 1 < 2 ^ 64 }
-        ensures count { IfOk result (λ _. T.failed sink.new ≡ T.failed sink.old) }
-        ensures err_count { OnErr result (T.failed sink.new ≡ T.failed sink.old + 1) }
+        ensures no_failure { IfOk result (λ _. T.failed sink.new ≡ T.failed sink.old) }
+        ensures one_failure { OnErr result (T.failed sink.new ≡ T.failed sink.old + 1) }
         ensures cells { Puts T.taken self.old.queue self.new.queue sink.old sink.new result
             (replicate cells (level_if high)) }
         ensures edges { self.new.edges ≡ self.old.edges }
@@ -268,8 +268,8 @@ impl LineFollower {
     ) -> Result<(), Fault>
         requires short { (i : ℕ) → i < length runs.now → get_or runs.now i 0 ≤ 3 }
         requires room { T.failed sink.old + 1 < 2 ^ 64 }
-        ensures count { IfOk result (λ _. T.failed sink.new ≡ T.failed sink.old) }
-        ensures err_count { OnErr result (T.failed sink.new ≡ T.failed sink.old + 1) }
+        ensures no_failure { IfOk result (λ _. T.failed sink.new ≡ T.failed sink.old) }
+        ensures one_failure { OnErr result (T.failed sink.new ≡ T.failed sink.old + 1) }
         ensures cells { (before : Level) → level_if high ≡ other before
             → Puts T.taken self.old.queue self.new.queue sink.old sink.new result (line before runs.now) }
         ensures edges { self.new.edges ≡ self.old.edges }
@@ -292,8 +292,8 @@ impl LineFollower {
         requires few { length runs.now ≤ 16 }
         requires short { (i : ℕ) → i < length runs.now → get_or runs.now i 0 ≤ 3 }
         requires room { T.failed sink.old + 1 < 2 ^ 64 }
-        ensures count { IfOk result (λ _. T.failed sink.new ≡ T.failed sink.old) }
-        ensures err_count { OnErr result (T.failed sink.new ≡ T.failed sink.old + 1) }
+        ensures no_failure { IfOk result (λ _. T.failed sink.new ≡ T.failed sink.old) }
+        ensures one_failure { OnErr result (T.failed sink.new ≡ T.failed sink.old + 1) }
         ensures cells { (before : Level) → level_if high ≡ other before
             → Puts T.taken self.old.queue self.new.queue sink.old sink.new result (line before runs.now) }
         ensures edges { self.new.edges ≡ self.old.edges }
@@ -310,8 +310,8 @@ impl LineFollower {
     /// The sink's fault.
     pub fn pass_on<T: Sink>(&mut self, sink: &mut T) -> Result<(), Fault>
         requires room { T.failed sink.old + 1 < 2 ^ 64 }
-        ensures count { IfOk result (λ _. T.failed sink.new ≡ T.failed sink.old) }
-        ensures err_count { OnErr result (T.failed sink.new ≡ T.failed sink.old + 1) }
+        ensures no_failure { IfOk result (λ _. T.failed sink.new ≡ T.failed sink.old) }
+        ensures one_failure { OnErr result (T.failed sink.new ≡ T.failed sink.old + 1) }
         ensures cells { Puts T.taken self.old.queue self.new.queue sink.old sink.new result [] }
         ensures few { waiting self.new.queue ≡ low_cells self.new.queue.len self.new.queue.word }
         ensures edges { self.new.edges ≡ self.old.edges }
@@ -326,8 +326,8 @@ impl LineFollower {
     /// The sink's fault.
     pub fn finish<T: Sink>(&mut self, sink: &mut T) -> Result<(), Fault>
         requires room { T.failed sink.old + 1 < 2 ^ 64 }
-        ensures count { IfOk result (λ _. T.failed sink.new ≡ T.failed sink.old) }
-        ensures err_count { OnErr result (T.failed sink.new ≡ T.failed sink.old + 1) }
+        ensures no_failure { IfOk result (λ _. T.failed sink.new ≡ T.failed sink.old) }
+        ensures one_failure { OnErr result (T.failed sink.new ≡ T.failed sink.old + 1) }
         ensures cells { Finishes T.taken self.old.queue sink.old sink.new result }
     {
         self.queue.finish(sink)

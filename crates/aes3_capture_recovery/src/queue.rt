@@ -66,8 +66,8 @@ impl CellQueue {
     #[inline(always)]
     pub fn put<T: Sink>(&mut self, sink: &mut T, high: bool, cells: u64) -> Result<(), Fault>
         requires room { T.failed sink.old + 1 < 2 ^ 64 }
-        ensures count { IfOk result (λ _. T.failed sink.new ≡ T.failed sink.old) }
-        ensures err_count { OnErr result (T.failed sink.new ≡ T.failed sink.old + 1) }
+        ensures no_failure { IfOk result (λ _. T.failed sink.new ≡ T.failed sink.old) }
+        ensures one_failure { OnErr result (T.failed sink.new ≡ T.failed sink.old + 1) }
         ensures cells { Puts T.taken self.old self.new sink.old sink.new result
             (replicate cells (level_if high)) }
     {
@@ -84,8 +84,8 @@ impl CellQueue {
     fn put_few<T: Sink>(&mut self, sink: &mut T, high: bool, cells: u32) -> Result<(), Fault>
         requires few { cells ≤ 32 }
         requires room { T.failed sink.old + 1 < 2 ^ 64 }
-        ensures count { IfOk result (λ _. T.failed sink.new ≡ T.failed sink.old) }
-        ensures err_count { OnErr result (T.failed sink.new ≡ T.failed sink.old + 1) }
+        ensures no_failure { IfOk result (λ _. T.failed sink.new ≡ T.failed sink.old) }
+        ensures one_failure { OnErr result (T.failed sink.new ≡ T.failed sink.old + 1) }
         ensures cells { Puts T.taken self.old self.new sink.old sink.new result
             (replicate cells (level_if high)) }
     {
@@ -106,8 +106,8 @@ impl CellQueue {
         requires few { count ≤ 48 }
         requires no_more { bits < 2 ^ count }
         requires room { T.failed sink.old + 1 < 2 ^ 64 }
-        ensures count { IfOk result (λ _. T.failed sink.new ≡ T.failed sink.old) }
-        ensures err_count { OnErr result (T.failed sink.new ≡ T.failed sink.old + 1) }
+        ensures no_failure { IfOk result (λ _. T.failed sink.new ≡ T.failed sink.old) }
+        ensures one_failure { OnErr result (T.failed sink.new ≡ T.failed sink.old + 1) }
         ensures cells { Puts T.taken self.old self.new sink.old sink.new result (low_cells count bits) }
     {
         let word = self.word | bits << self.len;
@@ -133,8 +133,8 @@ impl CellQueue {
         requires few { len < 64 }
         requires no_more { rest < 2 ^ len }
         requires room { T.failed sink.old + 1 < 2 ^ 64 }
-        ensures count { IfOk result (λ _. T.failed sink.new ≡ T.failed sink.old) }
-        ensures err_count { OnErr result (T.failed sink.new ≡ T.failed sink.old + 1) }
+        ensures no_failure { IfOk result (λ _. T.failed sink.new ≡ T.failed sink.old) }
+        ensures one_failure { OnErr result (T.failed sink.new ≡ T.failed sink.old + 1) }
         ensures cells { (added : List Level)
             → low_cells self.old.len self.old.word ++ added ≡ word_cells word ++ low_cells len rest
             → Puts T.taken self.old self.new sink.old sink.new result added }
@@ -157,8 +157,8 @@ impl CellQueue {
     /// The sink's fault.
     pub fn pass_on<T: Sink>(&mut self, sink: &mut T) -> Result<(), Fault>
         requires room { T.failed sink.old + 1 < 2 ^ 64 }
-        ensures count { IfOk result (λ _. T.failed sink.new ≡ T.failed sink.old) }
-        ensures err_count { OnErr result (T.failed sink.new ≡ T.failed sink.old + 1) }
+        ensures no_failure { IfOk result (λ _. T.failed sink.new ≡ T.failed sink.old) }
+        ensures one_failure { OnErr result (T.failed sink.new ≡ T.failed sink.old + 1) }
         ensures cells { Puts T.taken self.old self.new sink.old sink.new result [] }
         ensures few { waiting self.new ≡ low_cells self.new.len self.new.word }
     {
@@ -174,8 +174,8 @@ impl CellQueue {
     /// The sink's fault.
     pub fn finish<T: Sink>(&mut self, sink: &mut T) -> Result<(), Fault>
         requires room { T.failed sink.old + 1 < 2 ^ 64 }
-        ensures count { IfOk result (λ _. T.failed sink.new ≡ T.failed sink.old) }
-        ensures err_count { OnErr result (T.failed sink.new ≡ T.failed sink.old + 1) }
+        ensures no_failure { IfOk result (λ _. T.failed sink.new ≡ T.failed sink.old) }
+        ensures one_failure { OnErr result (T.failed sink.new ≡ T.failed sink.old + 1) }
         ensures cells { Finishes T.taken self.old sink.old sink.new result }
     {
         self.pass_on(sink)?;

@@ -213,8 +213,8 @@ impl Recovery {
     pub fn take<T: Sink>(&mut self, sink: &mut T, levels: u64, len: u32) -> Result<(), Fault>
         requires few { len ≤ 64 }
         requires room { T.failed sink.old + 1 < 2 ^ 64 }
-        ensures count { IfOk result (λ _. T.failed sink.new ≡ T.failed sink.old) }
-        ensures err_count { OnErr result (T.failed sink.new ≡ T.failed sink.old + 1) }
+        ensures no_failure { IfOk result (λ _. T.failed sink.new ≡ T.failed sink.old) }
+        ensures one_failure { OnErr result (T.failed sink.new ≡ T.failed sink.old + 1) }
         ensures follows { self.old.state ≡ Following → self.new.state ≡ Following
             → self.new.figures.measured ≡ self.old.figures.measured
             → self.old.figures.measured + 1 < 2 ^ 64 → 1 ≤ self.old.figures.samples
@@ -335,8 +335,8 @@ impl Recovery {
     #[inline(always)]
     fn edge<T: Sink>(&mut self, sink: &mut T, high: bool, run: u32) -> Result<(), Fault>
         requires room { T.failed sink.old + 1 < 2 ^ 64 }
-        ensures count { IfOk result (λ _. T.failed sink.new ≡ T.failed sink.old) }
-        ensures err_count { OnErr result (T.failed sink.new ≡ T.failed sink.old + 1) }
+        ensures no_failure { IfOk result (λ _. T.failed sink.new ≡ T.failed sink.old) }
+        ensures one_failure { OnErr result (T.failed sink.new ≡ T.failed sink.old + 1) }
         ensures up { self.old.figures.measured ≤ self.new.figures.measured }
         ensures begun { self.old.state ≢ Following → self.new.state ≡ Following
             → self.old.figures.measured + 1 < 2 ^ 64
@@ -388,8 +388,8 @@ impl Recovery {
     #[inline(always)]
     fn tell<T: Sink>(&mut self, sink: &mut T, high: bool, run: u32) -> Result<(), Fault>
         requires room { T.failed sink.old + 1 < 2 ^ 64 }
-        ensures count { IfOk result (λ _. T.failed sink.new ≡ T.failed sink.old) }
-        ensures err_count { OnErr result (T.failed sink.new ≡ T.failed sink.old + 1) }
+        ensures no_failure { IfOk result (λ _. T.failed sink.new ≡ T.failed sink.old) }
+        ensures one_failure { OnErr result (T.failed sink.new ≡ T.failed sink.old + 1) }
         ensures state { self.new.state ≡ self.old.state }
         ensures measured { self.new.figures.measured ≡ self.old.figures.measured }
         ensures distance { self.new.spread ≡ self.old.spread }
@@ -408,8 +408,8 @@ impl Recovery {
     #[inline(always)]
     fn follow<T: Sink>(&mut self, sink: &mut T, high: bool, run: u32) -> Result<(), Fault>
         requires room { T.failed sink.old + 1 < 2 ^ 64 }
-        ensures count { IfOk result (λ _. T.failed sink.new ≡ T.failed sink.old) }
-        ensures err_count { OnErr result (T.failed sink.new ≡ T.failed sink.old + 1) }
+        ensures no_failure { IfOk result (λ _. T.failed sink.new ≡ T.failed sink.old) }
+        ensures one_failure { OnErr result (T.failed sink.new ≡ T.failed sink.old + 1) }
         ensures told { RunTold T.taken self.old.line self.new.line sink.old sink.new result run
             (level_if high) }
         ensures noted { IfOk result (λ _. Noted self.old self.new) }
@@ -447,8 +447,8 @@ impl Recovery {
     /// Gathers a run of a line that has to be measured.
     fn gather<T: Sink>(&mut self, sink: &mut T, run: u32) -> Result<(), Fault>
         requires room { T.failed sink.old + 1 < 2 ^ 64 }
-        ensures count { IfOk result (λ _. T.failed sink.new ≡ T.failed sink.old) }
-        ensures err_count { OnErr result (T.failed sink.new ≡ T.failed sink.old + 1) }
+        ensures no_failure { IfOk result (λ _. T.failed sink.new ≡ T.failed sink.old) }
+        ensures one_failure { OnErr result (T.failed sink.new ≡ T.failed sink.old + 1) }
         ensures up { self.old.figures.measured ≤ self.new.figures.measured }
         ensures begun { self.old.state ≢ Following → self.new.state ≡ Following
             → self.old.figures.measured + 1 < 2 ^ 64
@@ -488,8 +488,8 @@ impl Recovery {
     fn decide<T: Sink>(&mut self, sink: &mut T, count: usize) -> Result<(), Fault>
         requires within { count ≤ 256 }
         requires room { T.failed sink.old + 1 < 2 ^ 64 }
-        ensures count { IfOk result (λ _. T.failed sink.new ≡ T.failed sink.old) }
-        ensures err_count { OnErr result (T.failed sink.new ≡ T.failed sink.old + 1) }
+        ensures no_failure { IfOk result (λ _. T.failed sink.new ≡ T.failed sink.old) }
+        ensures one_failure { OnErr result (T.failed sink.new ≡ T.failed sink.old + 1) }
         ensures up { self.old.figures.measured ≤ self.new.figures.measured }
         ensures begun { self.old.state ≢ Following → self.new.state ≡ Following
             → self.old.figures.measured + 1 < 2 ^ 64
@@ -535,8 +535,8 @@ impl Recovery {
     ) -> Result<(), Fault>
         requires within { count ≤ 256 }
         requires room { T.failed sink.old + 1 < 2 ^ 64 }
-        ensures count { IfOk result (λ _. T.failed sink.new ≡ T.failed sink.old) }
-        ensures err_count { OnErr result (T.failed sink.new ≡ T.failed sink.old + 1) }
+        ensures no_failure { IfOk result (λ _. T.failed sink.new ≡ T.failed sink.old) }
+        ensures one_failure { OnErr result (T.failed sink.new ≡ T.failed sink.old + 1) }
         ensures up { self.old.figures.measured ≤ self.new.figures.measured }
         ensures begun { self.old.figures.measured + 1 < 2 ^ 64
             → self.old.figures.measured < self.new.figures.measured }
@@ -591,8 +591,8 @@ impl Recovery {
     fn release<T: Sink>(&mut self, sink: &mut T, count: usize) -> Result<(), Fault>
         requires within { count ≤ 256 }
         requires room { T.failed sink.old + 1 < 2 ^ 64 }
-        ensures count { IfOk result (λ _. T.failed sink.new ≡ T.failed sink.old) }
-        ensures err_count { OnErr result (T.failed sink.new ≡ T.failed sink.old + 1) }
+        ensures no_failure { IfOk result (λ _. T.failed sink.new ≡ T.failed sink.old) }
+        ensures one_failure { OnErr result (T.failed sink.new ≡ T.failed sink.old + 1) }
         ensures state { self.new.state ≡ self.old.state }
         ensures measured { self.new.figures.measured ≡ self.old.figures.measured }
         ensures distance { self.new.spread ≡ self.old.spread }
@@ -629,8 +629,8 @@ impl Recovery {
     #[inline(always)]
     fn rest<T: Sink>(&mut self, sink: &mut T) -> Result<(), Fault>
         requires room { T.failed sink.old + 1 < 2 ^ 64 }
-        ensures count { IfOk result (λ _. T.failed sink.new ≡ T.failed sink.old) }
-        ensures err_count { OnErr result (T.failed sink.new ≡ T.failed sink.old + 1) }
+        ensures no_failure { IfOk result (λ _. T.failed sink.new ≡ T.failed sink.old) }
+        ensures one_failure { OnErr result (T.failed sink.new ≡ T.failed sink.old + 1) }
         ensures measured { self.new.figures.measured ≡ self.old.figures.measured }
         ensures found { self.new.found ≡ self.old.found }
         ensures alive { self.old.found ≡ false → self.old.line.edges.run < 524288
@@ -658,8 +658,8 @@ impl Recovery {
     /// Gives what waits of a line without signal.
     fn still<T: Sink>(&mut self, sink: &mut T) -> Result<(), Fault>
         requires room { T.failed sink.old + 1 < 2 ^ 64 }
-        ensures count { IfOk result (λ _. T.failed sink.new ≡ T.failed sink.old) }
-        ensures err_count { OnErr result (T.failed sink.new ≡ T.failed sink.old + 1) }
+        ensures no_failure { IfOk result (λ _. T.failed sink.new ≡ T.failed sink.old) }
+        ensures one_failure { OnErr result (T.failed sink.new ≡ T.failed sink.old + 1) }
         ensures state { self.new.state ≡ Still }
         ensures none { self.new.count ≡ 0 }
         ensures measured { self.new.figures.measured ≡ self.old.figures.measured }
@@ -698,8 +698,8 @@ impl Recovery {
     /// Gives the cells of samples that no edge follows yet.
     fn wait<T: Sink>(&mut self, sink: &mut T) -> Result<(), Fault>
         requires room { T.failed sink.old + 1 < 2 ^ 64 }
-        ensures count { IfOk result (λ _. T.failed sink.new ≡ T.failed sink.old) }
-        ensures err_count { OnErr result (T.failed sink.new ≡ T.failed sink.old + 1) }
+        ensures no_failure { IfOk result (λ _. T.failed sink.new ≡ T.failed sink.old) }
+        ensures one_failure { OnErr result (T.failed sink.new ≡ T.failed sink.old + 1) }
         ensures state { self.new.state ≡ self.old.state }
         ensures measured { self.new.figures.measured ≡ self.old.figures.measured }
         ensures high { self.new.line.edges.high ≡ self.old.line.edges.high }
@@ -728,8 +728,8 @@ impl Recovery {
     /// The sink's fault.
     pub fn pass_on<T: Sink>(&mut self, sink: &mut T) -> Result<(), Fault>
         requires room { T.failed sink.old + 1 < 2 ^ 64 }
-        ensures count { IfOk result (λ _. T.failed sink.new ≡ T.failed sink.old) }
-        ensures err_count { OnErr result (T.failed sink.new ≡ T.failed sink.old + 1) }
+        ensures no_failure { IfOk result (λ _. T.failed sink.new ≡ T.failed sink.old) }
+        ensures one_failure { OnErr result (T.failed sink.new ≡ T.failed sink.old + 1) }
         ensures passed { IfOk result (λ _. T.passed sink.new ≡ T.taken sink.new) }
         ensures recovered { (setting : Setting) (seen : List Level)
             → Recovered (T.taken sink.old) setting seen [] self.old
@@ -756,8 +756,8 @@ impl Recovery {
     /// The sink's fault.
     pub fn finish<T: Sink>(&mut self, sink: &mut T) -> Result<(), Fault>
         requires room { T.failed sink.old + 1 < 2 ^ 64 }
-        ensures count { IfOk result (λ _. T.failed sink.new ≡ T.failed sink.old) }
-        ensures err_count { OnErr result (T.failed sink.new ≡ T.failed sink.old + 1) }
+        ensures no_failure { IfOk result (λ _. T.failed sink.new ≡ T.failed sink.old) }
+        ensures one_failure { OnErr result (T.failed sink.new ≡ T.failed sink.old + 1) }
         ensures passed { IfOk result (λ _. T.passed sink.new ≡ T.taken sink.new) }
         ensures recovered { (setting : Setting) (seen : List Level)
             → Recovered (T.taken sink.old) setting seen [] self.old
@@ -786,8 +786,8 @@ impl Recovery {
     fn tell_gathered<T: Sink>(&mut self, sink: &mut T, count: usize) -> Result<(), Fault>
         requires within { count ≤ 256 }
         requires room { T.failed sink.old + 1 < 2 ^ 64 }
-        ensures count { IfOk result (λ _. T.failed sink.new ≡ T.failed sink.old) }
-        ensures err_count { OnErr result (T.failed sink.new ≡ T.failed sink.old + 1) }
+        ensures no_failure { IfOk result (λ _. T.failed sink.new ≡ T.failed sink.old) }
+        ensures one_failure { OnErr result (T.failed sink.new ≡ T.failed sink.old + 1) }
         ensures edges { self.new.line.edges ≡ self.old.line.edges }
         ensures told { (setting : Setting) (level : Level) (done : List ℕ) (past : ℕ)
             → (1 ≤ length (take count self.old.runs) → past ≡ 0)
@@ -815,8 +815,8 @@ impl Recovery {
     /// Gives the last run as if an edge ended it, and writes the cells that are left.
     fn end<T: Sink>(&mut self, sink: &mut T) -> Result<(), Fault>
         requires room { T.failed sink.old + 1 < 2 ^ 64 }
-        ensures count { IfOk result (λ _. T.failed sink.new ≡ T.failed sink.old) }
-        ensures err_count { OnErr result (T.failed sink.new ≡ T.failed sink.old + 1) }
+        ensures no_failure { IfOk result (λ _. T.failed sink.new ≡ T.failed sink.old) }
+        ensures one_failure { OnErr result (T.failed sink.new ≡ T.failed sink.old + 1) }
         ensures passed { IfOk result (λ _. T.passed sink.new ≡ T.taken sink.new) }
         ensures ended { (setting : Setting) (level : Level) (done : List ℕ) (past : ℕ)
             → AreTold (T.taken sink.old) setting level done past self.old

@@ -58,8 +58,8 @@ pub fn feed<T: Sink>(
     piece: &[u8],
 ) -> Result<(), Fault>
     requires room { T.failed sink.old + 1 < 2 ^ 64 }
-    ensures count { IfOk result (λ _. T.failed sink.new ≡ T.failed sink.old) }
-    ensures err_count { OnErr result (T.failed sink.new ≡ T.failed sink.old + 1) }
+    ensures no_failure { IfOk result (λ _. T.failed sink.new ≡ T.failed sink.old) }
+    ensures one_failure { OnErr result (T.failed sink.new ≡ T.failed sink.old + 1) }
     ensures took { bit_of_line unit < bits_of_sample unit → IfOk result (λ _. Took T.taken recovery.old recovery.new
         sink.old sink.new (levels_of_samples unit piece.now)) }
     ensures mean { bit_of_line unit < bits_of_sample unit → recovery.old.state ≡ Following → recovery.new.state ≡ Following
@@ -103,8 +103,8 @@ fn feed_long<T: Sink>(
     piece: &[u8],
 ) -> Result<(), Fault>
     requires room { T.failed sink.old + 1 < 2 ^ 64 }
-    ensures count { IfOk result (λ _. T.failed sink.new ≡ T.failed sink.old) }
-    ensures err_count { OnErr result (T.failed sink.new ≡ T.failed sink.old + 1) }
+    ensures no_failure { IfOk result (λ _. T.failed sink.new ≡ T.failed sink.old) }
+    ensures one_failure { OnErr result (T.failed sink.new ≡ T.failed sink.old + 1) }
     ensures took { bit_of_line unit < bits_of_sample unit → IfOk result (λ _. Took T.taken recovery.old recovery.new
         sink.old sink.new (levels_of_samples unit piece.now)) }
 {
@@ -121,8 +121,8 @@ fn feed_blocks<T: Sink>(
     places: &mut Places,
 ) -> Result<(), Fault>
     requires room { T.failed sink.old + 1 < 2 ^ 64 }
-    ensures count { IfOk result (λ _. T.failed sink.new ≡ T.failed sink.old) }
-    ensures err_count { OnErr result (T.failed sink.new ≡ T.failed sink.old + 1) }
+    ensures no_failure { IfOk result (λ _. T.failed sink.new ≡ T.failed sink.old) }
+    ensures one_failure { OnErr result (T.failed sink.new ≡ T.failed sink.old + 1) }
     ensures took { bit_of_line unit < bits_of_sample unit → IfOk result (λ _. Took T.taken recovery.old recovery.new
         sink.old sink.new (levels_of_samples unit piece.now)) }
 {
@@ -145,8 +145,8 @@ fn feed_block<T: Sink>(
     places: &mut Places,
 ) -> Result<(), Fault>
     requires room { T.failed sink.old + 1 < 2 ^ 64 }
-    ensures count { IfOk result (λ _. T.failed sink.new ≡ T.failed sink.old) }
-    ensures err_count { OnErr result (T.failed sink.new ≡ T.failed sink.old + 1) }
+    ensures no_failure { IfOk result (λ _. T.failed sink.new ≡ T.failed sink.old) }
+    ensures one_failure { OnErr result (T.failed sink.new ≡ T.failed sink.old + 1) }
     ensures took { bit_of_line unit < bits_of_sample unit → IfOk result (λ _. Took T.taken recovery.old recovery.new
         sink.old sink.new (levels_of_samples unit block.now)) }
 {
@@ -167,8 +167,8 @@ fn feed_chunks<T: Sink>(
     piece: &[u8],
 ) -> Result<(), Fault>
     requires room { T.failed sink.old + 1 < 2 ^ 64 }
-    ensures count { IfOk result (λ _. T.failed sink.new ≡ T.failed sink.old) }
-    ensures err_count { OnErr result (T.failed sink.new ≡ T.failed sink.old + 1) }
+    ensures no_failure { IfOk result (λ _. T.failed sink.new ≡ T.failed sink.old) }
+    ensures one_failure { OnErr result (T.failed sink.new ≡ T.failed sink.old + 1) }
     ensures took { bit_of_line unit < bits_of_sample unit → IfOk result (λ _. Took T.taken recovery.old recovery.new
         sink.old sink.new (levels_of_samples unit piece.now)) }
 {
@@ -238,7 +238,7 @@ fn read_some<S: Source, T: Sink>(
     ensures octets { IfOk result (λ n. Grew (S.given source.old) (S.given source.new)
         (take n (drop from piece.new))) }
     ensures end { IfOk result (λ n. n ≡ 0 ↔ IsTrue (S.has_ended source.new)) }
-    ensures count { IfOk result (λ _. S.failed source.new ≡ S.failed source.old) }
+    ensures no_failure { IfOk result (λ _. S.failed source.new ≡ S.failed source.old) }
     ensures err { OnErr result ((S.failed source.new ≡ S.failed source.old + 1)
         × (S.given source.new ≡ S.given source.old)) }
 {
@@ -249,7 +249,7 @@ fn read_some<S: Source, T: Sink>(
 fn end<T: Sink>(recovery: &mut Recovery, sink: &mut T) -> Result<Progress, Refusal>
     requires room { T.failed sink.old + 1 < 2 ^ 64 }
     ensures ended { IfOk result (λ progress. progress ≡ Ended) }
-    ensures count { IfOk result (λ _. T.failed sink.new ≡ T.failed sink.old) }
+    ensures no_failure { IfOk result (λ _. T.failed sink.new ≡ T.failed sink.old) }
     ensures err { IfErr result (λ refusal. (refusal ≡ Write) × (T.failed sink.new ≡ T.failed sink.old + 1)) }
     ensures took { IfOk result (λ _. TookAll T.taken recovery.old recovery.new sink.old sink.new []) }
     ensures passed { IfOk result (λ _. T.passed sink.new ≡ T.taken sink.new) }
@@ -278,7 +278,7 @@ pub fn recover<S: Source, T: Sink>(
     requires sink_room { T.failed sink.old + 1 < 2 ^ 64 }
     ensures source_count { IfOk result (λ _. S.failed source.new ≡ S.failed source.old) }
     ensures sink_count { IfOk result (λ _. T.failed sink.new ≡ T.failed sink.old) }
-    ensures err_count { IfErr result (λ refusal. FailedAt refusal (S.failed source.old) (S.failed source.new)
+    ensures one_failure { IfErr result (λ refusal. FailedAt refusal (S.failed source.old) (S.failed source.new)
         (T.failed sink.old) (T.failed sink.new)) }
     ensures read { ReadSamples unit (S.given source.old) (S.given source.new) (S.has_ended source.new) T.taken
         recovery.old recovery.new sink.old sink.new result }

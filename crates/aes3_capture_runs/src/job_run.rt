@@ -173,7 +173,7 @@ fn put_bit<T: Sink>(bit: u8, sink: &mut T) -> Result<(), Fault>
     requires room { T.failed sink.old + 1 < 2 ^ 64 }
     ensures text { IfOk result (λ _. Grew (T.taken sink.old) (T.taken sink.new) (bit_text bit)) }
     ensures passed_on { IfOk result (λ _. T.passed sink.new ≡ T.taken sink.new) }
-    ensures count { IfOk result (λ _. T.failed sink.new ≡ T.failed sink.old) }
+    ensures no_failure { IfOk result (λ _. T.failed sink.new ≡ T.failed sink.old) }
     ensures err { OnErr result (T.failed sink.new ≡ T.failed sink.old + 1) }
 {
     write_all(sink, b"aes3-cells: the AES3 line is in bit ")?;
@@ -244,7 +244,7 @@ fn recover_telling<S: Source, T: Sink, E: Sink>(
     requires messages_room { E.failed messages.old + 1 < 2 ^ 64 }
     ensures source_count { IfOk result (λ _. S.failed source.new ≡ S.failed source.old) }
     ensures sink_count { IfOk result (λ _. T.failed sink.new ≡ T.failed sink.old) }
-    ensures err_count { IfErr result (λ refusal. FailedAt refusal (S.failed source.old) (S.failed source.new)
+    ensures one_failure { IfErr result (λ refusal. FailedAt refusal (S.failed source.old) (S.failed source.new)
         (T.failed sink.old) (T.failed sink.new)) }
     ensures read { ReadSamples unit (S.given source.old) (S.given source.new) (S.has_ended source.new) T.taken
         recovery.old recovery.new sink.old sink.new result }

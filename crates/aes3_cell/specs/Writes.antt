@@ -7,5 +7,5 @@ use Rattle.aes3_cell.specs.Ends.{Grew, GrewFront}
 pub record Wrote {A R E : Type 0} (taken : A → Option (List ℕ)) (failed : A → ℕ) (old new : A) (bytes : List ℕ)
     (result : Result R E) : Type 0 where
   pub grew : IfOk result (λ _. Grew (taken old) (taken new) bytes)
-  pub count : IfOk result (λ _. failed new ≡ failed old)
+  pub no_failure : IfOk result (λ _. failed new ≡ failed old)
   pub err : OnErr result ((failed new ≡ failed old + 1) × GrewFront (taken old) (taken new) bytes)

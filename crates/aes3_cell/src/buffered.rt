@@ -63,7 +63,7 @@ impl<T: Sink + Drop> BufferedSink<T> {
             ≡ followed_by (T.taken self.old.sink)
             (held self.old.start self.old.end self.old.bytes.items) }
         ensures empty { IfOk result (λ _. self.new.end ≡ 0) }
-        ensures count { IfOk result (λ _. T.failed self.new.sink ≡ T.failed self.old.sink) }
+        ensures no_failure { IfOk result (λ _. T.failed self.new.sink ≡ T.failed self.old.sink) }
         ensures err { OnErr result (T.failed self.new.sink ≡ T.failed self.old.sink + 1) }
     {
         while self.start < self.end {
@@ -85,7 +85,7 @@ impl<T: Sink + Drop> BufferedSink<T> {
             ≡ followed_by (T.taken self.old.sink)
             (held self.old.start self.old.end self.old.bytes.items) }
         ensures fits { IfOk result (λ _. self.new.end + len ≤ BUFFER_LEN) }
-        ensures count { IfOk result (λ _. T.failed self.new.sink ≡ T.failed self.old.sink) }
+        ensures no_failure { IfOk result (λ _. T.failed self.new.sink ≡ T.failed self.old.sink) }
         ensures err { OnErr result (T.failed self.new.sink ≡ T.failed self.old.sink + 1) }
     {
         if len <= BUFFER_LEN - self.end {

@@ -95,7 +95,7 @@ impl CellText {
         ensures lawful { OnSome result (IsCellText bytes.now) }
         ensures owed { IfNone result (¬ IsCellText bytes.now) }
         ensures seen { OnSome result (self.new.seen ≡ self.old.seen + 64) }
-        ensures same { IfNone result (self.new ≡ self.old) }
+        ensures unchanged { IfNone result (self.new ≡ self.old) }
     {
         let cells = cells_among(bytes)?;
         self.seen += bytes.len() as u64;
@@ -110,7 +110,7 @@ impl CellText {
         ensures owed { (word : ℕ) → word < 2 ^ 64 → bytes.now ≡ map byte_of (word_cells word)
             → result ≡ Some word }
         ensures seen { OnSome result (self.new.seen ≡ self.old.seen + 64) }
-        ensures same { IfNone result (self.new ≡ self.old) }
+        ensures unchanged { IfNone result (self.new ≡ self.old) }
     {
         let word = word_of_text(bytes)?;
         self.seen += 64;
@@ -157,7 +157,7 @@ impl CellText {
             ++ low_cells taken.rest.len taken.rest.word)) }
         ensures fault { IfErr result (λ fault. Err fault
             ≡ text_answer self.old (slice_index piece.now 0)) }
-        ensures same { OnErr result (self.new ≡ self.old) }
+        ensures unchanged { OnErr result (self.new ≡ self.old) }
     {
         let taken = feed_lines_or_chunks(self, piece, words);
         if taken.bytes > 0 {
@@ -235,7 +235,7 @@ fn feed_front(text: &mut CellText, piece: &[u8]) -> Option<u64>
     ensures bound { OnSome result (64 ≤ length piece.now) }
     ensures cells { IfSome result (λ word. take 64 piece.now ≡ map byte_of (word_cells word)) }
     ensures seen { OnSome result (text.new.seen ≡ text.old.seen + 64) }
-    ensures same { IfNone result (text.new ≡ text.old) }
+    ensures unchanged { IfNone result (text.new ≡ text.old) }
 {
     match piece.first_chunk() {
         Some(bytes) => text.feed_word(bytes),
@@ -250,7 +250,7 @@ fn feed_line(text: &mut CellText, piece: &[u8]) -> Option<(usize, u64)>
     ensures within { IfSome result (λ line. (64 ≤ line.0) × (line.0 ≤ length piece.now)) }
     ensures read { IfSome result (λ line. TextRead text.old text.new (take line.0 piece.now)
         (word_cells line.1)) }
-    ensures same { IfNone result (text.new ≡ text.old) }
+    ensures unchanged { IfNone result (text.new ≡ text.old) }
 {
     match feed_front(text, piece) {
         Some(word) => {
@@ -270,7 +270,7 @@ fn feed_any_lines(text: &mut CellText, piece: &[u8], words: &mut [u64; LINES]) -
     ensures len { length words.new ≡ 64 }
     ensures read { TextRead text.old text.new (take result.0 piece.now)
         (flat_map word_cells (take result.1 words.new)) }
-    ensures same { result.0 ≡ 0 → text.new ≡ text.old }
+    ensures unchanged { result.0 ≡ 0 → text.new ≡ text.old }
 {
     let mut at = 0;
     for count in 0..LINES {
@@ -299,7 +299,7 @@ pub(crate) fn feed_lines(
     ensures len { length words.new ≡ 64 }
     ensures read { TextRead text.old text.new (take result.0 piece.now)
         (flat_map word_cells (take result.1 words.new)) }
-    ensures same { result.0 ≡ 0 → text.new ≡ text.old }
+    ensures unchanged { result.0 ≡ 0 → text.new ≡ text.old }
 {
     let count = text.feed_lines(piece, words);
     if count == 0 {
@@ -433,7 +433,7 @@ fn feed_chunk(text: &mut CellText, piece: &[u8]) -> Option<SomeCells>
     ensures bound { OnSome result (64 ≤ length piece.now) }
     ensures read { IfSome result (λ cells. TextRead text.old text.new (take 64 piece.now)
         (low_cells cells.len cells.word)) }
-    ensures same { IfNone result (text.new ≡ text.old) }
+    ensures unchanged { IfNone result (text.new ≡ text.old) }
 {
     match piece.first_chunk() {
         Some(bytes) => text.feed_scattered(bytes),
@@ -451,7 +451,7 @@ fn feed_chunks(text: &mut CellText, piece: &[u8], words: &mut [u64; LINES]) -> T
     ensures read { TextRead text.old text.new (take result.bytes piece.now)
         (flat_map word_cells (take result.count words.new)
         ++ low_cells result.rest.len result.rest.word) }
-    ensures same { result.bytes ≡ 0 → text.new ≡ text.old }
+    ensures unchanged { result.bytes ≡ 0 → text.new ≡ text.old }
 {
     let mut bytes = 0;
     let mut count = 0;
@@ -481,7 +481,7 @@ fn feed_lines_or_chunks(text: &mut CellText, piece: &[u8], words: &mut [u64; LIN
     ensures read { TextRead text.old text.new (take result.bytes piece.now)
         (flat_map word_cells (take result.count words.new)
         ++ low_cells result.rest.len result.rest.word) }
-    ensures same { result.bytes ≡ 0 → text.new ≡ text.old }
+    ensures unchanged { result.bytes ≡ 0 → text.new ≡ text.old }
 {
     let (bytes, count) = feed_lines(text, piece, words);
     if bytes == 0 && two_lines_behind(piece).is_none() {
@@ -519,7 +519,7 @@ fn with_byte(text: &mut CellText, cells: SomeCells, byte: u8) -> Result<SomeCell
     ensures cells { IfOk result (λ more. low_cells more.len more.word
         ≡ low_cells cells.len cells.word ++ byte_cells byte) }
     ensures fault { IfErr result (λ fault. Err fault ≡ text_answer text.old byte) }
-    ensures same { OnErr result (text.new ≡ text.old) }
+    ensures unchanged { OnErr result (text.new ≡ text.old) }
 {
     text.feed_byte(byte)?;
     Ok(with_cell_of(cells, byte))
@@ -535,7 +535,7 @@ fn feed_some(text: &mut CellText, piece: &[u8]) -> Result<(usize, SomeCells), Ba
         (low_cells taken.1.len taken.1.word)) }
     ensures fault { IfErr result (λ fault. Err fault
         ≡ text_answer text.old (slice_index piece.now 0)) }
-    ensures same { OnErr result (text.new ≡ text.old) }
+    ensures unchanged { OnErr result (text.new ≡ text.old) }
 {
     let mut cells = with_byte(text, SomeCells { word: 0, len: 0 }, piece[0])?;
     let mut at = 1;
@@ -561,7 +561,7 @@ fn feed_cells(text: &mut CellText, piece: &[u8]) -> Result<(usize, SomeCells), B
         (low_cells taken.1.len taken.1.word)) }
     ensures fault { IfErr result (λ fault. Err fault
         ≡ text_answer text.old (slice_index piece.now 0)) }
-    ensures same { OnErr result (text.new ≡ text.old) }
+    ensures unchanged { OnErr result (text.new ≡ text.old) }
 {
     let (taken, cells) = feed_some(text, piece)?;
     let separators = skip_separators(text, &piece[taken..]);

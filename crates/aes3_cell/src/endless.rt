@@ -58,7 +58,7 @@ impl Source for EndlessSource {
             (Some (endless_given self.new)) (take n buf.new)) }
         ensures end { IfOk result (λ n. 0 < length buf.new
             → (n ≡ 0 ↔ IsTrue (endless_ended self.new))) }
-        ensures count { IfOk result (λ _. endless_failures self.new ≡ endless_failures self.old) }
+        ensures no_failure { IfOk result (λ _. endless_failures self.new ≡ endless_failures self.old) }
         ensures err { OnErr result ((endless_failures self.new ≡ endless_failures self.old + 1)
             × (Some (endless_given self.new) ≡ Some (endless_given self.old))) }
         ensures ok { IsOk result }

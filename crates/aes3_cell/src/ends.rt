@@ -34,7 +34,7 @@ pub trait Source {
         ensures bound { IfOk result (λ n. n ≤ length buf.new) }
         ensures bytes { IfOk result (λ n. Grew (given self.old) (given self.new) (take n buf.new)) }
         ensures end { IfOk result (λ n. 0 < length buf.new → (n ≡ 0 ↔ IsTrue (has_ended self.new))) }
-        ensures count { IfOk result (λ _. failed self.new ≡ failed self.old) }
+        ensures no_failure { IfOk result (λ _. failed self.new ≡ failed self.old) }
         ensures err { OnErr result ((failed self.new ≡ failed self.old + 1)
             × (given self.new ≡ given self.old)) };
 
@@ -62,7 +62,7 @@ pub trait Sink {
         ensures bound { IfOk result (λ n. n ≤ length buf.now) }
         ensures some { IfOk result (λ n. 0 < length buf.now → 0 < n) }
         ensures bytes { IfOk result (λ n. Grew (taken self.old) (taken self.new) (take n buf.now)) }
-        ensures count { IfOk result (λ _. failed self.new ≡ failed self.old) }
+        ensures no_failure { IfOk result (λ _. failed self.new ≡ failed self.old) }
         ensures err { OnErr result ((failed self.new ≡ failed self.old + 1)
             × (taken self.new ≡ taken self.old)) }
         ensures tells { is_some (taken self.new) ≡ is_some (taken self.old) };
@@ -72,7 +72,7 @@ pub trait Sink {
         requires room { failed self.old + 1 < 2 ^ 64 }
         ensures bytes { taken self.new ≡ taken self.old }
         ensures passed_on { IfOk result (λ _. passed self.new ≡ taken self.new) }
-        ensures count { IfOk result (λ _. failed self.new ≡ failed self.old) }
+        ensures no_failure { IfOk result (λ _. failed self.new ≡ failed self.old) }
         ensures err { OnErr result (failed self.new ≡ failed self.old + 1) };
 
     /// How often the sink has failed.
@@ -93,7 +93,7 @@ pub trait Sink {
         requires room { failed self.old + 1 < 2 ^ 64 }
         ensures cells { IfOk result (λ took. Grew (taken self.old) (taken self.new)
             (if took then bytes_of form (flat_map word_cells words.now) else [])) }
-        ensures count { IfOk result (λ _. failed self.new ≡ failed self.old) }
+        ensures no_failure { IfOk result (λ _. failed self.new ≡ failed self.old) }
         ensures err { OnErr result ((failed self.new ≡ failed self.old + 1)
             × GrewFront (taken self.old) (taken self.new)
             (bytes_of form (flat_map word_cells words.now))) }

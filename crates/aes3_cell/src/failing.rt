@@ -58,7 +58,7 @@ impl<'a> Source for FailingSource<'a> {
             (Some (given_bytes (source_within self.new))) (take n buf.new)) }
         ensures end { IfOk result (λ n. 0 < length buf.new
             → (n ≡ 0 ↔ IsTrue (source_ended (source_within self.new)))) }
-        ensures count { IfOk result (λ _. source_failures self.new ≡ source_failures self.old) }
+        ensures no_failure { IfOk result (λ _. source_failures self.new ≡ source_failures self.old) }
         ensures err { OnErr result ((source_failures self.new ≡ source_failures self.old + 1)
             × (Some (given_bytes (source_within self.new))
             ≡ Some (given_bytes (source_within self.old)))) }
@@ -135,7 +135,7 @@ impl Sink for FailingSink {
         ensures some { IfOk result (λ n. 0 < length buf.now → 0 < n) }
         ensures bytes { IfOk result (λ n. Grew (Some (taken_bytes (sink_within self.old)))
             (Some (taken_bytes (sink_within self.new))) (take n buf.now)) }
-        ensures count { IfOk result (λ _. failing_sink_failures self.new
+        ensures no_failure { IfOk result (λ _. failing_sink_failures self.new
             ≡ failing_sink_failures self.old) }
         ensures err { OnErr result ((failing_sink_failures self.new
             ≡ failing_sink_failures self.old + 1)

@@ -63,7 +63,7 @@ impl Sink for HoldingSink {
         ensures some { IfOk result (λ n. 0 < length buf.now → 0 < n) }
         ensures bytes { IfOk result (λ n. Grew (Some (taken_bytes (holding_within self.old)))
             (Some (taken_bytes (holding_within self.new))) (take n buf.now)) }
-        ensures count { IfOk result (λ _. sink_failures (holding_within self.new)
+        ensures no_failure { IfOk result (λ _. sink_failures (holding_within self.new)
             ≡ sink_failures (holding_within self.old)) }
         ensures err { OnErr result ((sink_failures (holding_within self.new)
             ≡ sink_failures (holding_within self.old) + 1)

@@ -65,12 +65,12 @@ impl<'a> Source for MemorySource<'a> {
             (Some (given_bytes self.new)) (take n buf.new)) }
         ensures end { IfOk result (λ n. 0 < length buf.new
             → (n ≡ 0 ↔ IsTrue (source_ended self.new))) }
-        ensures count { IfOk result (λ _. memory_failures self.new ≡ memory_failures self.old) }
+        ensures no_failure { IfOk result (λ _. memory_failures self.new ≡ memory_failures self.old) }
         ensures err { OnErr result ((memory_failures self.new ≡ memory_failures self.old + 1)
             × (Some (given_bytes self.new) ≡ Some (given_bytes self.old))) }
         ensures ok { IsOk result }
         ensures piece { IfOk result (λ n. n ≤ piece_of self.old) }
-        ensures same { all_bytes self.new ≡ all_bytes self.old }
+        ensures unchanged { all_bytes self.new ≡ all_bytes self.old }
     {
         let n = smallest(self.bytes.len() - self.at, buf.len(), self.piece);
         buf[..n].copy_from_slice(&self.bytes[self.at..self.at + n]);
@@ -134,7 +134,7 @@ impl Sink for MemorySink {
         ensures some { IfOk result (λ n. 0 < length buf.now → 0 < n) }
         ensures bytes { IfOk result (λ n. Grew (Some (taken_bytes self.old))
             (Some (taken_bytes self.new)) (take n buf.now)) }
-        ensures count { IfOk result (λ _. sink_failures self.new ≡ sink_failures self.old) }
+        ensures no_failure { IfOk result (λ _. sink_failures self.new ≡ sink_failures self.old) }
         ensures err { OnErr result ((sink_failures self.new ≡ sink_failures self.old + 1)
             × (Some (taken_bytes self.new) ≡ Some (taken_bytes self.old))) }
         ensures tells { is_some (Some (taken_bytes self.new))

@@ -58,7 +58,7 @@ impl Sink for ShortSink {
         ensures some { IfOk result (λ n. 0 < length buf.now → 0 < n) }
         ensures bytes { IfOk result (λ n. Grew (Some (taken_bytes (short_within self.old)))
             (Some (taken_bytes (short_within self.new))) (take n buf.now)) }
-        ensures count { IfOk result (λ _. sink_failures (short_within self.new)
+        ensures no_failure { IfOk result (λ _. sink_failures (short_within self.new)
             ≡ sink_failures (short_within self.old)) }
         ensures err { OnErr result ((sink_failures (short_within self.new)
             ≡ sink_failures (short_within self.old) + 1)
@@ -67,7 +67,7 @@ impl Sink for ShortSink {
         ensures tells { is_some (Some (taken_bytes (short_within self.new)))
             ≡ is_some (Some (taken_bytes (short_within self.old))) }
         ensures most { IfOk result (λ n. n ≡ min (length buf.now) (most_of self.old)) }
-        ensures same { most_of self.new ≡ most_of self.old }
+        ensures unchanged { most_of self.new ≡ most_of self.old }
     {
         self.inner.write(&buf[..buf.len().min(self.most)])
     }

@@ -48,7 +48,7 @@ impl<R: Reader + Drop> Source for StdSource<R> {
         ensures bound { IfOk result (λ n. n ≤ length buf.new) }
         ensures bytes { IfOk result (λ n. Grew untold untold (take n buf.new)) }
         ensures end { IfOk result (λ n. 0 < length buf.new → (n ≡ 0 ↔ IsTrue self.new.ended)) }
-        ensures count { IfOk result (λ _. self.new.failures ≡ self.old.failures) }
+        ensures no_failure { IfOk result (λ _. self.new.failures ≡ self.old.failures) }
         ensures err { OnErr result ((self.new.failures ≡ self.old.failures + 1)
             × (untold ≡ untold)) }
         ensures reads { ReadConsumes (R.left self.old.reader) (R.left self.new.reader) result
@@ -106,7 +106,7 @@ impl<W: Writer + Drop> Sink for StdSink<W> {
         ensures bound { IfOk result (λ n. n ≤ length buf.now) }
         ensures some { IfOk result (λ n. 0 < length buf.now → 0 < n) }
         ensures bytes { IfOk result (λ n. Grew untold untold (take n buf.now)) }
-        ensures count { IfOk result (λ _. self.new.failures ≡ self.old.failures) }
+        ensures no_failure { IfOk result (λ _. self.new.failures ≡ self.old.failures) }
         ensures err { OnErr result ((self.new.failures ≡ self.old.failures + 1)
             × (untold ≡ untold)) }
         ensures tells { is_some untold ≡ is_some untold }
@@ -131,7 +131,7 @@ impl<W: Writer + Drop> Sink for StdSink<W> {
         requires room { self.old.failures + 1 < 2 ^ 64 }
         ensures bytes { untold ≡ untold }
         ensures passed_on { IfOk result (λ _. untold ≡ untold) }
-        ensures count { IfOk result (λ _. self.new.failures ≡ self.old.failures) }
+        ensures no_failure { IfOk result (λ _. self.new.failures ≡ self.old.failures) }
         ensures err { OnErr result (self.new.failures ≡ self.old.failures + 1) }
         ensures flushes { IfOk result (λ _. PassedOn (W.held self.new.writer)
             (W.passed self.new.writer)) }

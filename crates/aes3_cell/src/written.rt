@@ -78,7 +78,7 @@ fn put_front<T: Sink>(form: Form, words: &[u64], sink: &mut T) -> Result<usize, 
     ensures within { IfOk result (λ n. n ≤ length words.now) }
     ensures cells { IfOk result (λ n. Grew (T.taken sink.old) (T.taken sink.new)
         (bytes_of form (flat_map word_cells (take n words.now)))) }
-    ensures count { IfOk result (λ _. T.failed sink.new ≡ T.failed sink.old) }
+    ensures no_failure { IfOk result (λ _. T.failed sink.new ≡ T.failed sink.old) }
     ensures err { OnErr result ((T.failed sink.new ≡ T.failed sink.old + 1)
         × GrewFront (T.taken sink.old) (T.taken sink.new)
         (bytes_of form (flat_map word_cells words.now))) }

@@ -62,7 +62,7 @@ impl<S: Source + Drop> Source for RawSource<S> {
         ensures bytes { IfOk result (λ n. Grew (raw_told self.old.is_counted (S.given self.old.source))
             (raw_told self.new.is_counted (S.given self.new.source)) (take n buf.new)) }
         ensures end { IfOk result (λ n. 0 < length buf.new → (n ≡ 0 ↔ IsTrue self.new.is_ended)) }
-        ensures count { IfOk result (λ _. S.failed self.new.source ≡ S.failed self.old.source) }
+        ensures no_failure { IfOk result (λ _. S.failed self.new.source ≡ S.failed self.old.source) }
         ensures err { OnErr result ((S.failed self.new.source ≡ S.failed self.old.source + 1)
             × (raw_told self.new.is_counted (S.given self.new.source)
             ≡ raw_told self.old.is_counted (S.given self.old.source))) }

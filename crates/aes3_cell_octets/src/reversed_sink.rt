@@ -70,7 +70,7 @@ impl<T: Sink + Drop> Sink for ReversedSink<T> {
         ensures some { IfOk result (λ n. 0 < length buf.now → 0 < n) }
         ensures bytes { IfOk result (λ n. Grew (all_reversed (T.taken self.old.sink))
             (all_reversed (T.taken self.new.sink)) (take n buf.now)) }
-        ensures count { IfOk result (λ _. T.failed self.new.sink ≡ T.failed self.old.sink) }
+        ensures no_failure { IfOk result (λ _. T.failed self.new.sink ≡ T.failed self.old.sink) }
         ensures err { OnErr result ((T.failed self.new.sink ≡ T.failed self.old.sink + 1)
             × (all_reversed (T.taken self.new.sink) ≡ all_reversed (T.taken self.old.sink))) }
         ensures tells { is_some (all_reversed (T.taken self.new.sink))

@@ -17,7 +17,7 @@ pub fn first_octet<S: Source>(source: &mut S) -> Result<Option<u8>, Fault>
     requires room { S.failed source.old + 1 < 2 ^ 64 }
     ensures octet { IfOk result (λ first. Grew (S.given source.old) (S.given source.new) (only first)) }
     ensures end { IfOk result (λ first. first ≡ None → IsTrue (S.has_ended source.new)) }
-    ensures count { IfOk result (λ _. S.failed source.new ≡ S.failed source.old) }
+    ensures no_failure { IfOk result (λ _. S.failed source.new ≡ S.failed source.old) }
     ensures err { OnErr result ((S.failed source.new ≡ S.failed source.old + 1)
         × (S.given source.new ≡ S.given source.old)) }
 {
@@ -88,11 +88,11 @@ impl<S: Source + Drop> ReversedSource<S> {
         ensures some { IfOk result (λ n. 0 < n) }
         ensures bytes { IfOk result (λ n. Grew (reversed_told self.old.held (S.given self.old.source))
             (reversed_told self.new.held (S.given self.new.source)) (take n buf.new)) }
-        ensures count { IfOk result (λ _. S.failed self.new.source ≡ S.failed self.old.source) }
+        ensures no_failure { IfOk result (λ _. S.failed self.new.source ≡ S.failed self.old.source) }
         ensures err { OnErr result ((S.failed self.new.source ≡ S.failed self.old.source + 1)
             × (reversed_told self.new.held (S.given self.new.source)
             ≡ reversed_told self.old.held (S.given self.old.source))) }
-        ensures same { self.new.is_ended ≡ self.old.is_ended }
+        ensures unchanged { self.new.is_ended ≡ self.old.is_ended }
     {
         let n = self.source.read(buf)?;
         if n == 0 {

@@ -22,7 +22,7 @@ pub fn put_text<T: Sink>(text: &str, sink: &mut T) -> Result<(), Fault>
     requires room { T.failed sink.old + 1 < 2 ^ 64 }
     ensures text { IfOk result (λ _. Grew (T.taken sink.old) (T.taken sink.new) text.now) }
     ensures passed_on { IfOk result (λ _. T.passed sink.new ≡ T.taken sink.new) }
-    ensures count { IfOk result (λ _. T.failed sink.new ≡ T.failed sink.old) }
+    ensures no_failure { IfOk result (λ _. T.failed sink.new ≡ T.failed sink.old) }
     ensures err { OnErr result (T.failed sink.new ≡ T.failed sink.old + 1) }
 {
     write_all(sink, text.as_bytes())?;

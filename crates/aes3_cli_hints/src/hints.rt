@@ -430,7 +430,7 @@ impl<T: Sink + Drop> Observer for Hints<T> {
     fn begins(&mut self, job: &Job)
         ensures silent { IsTrue (not (self.old.terminals.errors || self.old.names_file))
             → T.taken self.new.sink ≡ T.taken self.old.sink }
-        ensures same { not (self.new.terminals.errors || self.new.names_file)
+        ensures unchanged { not (self.new.terminals.errors || self.new.names_file)
             ≡ not (self.old.terminals.errors || self.old.names_file) }
         ensures no_terminal { IsFalse self.old.terminals.errors
             → T.taken self.new.sink ≡ T.taken self.old.sink }
@@ -450,7 +450,7 @@ impl<T: Sink + Drop> Observer for Hints<T> {
 
     fn refused(&mut self, error: Refusal)
         ensures told { T.taken self.new.sink ≡ T.taken self.old.sink }
-        ensures same { not (self.new.terminals.errors || self.new.names_file)
+        ensures unchanged { not (self.new.terminals.errors || self.new.names_file)
             ≡ not (self.old.terminals.errors || self.old.names_file) }
         ensures refusal { self.new.refusal ≡ Some error }
         ensures heard { (hearing : Hearing) → (self.old.job ≡ hearing.job)

@@ -21,14 +21,14 @@ pub trait Observer {
     /// The job is about to run.
     fn begins(&mut self, job: &Job)
         ensures silent { IsTrue (is_silent self.old) → told self.new ≡ told self.old }
-        ensures same { is_silent self.new ≡ is_silent self.old }
+        ensures unchanged { is_silent self.new ≡ is_silent self.old }
         ensures heard { (hearing : Hearing) → heard self.old hearing
             → heard self.new (with_job job.now hearing) };
 
     /// The line of this error has been written.
     fn refused(&mut self, error: Refusal)
         ensures told { told self.new ≡ told self.old }
-        ensures same { is_silent self.new ≡ is_silent self.old }
+        ensures unchanged { is_silent self.new ≡ is_silent self.old }
         ensures heard { (hearing : Hearing) → heard self.old hearing
             → heard self.new (with_refusal (Some error) hearing) };
 }

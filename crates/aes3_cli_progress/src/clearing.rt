@@ -47,7 +47,7 @@ impl<T: Sink + Drop, E: Sink + Drop> Sink for Clearing<'_, T, E> {
         ensures some { IfOk result (λ n. 0 < length buf.now → 0 < n) }
         ensures bytes { IfOk result (λ n. Grew (T.taken self.old.sink) (T.taken self.new.sink)
             (take n buf.now)) }
-        ensures count { IfOk result (λ _. T.failed self.new.sink ≡ T.failed self.old.sink) }
+        ensures no_failure { IfOk result (λ _. T.failed self.new.sink ≡ T.failed self.old.sink) }
         ensures err { OnErr result ((T.failed self.new.sink ≡ T.failed self.old.sink + 1)
             × (T.taken self.new.sink ≡ T.taken self.old.sink)) }
         ensures tells { is_some (T.taken self.new.sink) ≡ is_some (T.taken self.old.sink) }

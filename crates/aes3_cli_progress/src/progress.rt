@@ -180,7 +180,7 @@ impl<C: Clock + Drop, S: Source + Drop, T: Sink + Drop> Source for Progress<'_, 
         ensures bytes { IfOk result (λ n. Grew (S.given self.old.source) (S.given self.new.source) (take n buf.new)) }
         ensures end { IfOk result (λ n. 0 < length buf.new
             → (n ≡ 0 ↔ IsTrue (S.has_ended self.new.source))) }
-        ensures count { IfOk result (λ _. S.failed self.new.source ≡ S.failed self.old.source) }
+        ensures no_failure { IfOk result (λ _. S.failed self.new.source ≡ S.failed self.old.source) }
         ensures err { OnErr result ((S.failed self.new.source ≡ S.failed self.old.source + 1)
             × (S.given self.new.source ≡ S.given self.old.source)) }
         ensures silent { self.old.course ≡ None → T.taken self.new.sink ≡ T.taken self.old.sink }

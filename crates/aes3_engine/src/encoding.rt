@@ -80,7 +80,7 @@ fn feed_front(file: &mut BlockFile, piece: &[u8]) -> bool
     requires { file.old.seen + length piece.now ≤ 2 ^ 40 }
     ensures bound { result ≡ true → 4 ≤ length piece.now }
     ensures quiet { result ≡ true → TakesQuietly file.old (take 4 piece.now) file.new }
-    ensures same { result ≡ false → file.new ≡ file.old }
+    ensures unchanged { result ≡ false → file.new ≡ file.old }
 {
     match piece.first_chunk() {
         Some(bytes) => file.feed_word(bytes),
@@ -94,7 +94,7 @@ fn feed_block(file: &mut BlockFile, piece: &[u8]) -> Option<Block>
     ensures bound { IfSome result (λ _. BLOCK_BYTES ≤ length piece.now) }
     ensures taken { IfSome result (λ block. TakesBlock file.old (take BLOCK_BYTES piece.now)
         block file.new) }
-    ensures same { result ≡ None → file.new ≡ file.old }
+    ensures unchanged { result ≡ None → file.new ≡ file.old }
 {
     match piece.first_chunk() {
         Some(bytes) => file.feed_block(bytes),

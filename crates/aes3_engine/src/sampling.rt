@@ -105,7 +105,7 @@ fn put_samples<T: Sink>(
     ensures bytes { IfOk result (λ _. Grew (T.taken sink.old) (T.taken sink.new)
         (block_words words (rewritten change.now
         (map payload_of_sample (words_in format (take (block_len format) samples.now)))))) }
-    ensures count { IfOk result (λ _. T.failed sink.new ≡ T.failed sink.old) }
+    ensures no_failure { IfOk result (λ _. T.failed sink.new ≡ T.failed sink.old) }
     ensures err { OnErr result ((T.failed sink.new ≡ T.failed sink.old + 1)
         × GrewFront (T.taken sink.old) (T.taken sink.new)
         (block_words words (rewritten change.now

@@ -63,7 +63,7 @@ pub fn read_piece<S: Source>(source: &mut S, piece: &mut [u8], room: u64) -> Res
     ensures bytes { IfOk result (λ n. Grew (S.given source.old) (S.given source.new)
         (take n piece.new)) }
     ensures end { IfOk result (λ n. n ≡ 0 ↔ IsTrue (S.has_ended source.new)) }
-    ensures count { IfOk result (λ _. S.failed source.new ≡ S.failed source.old) }
+    ensures no_failure { IfOk result (λ _. S.failed source.new ≡ S.failed source.old) }
     ensures err { OnErr result ((S.failed source.new ≡ S.failed source.old + 1)
         × (S.given source.new ≡ S.given source.old)) }
 {
@@ -92,7 +92,7 @@ fn read_next<S: Source, T: Sink>(
     ensures bytes { IfOk result (λ n. Grew (S.given source.old) (S.given source.new)
         (take n piece.new)) }
     ensures end { IfOk result (λ n. n ≡ 0 ↔ IsTrue (S.has_ended source.new)) }
-    ensures count { IfOk result (λ _. S.failed source.new ≡ S.failed source.old) }
+    ensures no_failure { IfOk result (λ _. S.failed source.new ≡ S.failed source.old) }
     ensures err { OnErr result ((S.failed source.new ≡ S.failed source.old + 1)
         × (S.given source.new ≡ S.given source.old)) }
 {

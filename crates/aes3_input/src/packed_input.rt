@@ -126,7 +126,7 @@ fn feed_words(packed: &mut PackedIn, piece: &[u8], words: &mut [u64; WORDS]) -> 
     ensures cells { (b : List ℕ) → packed.old ≡ packed_reader_of b
         → whole_cells (b ++ take (8 * result) piece.now) ≡ whole_cells b
         ++ flat_map word_cells (take result words.new) }
-    ensures same { result ≡ 0 → packed.new ≡ packed.old }
+    ensures unchanged { result ≡ 0 → packed.new ≡ packed.old }
 {
     if packed.seen() < 2 {
         return 0;

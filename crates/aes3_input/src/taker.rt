@@ -48,8 +48,8 @@ pub trait Taker {
             → (state self.new).finished c) }
         ensures grew { IfOk result (λ _. (c : List Level) → (state self.old).follows c
             → Grew (T.taken sink.old) (T.taken sink.new) ((state self.old).writes.ends c)) }
-        ensures count { IfOk result (λ _. T.failed sink.new ≡ T.failed sink.old) }
-        ensures err_count { OnErr result (T.failed sink.new ≡ T.failed sink.old + 1) }
+        ensures no_failure { IfOk result (λ _. T.failed sink.new ≡ T.failed sink.old) }
+        ensures one_failure { OnErr result (T.failed sink.new ≡ T.failed sink.old + 1) }
         ensures err_grew { OnErr result ((c : List Level) → (state self.old).follows c
             → GrewFront (T.taken sink.old) (T.taken sink.new) ((state self.old).writes.ends c)) };
 }
@@ -145,11 +145,11 @@ pub fn cell<K: Taker, T: Sink>(taker: &mut K, sink: &mut T, level: Level) -> Res
         × (K.state taker.old).follows c }
     ensures next { IfOk result (λ _. (c : List Level) → (K.state taker.old).follows c
         → (K.state taker.new).follows (c ++ level ∷ [])) }
-    ensures same { IfOk result (λ _. (K.state taker.new).writes ≡ (K.state taker.old).writes) }
+    ensures unchanged { IfOk result (λ _. (K.state taker.new).writes ≡ (K.state taker.old).writes) }
     ensures grew { IfOk result (λ _. (c : List Level) → (K.state taker.old).follows c
         → Grew (T.taken sink.old) (T.taken sink.new) ((K.state taker.old).writes.adds c level)) }
-    ensures count { IfOk result (λ _. T.failed sink.new ≡ T.failed sink.old) }
-    ensures err_count { OnErr result (T.failed sink.new ≡ T.failed sink.old + 1) }
+    ensures no_failure { IfOk result (λ _. T.failed sink.new ≡ T.failed sink.old) }
+    ensures one_failure { OnErr result (T.failed sink.new ≡ T.failed sink.old + 1) }
     ensures err_grew { OnErr result ((c : List Level) → (K.state taker.old).follows c
         → GrewFront (T.taken sink.old) (T.taken sink.new)
         ((K.state taker.old).writes.adds c level)) }

@@ -179,7 +179,7 @@ impl Lock {
             → Follows self.new (cells ++ word_cells word) }
         ensures none { result ≡ true → (cells : List Level) → Follows self.old cells
             → decided (cells ++ word_cells word) ≡ decided cells }
-        ensures same { result ≡ false → self.new ≡ self.old }
+        ensures unchanged { result ≡ false → self.new ≡ self.old }
         ensures begins { result ≡ false → BeginsIn (drop 1 self.old.recent ++ word_cells word) }
     {
         let cells = completed(u64::from(self.recent >> 1), PREAMBLE_CELLS - 1, word);
@@ -204,7 +204,7 @@ impl Lock {
             → Follows self.new (cells ++ word_cells word) }
         ensures none { result ≡ true → (cells : List Level) → Follows self.old cells
             → decided (cells ++ word_cells word) ≡ decided cells }
-        ensures same { result ≡ false → self.new ≡ self.old }
+        ensures unchanged { result ≡ false → self.new ≡ self.old }
         ensures stops { result ≡ false → (cells : List Level) → Follows self.old cells
             → ForSome self.old.candidate (λ t. open_at (drop t.at (cells ++ word_cells word))
             ≡ false) }

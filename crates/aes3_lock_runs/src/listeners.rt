@@ -55,7 +55,7 @@ pub trait Listener {
         requires few { lock.now.seen ≤ 2 ^ 43 }
         requires following { (c d : List Level) × Heard lock.now blocks ending c d
             × follows self.old c }
-        ensures same { IfOk result (λ _. writes self.new ≡ writes self.old) }
+        ensures unchanged { IfOk result (λ _. writes self.new ≡ writes self.old) }
         ensures next { IfOk result (λ _. (c d : List Level) → Heard lock.now blocks ending c d
             → follows self.old c → follows self.new (c ++ d)) }
         ensures wrote { (c d : List Level) → Heard lock.now blocks ending c d → follows self.old c
@@ -214,7 +214,7 @@ pub trait Reporter {
         ending: Ending,
     ) -> Result<(), Fault>
         requires room { T.failed sink.old + 1 < 2 ^ 64 }
-        ensures same { IfOk result (λ _. writes self.new ≡ writes self.old) }
+        ensures unchanged { IfOk result (λ _. writes self.new ≡ writes self.old) }
         ensures next { IfOk result (λ _. (r : List Report) → blocks ≡ length (wholes r)
             → follows self.old r → follows self.new (r ++ report_in lock.now ending ∷ [])) }
         ensures wrote { (r : List Report) → blocks ≡ length (wholes r) → follows self.old r

@@ -55,7 +55,7 @@ took taken failed a b old out place inverted clear d more (Ok u) f m s w k = (
         clear = t.clear_is;
       }),
   (λ c h. grew-is (ap₂ (bytes_added old.out.form) h.held (sym (m c h)) ∙ behind-is old.out.form old.errors c d) w.grew),
-  w.count,
+  w.no_failure,
 )
 took taken failed a b old out place inverted clear d more (Err x) f m s w k = (
   w.err.0,

@@ -107,7 +107,7 @@ pub wrote-none : {A R E : Type 0} {taken : A → Option (List ℕ)} {failed : A 
 wrote-none {taken = taken} {failed = failed} {a = a} form old more new v few e =
     let n : [] ≡ bytes_added form old more =
     sym (ap (λ x. bytes_of form (whole_words x)) (sym e) ∙ ap (bytes_of form) (whole-few new few) ∙ bytes-nothing form)
-    in record { grew = grew-is n (grew-none refl); count = refl; err = tt }
+    in record { grew = grew-is n (grew-none refl); no_failure = refl; err = tt }
 
 pub wrote-word : {A R E : Type 0} {taken : A → Option (List ℕ)} {failed : A → ℕ} {a b : A} (form : Form)
     (old more rest : List Level) (word : ℕ) (r : Result R E) → length rest < 64 → old ++ more ≡ word_cells word ++ rest

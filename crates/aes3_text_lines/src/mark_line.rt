@@ -175,7 +175,7 @@ pub(crate) fn put_mark(
 ) -> usize
     requires room { length line.old ≡ MARK_LEN }
     requires upper { upper.now.number ≡ at / 10000 }
-    ensures same { length line.new ≡ MARK_LEN }
+    ensures line_len { length line.new ≡ MARK_LEN }
     ensures len { result ≤ MARK_LEN }
     ensures line { take result line.new ≡ mark_line at mark before }
 {

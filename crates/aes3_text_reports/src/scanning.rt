@@ -73,7 +73,7 @@ impl MarkLines {
         ensures fits { IfOk result (λ _. length self.new.lines + MARK_LEN ≤ GATHERED_LEN) }
         ensures wrote { IfOk result (λ _. AllButHeld (T.taken sink.old) (T.taken sink.new)
             self.old.lines self.new.lines (mark_line found.0 found.1 found.2)) }
-        ensures count { IfOk result (λ _. T.failed sink.new ≡ T.failed sink.old) }
+        ensures no_failure { IfOk result (λ _. T.failed sink.new ≡ T.failed sink.old) }
         ensures err { OnErr result ((T.failed sink.new ≡ T.failed sink.old + 1)
             × GrewFront (T.taken sink.old) (T.taken sink.new)
             (self.old.lines ++ mark_line found.0 found.1 found.2)) }
@@ -116,7 +116,7 @@ impl MarkLines {
         ensures fits { IfOk result (λ _. length self.new.lines + MARK_LEN ≤ GATHERED_LEN) }
         ensures wrote { IfOk result (λ _. AllButHeld (T.taken sink.old) (T.taken sink.new)
             self.old.lines self.new.lines (mark_lines found)) }
-        ensures count { IfOk result (λ _. T.failed sink.new ≡ T.failed sink.old) }
+        ensures no_failure { IfOk result (λ _. T.failed sink.new ≡ T.failed sink.old) }
         ensures err { OnErr result ((T.failed sink.new ≡ T.failed sink.old + 1)
             × GrewFront (T.taken sink.old) (T.taken sink.new) (self.old.lines ++ mark_lines found)) }
     {
@@ -142,8 +142,8 @@ impl MarkLines {
         ensures wrote { IfOk result (λ _. (c : List Level) → Scanned self.old.scan self.old.marks c
             → AllButHeld (T.taken sink.old) (T.taken sink.new) self.old.lines self.new.lines
             (behind marking c (word_cells word))) }
-        ensures count { IfOk result (λ _. T.failed sink.new ≡ T.failed sink.old) }
-        ensures err_count { OnErr result (T.failed sink.new ≡ T.failed sink.old + 1) }
+        ensures no_failure { IfOk result (λ _. T.failed sink.new ≡ T.failed sink.old) }
+        ensures one_failure { OnErr result (T.failed sink.new ≡ T.failed sink.old + 1) }
         ensures err_grew { OnErr result ((c : List Level) → Scanned self.old.scan self.old.marks c
             → GrewFront (T.taken sink.old) (T.taken sink.new)
             (self.old.lines ++ behind marking c (word_cells word))) }

@@ -71,8 +71,8 @@ impl Recovery {
     ) -> Result<bool, Fault>
         requires few { length words.now ≤ 64 }
         requires room { T.failed sink.old + 1 < 2 ^ 64 }
-        ensures count { IfOk result (λ _. T.failed sink.new ≡ T.failed sink.old) }
-        ensures err_count { OnErr result (T.failed sink.new ≡ T.failed sink.old + 1) }
+        ensures no_failure { IfOk result (λ _. T.failed sink.new ≡ T.failed sink.old) }
+        ensures one_failure { OnErr result (T.failed sink.new ≡ T.failed sink.old + 1) }
         ensures follows { self.old.state ≡ Following → self.new.state ≡ Following
             → self.new.figures.measured ≡ self.old.figures.measured
             → self.old.figures.measured + 1 < 2 ^ 64
@@ -174,8 +174,8 @@ impl Recovery {
         requires room { T.failed sink.old + 1 < 2 ^ 64 }
         requires still { self.old.state ≡ Still }
         requires some { 1 ≤ self.old.figures.samples }
-        ensures count { IfOk result (λ _. T.failed sink.new ≡ T.failed sink.old) }
-        ensures err_count { OnErr result (T.failed sink.new ≡ T.failed sink.old + 1) }
+        ensures no_failure { IfOk result (λ _. T.failed sink.new ≡ T.failed sink.old) }
+        ensures one_failure { OnErr result (T.failed sink.new ≡ T.failed sink.old + 1) }
         ensures recovered { (setting : Setting) (seen : List Level)
             → Recovered (T.taken sink.old) setting seen [] self.old
             → IfOk result (λ taken. Recovered (T.taken sink.new) setting
@@ -224,8 +224,8 @@ impl Recovery {
     fn wait_on<T: Sink>(&mut self, sink: &mut T, samples: u32) -> Result<(), Fault>
         requires few { samples ≤ 4096 }
         requires room { T.failed sink.old + 1 < 2 ^ 64 }
-        ensures count { IfOk result (λ _. T.failed sink.new ≡ T.failed sink.old) }
-        ensures err_count { OnErr result (T.failed sink.new ≡ T.failed sink.old + 1) }
+        ensures no_failure { IfOk result (λ _. T.failed sink.new ≡ T.failed sink.old) }
+        ensures one_failure { OnErr result (T.failed sink.new ≡ T.failed sink.old + 1) }
         ensures high { self.new.line.edges.high ≡ self.old.line.edges.high }
         ensures samples { self.new.figures.samples ≡ min (self.old.figures.samples + samples) (2 ^ 64 - 1) }
         ensures still { self.old.state ≡ Still → self.old.count ≡ 0 → self.new.state ≡ Still }
@@ -259,8 +259,8 @@ impl Recovery {
     ) -> Result<bool, Fault>
         requires few { count ≤ 4096 }
         requires room { T.failed sink.old + 1 < 2 ^ 64 }
-        ensures count { IfOk result (λ _. T.failed sink.new ≡ T.failed sink.old) }
-        ensures err_count { OnErr result (T.failed sink.new ≡ T.failed sink.old + 1) }
+        ensures no_failure { IfOk result (λ _. T.failed sink.new ≡ T.failed sink.old) }
+        ensures one_failure { OnErr result (T.failed sink.new ≡ T.failed sink.old + 1) }
         ensures up { self.old.figures.measured ≤ self.new.figures.measured }
         ensures counted { self.old.state ≡ Following → self.new.state ≡ Following
             → self.new.figures.measured ≡ self.old.figures.measured
@@ -310,8 +310,8 @@ impl Recovery {
         requires within { at < count }
         requires few { count ≤ 4096 }
         requires room { T.failed sink.old + 1 < 2 ^ 64 }
-        ensures count { IfOk result (λ _. T.failed sink.new ≡ T.failed sink.old) }
-        ensures err_count { OnErr result (T.failed sink.new ≡ T.failed sink.old + 1) }
+        ensures no_failure { IfOk result (λ _. T.failed sink.new ≡ T.failed sink.old) }
+        ensures one_failure { OnErr result (T.failed sink.new ≡ T.failed sink.old + 1) }
         ensures some { IfOk result (λ n. 1 ≤ n) }
         ensures most { IfOk result (λ n. n ≤ count - at) }
         ensures up { self.old.figures.measured ≤ self.new.figures.measured }
@@ -359,11 +359,11 @@ impl Recovery {
         requires within { at < count }
         requires few { count ≤ 4096 }
         requires room { T.failed sink.old + 1 < 2 ^ 64 }
-        ensures count { IfOk result (λ _. T.failed sink.new ≡ T.failed sink.old) }
-        ensures err_count { OnErr result (T.failed sink.new ≡ T.failed sink.old + 1) }
+        ensures no_failure { IfOk result (λ _. T.failed sink.new ≡ T.failed sink.old) }
+        ensures one_failure { OnErr result (T.failed sink.new ≡ T.failed sink.old + 1) }
         ensures most { IfOk result (λ n. n ≤ count - at) }
         ensures none { IfOk result (λ n. n ≡ 0 → (self.new ≡ self.old) × (sink.new ≡ sink.old)) }
-        ensures same { self.new.state ≡ self.old.state }
+        ensures unchanged { self.new.state ≡ self.old.state }
         ensures measured { self.new.figures.measured ≡ self.old.figures.measured }
         ensures counted { (before : Level) → level_if high ≡ other before
             → IfOk result (λ n. RunsCounted T.taken self.old.line self.new.line sink.old sink.new before

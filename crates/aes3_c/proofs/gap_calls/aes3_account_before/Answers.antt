@@ -21,8 +21,8 @@ pub returns-in-Some-next-clause-none : goal.returns-in-Some-next-clause-none
 returns-in-Some-next-clause-none c = λ k.
     some-kind c.args.report.now c.ending_of.result c.in-Some.ending c.ending_of.ensures c.in-Some.is k
 
-pub returns-in-Some-next-clause-same : goal.returns-in-Some-next-clause-same
-returns-in-Some-next-clause-same c = λ k.
+pub returns-in-Some-next-clause-unchanged : goal.returns-in-Some-next-clause-unchanged
+returns-in-Some-next-clause-unchanged c = λ k.
     some-kind c.args.report.now c.ending_of.result c.in-Some.ending c.ending_of.ensures c.in-Some.is k
 
 pub returns-in-None-clause-report : goal.returns-in-None-clause-report
@@ -37,6 +37,6 @@ returns-in-None-clause-report c = λ _ block x is cells e t n.
           (search (rules, subst (λ (y : Report). ComesNext cells e y) (sym same) n)),
     ))
 
-pub returns-in-None-clause-same : goal.returns-in-None-clause-same
-returns-in-None-clause-same c = λ k.
+pub returns-in-None-clause-unchanged : goal.returns-in-None-clause-unchanged
+returns-in-None-clause-unchanged c = λ k.
     some-kind c.args.report.now c.ending_of.result c.in-Some.ending c.ending_of.ensures c.in-Some.is k

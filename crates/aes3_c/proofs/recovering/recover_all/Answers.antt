@@ -27,7 +27,7 @@ loop-piece-preserved g c =
     record {
       within = omega (arith, long, enough);
       places = omega (arith, places);
-      quiet = c.in_ok-feed.ensures.count ∙ v.quiet;
+      quiet = c.in_ok-feed.ensures.no_failure ∙ v.quiet;
       took = λ bit. took-join
           (sym (levels-more c.args.unit samples at 4032 v.within v.places))
           (v.took bit)

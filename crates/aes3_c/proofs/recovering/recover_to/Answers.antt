@@ -18,7 +18,7 @@ given c =
     (λ w form known. c.new-recovery.ensures.recovered w form (known ∙ sym c.known_of.ensures))
     (λ w form known none. c.new-recovery.ensures.awaits w form (known ∙ sym c.known_of.ensures)
     (c.known_of.ensures ∙ none))
-    (ok-unless c.recover_all.result c.recover_all.ensures.err_count (c.recover_all.ensures.ran
+    (ok-unless c.recover_all.result c.recover_all.ensures.one_failure (c.recover_all.ensures.ran
     (subst (λ (u : Unit). bit_of_line u < bits_of_sample u) (sym unit) (unit-has-bit c.args.unit c.args.bit)))))
 
 pub returns-clause-same_reference : goal.returns-clause-same_reference

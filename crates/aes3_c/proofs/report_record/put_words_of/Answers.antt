@@ -8,7 +8,7 @@ pub returns-clause-words : goal.returns-clause-words
 returns-clause-words c =
     let n = block_subframes_384 in
     let k = c.words.ensures.count in
-    c.put_words.ensures.same
+    c.put_words.ensures.copied
     ∙ sym (words-of-payloads c.words.result.now (λ i h. c.put_words.ensures.fits i (omega arith))
     (λ i h. c.words.ensures.lawful i (omega arith)))
     ∙ ap (map word_of) c.words.ensures.payloads

@@ -20,7 +20,7 @@ returns-clause-ended g c = λ is. record {
             (ended-octets (λ s. Some (told ++ s.given.octets)) old now c.new-sink.result sink told (told ++ owed_in sink.owed) []
             (ap (λ l. Some (told ++ l)) c.new-sink.ensures.none ∙ ap Some (append-nil told))
             (ap (λ l. Some (told ++ l)) (sym (sink.owes c.if-not-fits.false)))
-            (ok-unless c.finish.result c.finish.ensures.err_count
+            (ok-unless c.finish.result c.finish.ensures.one_failure
             (ran-over c.finish.result old now c.new-sink.result sink
             (took-none (λ s. Some (told ++ s.given.octets)) old c.new-sink.result)
             c.finish.ensures.samples c.finish.ensures.recovered c.finish.ensures.up c.finish.ensures.begun
@@ -40,7 +40,7 @@ returns-then-not-fits-clause-many g c = λ _. record {
         subst (λ (r : Recovery). EndedOctets r now told (told ++ sink.given.octets) []) (c.of_parts-recovery.ensures first kept)
             (ended-octets (λ s. Some (told ++ s.given.octets)) old now c.new-sink.result sink told (told ++ sink.given.octets) []
             (ap (λ l. Some (told ++ l)) c.new-sink.ensures.none ∙ ap Some (append-nil told)) refl
-            (ok-unless c.finish.result c.finish.ensures.err_count
+            (ok-unless c.finish.result c.finish.ensures.one_failure
             (ran-over c.finish.result old now c.new-sink.result sink
             (took-none (λ s. Some (told ++ s.given.octets)) old c.new-sink.result)
             c.finish.ensures.samples c.finish.ensures.recovered c.finish.ensures.up c.finish.ensures.begun

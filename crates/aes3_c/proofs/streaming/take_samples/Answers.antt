@@ -20,7 +20,7 @@ returns-clause-took g c = λ is. record {
             (took-octets _ c.of_parts-recovery.result now c.new-sink.result sink told (told ++ owed_in sink.owed) levels
             (ap (λ l. Some (told ++ l)) c.new-sink.ensures.none ∙ ap Some (append-nil told))
             (ap (λ l. Some (told ++ l)) (sym (sink.owes c.if-not-fits.false)))
-            (ok-unless c.feed.result c.feed.ensures.err_count (c.feed.ensures.took c.requires.bit))),
+            (ok-unless c.feed.result c.feed.ensures.one_failure (c.feed.ensures.took c.requires.bit))),
       );
 }
 
@@ -37,7 +37,7 @@ returns-then-not-fits-clause-many g c = λ _. record {
             (took-octets (λ s. Some (told ++ s.given.octets)) c.of_parts-recovery.result now c.new-sink.result sink told
             (told ++ sink.given.octets) levels
             (ap (λ l. Some (told ++ l)) c.new-sink.ensures.none ∙ ap Some (append-nil told)) refl
-            (ok-unless c.feed.result c.feed.ensures.err_count (c.feed.ensures.took c.requires.bit))),
+            (ok-unless c.feed.result c.feed.ensures.one_failure (c.feed.ensures.took c.requires.bit))),
         sink.many c.if-not-fits.true,
       );
 }

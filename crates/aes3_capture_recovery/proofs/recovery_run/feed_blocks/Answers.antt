@@ -27,7 +27,7 @@ loop-block-preserved g c =
     record {
       within = omega (arith, long, enough);
       places = omega (arith, places);
-      quiet = c.in_ok-feed_block.ensures.count ∙ v.quiet;
+      quiet = c.in_ok-feed_block.ensures.no_failure ∙ v.quiet;
       took = λ bit. took-join
           (sym (levels-more c.args.unit piece at 4096 v.within v.places))
           (v.took bit)

@@ -31,7 +31,7 @@ loop-octets-preserved g c =
     record {
       within = omega (arith, long, enough);
       places = omega (arith, places);
-      quiet = c.in_ok-take.ensures.count ∙ v.quiet;
+      quiet = c.in_ok-take.ensures.no_failure ∙ v.quiet;
       took = λ bit. took-join
           (sym (levels-more c.args.unit piece at 64 v.within v.places))
           (v.took bit)

@@ -97,8 +97,8 @@ pieces-preserved g c =
         | else-kept-eq1+else-is_due w ↦ ap length w.piece-is ∙ long
       ];
       part = omega (arith, part, bits, few);
-      quiet_source = c.in-Ok.ensures.count ∙ v.quiet_source;
-      quiet_sink = c.in-Ok-pass_on.ensures.count ∙ c.in-Ok-feed_blocks.ensures.count ∙ v.quiet_sink;
+      quiet_source = c.in-Ok.ensures.no_failure ∙ v.quiet_source;
+      quiet_sink = c.in-Ok-pass_on.ensures.no_failure ∙ c.in-Ok-feed_blocks.ensures.no_failure ∙ v.quiet_sink;
       passed = λ h. c.in-Ok-pass_on.ensures.passed;
       gone = λ h. c.in-Ok-pass_on.ensures.passed;
       upto = upto-piece c.pieces.piece piece c.if-kept-eq1.piece kept n size _ _ v.upto c.in-Ok.ensures.octets

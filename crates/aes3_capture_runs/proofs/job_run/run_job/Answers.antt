@@ -74,6 +74,6 @@ returns-in-Err-clause-ran g c =
           c.say_refusal.result (Err c.in-Err.refusal)) c.unit_of_job-unit.ensures.unit
           (refused job c.args.found c.unit_of_job-unit.result read.octets ended g.T.Sink.taken c.new-recovery.result
           run.new.recovery c.args.sink.now run.new.sink c.unit_of_job-unit.ensures.bit new source messages _ _
-          c.say_refusal.result c.in-Err.refusal read.ran c.in-Err.ensures.err_count c.say_refusal.ensures.status
+          c.say_refusal.result c.in-Err.refusal read.ran c.in-Err.ensures.one_failure c.say_refusal.ensures.status
           (grew-said job c.args.found _ _ _ _ _ _ grown (refusal_text c.in-Err.refusal) c.say_refusal.ensures.text));
     }

@@ -17,7 +17,7 @@ returns-in_err-at g c =
     let error = err_from_is_err_and c.from_residual.result c.from_residual.ensures.1 in
     rw error.1 (record {
       grew = tt;
-      count = tt;
+      no_failure = tt;
       err = (
         search rules,
         front-is (take-append-drop c.loop-at.at c.args.bytes.now)

@@ -15,7 +15,7 @@ pub loop-word-preserved : goal.loop-word-preserved
 loop-word-preserved g c = record {
   grew = grew-is (bytes-words c.args.form c.args.words.now c.loop-word.word-index c.loop-word-test.true)
       (grew-join c.loop-word.invariant.grew c.in_ok-put_word.ensures.grew);
-  quiet = c.in_ok-put_word.ensures.count ∙ c.loop-word.invariant.quiet;
+  quiet = c.in_ok-put_word.ensures.no_failure ∙ c.loop-word.invariant.quiet;
 }
 
 pub returns-in_err-put_word : goal.returns-in_err-put_word
@@ -25,7 +25,7 @@ returns-in_err-put_word g c =
     let error = err_from_is_err_and c.from_residual.result c.from_residual.ensures.1 in
     rw error.1 (record {
       grew = tt;
-      count = tt;
+      no_failure = tt;
       err = (
         c.in_err-put_word.ensures.err.0 ∙ ap (λ n. n + 1) c.loop-word.invariant.quiet,
         front-is (bytes-split c.args.form words (i + 1) (omega arith))

@@ -32,7 +32,7 @@ loop-many-preserved g c =
       grew = grew-is (bytes-block c.args.form words at 16 within)
           (grew-join c.loop-many.invariant.grew
           (grew-is many (rw c.if-not-branch.false at c.in_ok-put_many.ensures.cells)));
-      quiet = c.in_ok-put_many.ensures.count ∙ c.loop-many.invariant.quiet;
+      quiet = c.in_ok-put_many.ensures.no_failure ∙ c.loop-many.invariant.quiet;
     }
 
 pub returns-then-not-branch-clause-cells : goal.returns-then-not-branch-clause-cells
@@ -62,11 +62,11 @@ returns-in_err-put_many-clause-err g c =
 pub returns-in_default-clause-cells : goal.returns-in_default-clause-cells
 returns-in_default-clause-cells g c = c.loop-many.invariant.grew
 
-pub returns-in_default-clause-count : goal.returns-in_default-clause-count
-returns-in_default-clause-count g c = c.loop-many.invariant.quiet
+pub returns-in_default-clause-no_failure : goal.returns-in_default-clause-no_failure
+returns-in_default-clause-no_failure g c = c.loop-many.invariant.quiet
 
-pub returns-then-not-branch-clause-count : goal.returns-then-not-branch-clause-count
-returns-then-not-branch-clause-count g c = c.in_ok-put_many.ensures.count ∙ c.loop-many.invariant.quiet
+pub returns-then-not-branch-clause-no_failure : goal.returns-then-not-branch-clause-no_failure
+returns-then-not-branch-clause-no_failure g c = c.in_ok-put_many.ensures.no_failure ∙ c.loop-many.invariant.quiet
 
 pub put_many-requires : goal.put_many-requires
 put_many-requires g c = let quiet = c.loop-many.invariant.quiet in record { room = omega (arith, quiet, c.requires) }

@@ -14,5 +14,5 @@ returns g c =
     let rest = ap (λ w. bytes_of c.args.form (flat_map word_cells w))
     (between_to_end words n (length words) (omega arith)) in
     wrote-is (bytes-split c.args.form words n c.in_ok-written.ensures.within)
-    (wrote-behind c.put_each.result c.in_ok-written.ensures.count c.in_ok-written.ensures.cells
+    (wrote-behind c.put_each.result c.in_ok-written.ensures.no_failure c.in_ok-written.ensures.cells
     (wrote-is rest c.put_each.ensures))

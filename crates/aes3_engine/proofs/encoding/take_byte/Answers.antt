@@ -28,7 +28,7 @@ returns-in-Ok g c = (
       (sym (c.in-Ok-Some.is ∙ ap (λ o. Ok o) c.in-Ok-Some.field-0-is)
       ∙ c.feed_byte.ensures.answer) c.feed_byte.ensures.next
       (rw (← c.in-Ok-Some.block-is) c.in-Ok.ensures.grew),
-  c.in-Ok.ensures.count,
+  c.in-Ok.ensures.no_failure,
 )
 
 pub returns-in-Err-put_cells : goal.returns-in-Err-put_cells

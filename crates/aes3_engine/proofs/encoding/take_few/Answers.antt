@@ -32,7 +32,7 @@ returns-in_err-take_byte g c =
     (g.T.Sink.taken c.take_byte.new.sink) (g.T.Sink.failed c.take_byte.new.sink)
     (get_or xs 0 0 ∷ []) (drop 1 xs) xs _
     (bytes-quiet c.args.encoder.now.output c.args.file.now c.feed_front.new.file [] (g.T.Sink.taken c.args.sink.now)
-    (c.feed_front.ensures.same c.if-feed_front.false))
+    (c.feed_front.ensures.unchanged c.if-feed_front.false))
     refl (sym (drop-cons xs 0 0 (omega arith))) c.in_err-take_byte.ensures)
 
 pub take_byte-requires-clause-following : goal.take_byte-requires-clause-following
@@ -40,7 +40,7 @@ take_byte-requires-clause-following g c =
     let q = c.requires.following in
     let l = q.1 in
     let k = c.requires.some in
-    let e = c.feed_front.ensures.same c.if-feed_front.false in
+    let e = c.feed_front.ensures.unchanged c.if-feed_front.false in
     (q.0, omega arith, subst (λ f. Encodes f c.args.encoder.now.blocks q.0) (sym e) q.2)
 
 pub returns : goal.returns
@@ -48,7 +48,7 @@ returns g c =
     let xs = c.args.piece.now in
     let k = c.requires.some in
     let f = c.feed_front.new.file in
-    let e = c.feed_front.ensures.same c.if-feed_front.false in
+    let e = c.feed_front.ensures.unchanged c.if-feed_front.false in
     let q = bytes-quiet c.args.encoder.now.output c.args.file.now f [] (g.T.Sink.taken c.args.sink.now) e in (
       omega arith,
       omega arith,

@@ -14,7 +14,7 @@ pub frames-preserved : goal.frames-preserved
 frames-preserved g c = record {
   grew = grew-is (sym (repeated-more c.frames._written c.args.frame.now))
       (grew-join c.frames.invariant.grew c.in_ok-write_all.ensures.grew);
-  quiet = c.in_ok-write_all.ensures.count ∙ c.frames.invariant.quiet;
+  quiet = c.in_ok-write_all.ensures.no_failure ∙ c.frames.invariant.quiet;
 }
 
 pub returns-in_err-write_all : goal.returns-in_err-write_all
@@ -22,7 +22,7 @@ returns-in_err-write_all g c =
     let p = err_from_is_err_and c.from_residual.result c.from_residual.ensures.1 in
     rw p.1 (record {
       grew = tt;
-      count = tt;
+      no_failure = tt;
       err = (
         c.in_err-write_all.ensures.err.0 ∙ ap (λ n. n + 1) c.frames.invariant.quiet,
         front-is (repeated-rest c.frames._written c.args.count c.args.frame.now (omega arith))

@@ -18,9 +18,9 @@ returns-in_err-put_channel g c =
     let e = c.in_err-put_channel.ensures.err in
     rw p.1 (record {
       grew = tt;
-      count = tt;
+      no_failure = tt;
       err = (
-        e.0 ∙ ap (λ n. n + 1) c.in_ok-write_all.ensures.count,
+        e.0 ∙ ap (λ n. n + 1) c.in_ok-write_all.ensures.no_failure,
         front-is (append_assoc (head c.args.notation f) a (b ++ closing c.args.notation) ∙ page-is c.args.notation f)
             (front-more (front-join h e.1) (b ++ closing c.args.notation)),
       );
@@ -37,9 +37,9 @@ returns-in_err-put_channel-2 g c =
     let e = c.in_err-put_channel-2.ensures.err in
     rw p.1 (record {
       grew = tt;
-      count = tt;
+      no_failure = tt;
       err = (
-        e.0 ∙ ap (λ n. n + 1) (c.in_ok-put_channel.ensures.count ∙ c.in_ok-write_all.ensures.count),
+        e.0 ∙ ap (λ n. n + 1) (c.in_ok-put_channel.ensures.no_failure ∙ c.in_ok-write_all.ensures.no_failure),
         front-is (four-parts (head c.args.notation f) a b (closing c.args.notation) ∙ page-is c.args.notation f)
             (front-more (front-join (grew-join h c.in_ok-put_channel.ensures.grew) e.1) (closing c.args.notation)),
       );
@@ -53,6 +53,6 @@ returns g c =
     let h = grew-is (c.as_bytes.ensures ∙ c.head_of.ensures.text) c.in_ok-write_all.ensures.grew in
     wrote-is (four-parts (head c.args.notation f) a b (closing c.args.notation) ∙ page-is c.args.notation f)
     (wrote-behind c.write_all-2.result
-    (c.in_ok-put_channel-2.ensures.count ∙ c.in_ok-put_channel.ensures.count ∙ c.in_ok-write_all.ensures.count)
+    (c.in_ok-put_channel-2.ensures.no_failure ∙ c.in_ok-put_channel.ensures.no_failure ∙ c.in_ok-write_all.ensures.no_failure)
     (grew-join (grew-join h c.in_ok-put_channel.ensures.grew) c.in_ok-put_channel-2.ensures.grew)
     (wrote-is (c.as_bytes-2.ensures.value ∙ c.closing.ensures.text) c.write_all-2.ensures))

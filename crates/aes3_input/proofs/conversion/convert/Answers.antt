@@ -30,7 +30,7 @@ returns-then-n-eq0-clause-run g c =
     ran-end c.args.max_bytes (g.I.Input.state c.args.input.now c.args.taker.now)
     (g.I.Input.state c.pieces.input c.pieces.taker)
     (g.I.Input.state c.finish.new.input c.finish.new.taker) _ _ _ _ _ _ _
-    v.upto c.requires.start v.short (c.in-Ok.ensures.count ∙ v.quiet_source) v.quiet_sink
+    v.upto c.requires.start v.short (c.in-Ok.ensures.no_failure ∙ v.quiet_source) v.quiet_sink
     (grew-is (ap (λ z. take z c.read_next.new.piece) c.if-n-eq0.true) c.in-Ok.ensures.bytes)
     (c.in-Ok.ensures.end.0 c.if-n-eq0.true) c.in_ok-finish.ensures.ran
 
@@ -41,7 +41,7 @@ returns-in_err-finish-clause-run g c =
     rw (error.1, error.2) (ran-end_err c.args.max_bytes (g.I.Input.state c.args.input.now c.args.taker.now)
     (g.I.Input.state c.pieces.input c.pieces.taker)
     (g.I.Input.state c.finish.new.input c.finish.new.taker) _ _ _ _ _ _ _ _
-    v.upto c.requires.start v.short (c.in-Ok.ensures.count ∙ v.quiet_source) v.quiet_sink
+    v.upto c.requires.start v.short (c.in-Ok.ensures.no_failure ∙ v.quiet_source) v.quiet_sink
     (grew-is (ap (λ z. take z c.read_next.new.piece) c.if-n-eq0.true) c.in-Ok.ensures.bytes)
     (c.in-Ok.ensures.end.0 c.if-n-eq0.true) c.in_err-finish.ensures.ran)
 
@@ -53,7 +53,7 @@ returns-in_err-feed-clause-run g c =
     rw (error.1, error.2) (ran-piece c.args.max_bytes (g.I.Input.state c.args.input.now c.args.taker.now)
     (g.I.Input.state c.pieces.input c.pieces.taker) (g.I.Input.state c.feed.new.input c.feed.new.taker) _ _ _ _ _ _ _
     c.in-Ok.n c.allowed_of-allowed.result room c.read_next.new.piece _
-    v.upto c.requires.start v.short (c.in-Ok.ensures.count ∙ v.quiet_source) v.quiet_sink
+    v.upto c.requires.start v.short (c.in-Ok.ensures.no_failure ∙ v.quiet_source) v.quiet_sink
     c.in-Ok.ensures.bytes refl c.in-Ok.ensures.bound.1 c.in-Ok.ensures.bound.0 c.allowed_of-allowed.ensures.last
     c.allowed_of-allowed.ensures.all c.in_err-feed.ensures.ran)
 
@@ -65,7 +65,7 @@ returns-then-seen-max_bytes-clause-run g c =
     (g.I.Input.state c.pieces.input c.pieces.taker)
     (g.I.Input.state c.feed.new.input c.feed.new.taker) (g.S.Source.has_ended c.read_next.new.source) _ _ _ _ _
     c.in-Ok.n c.allowed_of-allowed.result room c.read_next.new.piece
-    v.upto c.requires.start v.short (c.in-Ok.ensures.count ∙ v.quiet_source) v.quiet_sink c.in_ok-feed.ensures.ran.1
+    v.upto c.requires.start v.short (c.in-Ok.ensures.no_failure ∙ v.quiet_source) v.quiet_sink c.in_ok-feed.ensures.ran.1
     c.in-Ok.ensures.bytes refl c.in-Ok.ensures.bound.1 c.in-Ok.ensures.bound.0 c.allowed_of-allowed.ensures.last
     c.allowed_of-allowed.ensures.all (omega arith) c.in_ok-feed.ensures.ran.0
 
@@ -81,7 +81,7 @@ pieces-preserved g c =
     record {
       upto = rw k at u;
       short = omega arith;
-      quiet_source = c.in-Ok.ensures.count ∙ v.quiet_source;
+      quiet_source = c.in-Ok.ensures.no_failure ∙ v.quiet_source;
       quiet_sink = c.in_ok-feed.ensures.ran.1 ∙ v.quiet_sink;
       passed = λ _. c.in_ok-feed.ensures.passed_on;
       gone = λ _. c.in_ok-feed.ensures.passed_on;
@@ -123,11 +123,11 @@ returns-then-n-eq0-clause-passed_before g c = λ e h. c.in_ok-finish.ensures.pas
 
 pub returns-in_err-finish-clause-passed_before : goal.returns-in_err-finish-clause-passed_before
 returns-in_err-finish-clause-passed_before g c =
-    λ e h. absurd (let q = c.in-Ok.ensures.count ∙ c.pieces.invariant.quiet_source in omega arith)
+    λ e h. absurd (let q = c.in-Ok.ensures.no_failure ∙ c.pieces.invariant.quiet_source in omega arith)
 
 pub returns-in_err-feed-clause-passed_before : goal.returns-in_err-feed-clause-passed_before
 returns-in_err-feed-clause-passed_before g c =
-    λ e h. absurd (let q = c.in-Ok.ensures.count ∙ c.pieces.invariant.quiet_source in omega arith)
+    λ e h. absurd (let q = c.in-Ok.ensures.no_failure ∙ c.pieces.invariant.quiet_source in omega arith)
 
 pub returns-then-seen-max_bytes-clause-passed_before : goal.returns-then-seen-max_bytes-clause-passed_before
 returns-then-seen-max_bytes-clause-passed_before g c = λ e h. c.in_ok-feed.ensures.passed_on

@@ -7,7 +7,7 @@ returns-in-Ok-clause-ran g c =
     (g.I.Input.state c.finish.new.self c.finish.new.taker)
     (g.T.Sink.taken c.args.sink.now) (g.T.Sink.taken c.finish.new.sink) (g.T.Sink.taken c.flush.new.self)
     (g.T.Sink.failed c.args.sink.now) (g.T.Sink.failed c.finish.new.sink) (g.T.Sink.failed c.flush.new.self)
-    c.flush.ensures.bytes c.in-Ok.ensures.count c.in_ok-finish.ensures
+    c.flush.ensures.bytes c.in-Ok.ensures.no_failure c.in_ok-finish.ensures
 
 pub returns-in-Err-clause-ran : goal.returns-in-Err-clause-ran
 returns-in-Err-clause-ran g c =

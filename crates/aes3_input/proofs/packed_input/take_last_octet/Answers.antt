@@ -22,8 +22,8 @@ returns g c =
     (g.T.Sink.taken c.finish.new.sink)
     (g.T.Sink.failed c.args.sink.now) (g.T.Sink.failed c.take_octet_cells.new.sink) (g.T.Sink.failed c.finish.new.sink)
     c.finish.result
-    c.in_ok-take_octet_cells.ensures c.finish.ensures.done c.finish.ensures.grew c.finish.ensures.count
-    c.finish.ensures.err_count c.finish.ensures.err_grew
+    c.in_ok-take_octet_cells.ensures c.finish.ensures.done c.finish.ensures.grew c.finish.ensures.no_failure
+    c.finish.ensures.one_failure c.finish.ensures.err_grew
 
 pub returns-in_err-take_octet_cells : goal.returns-in_err-take_octet_cells
 returns-in_err-take_octet_cells g c =

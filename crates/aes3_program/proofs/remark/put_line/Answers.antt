@@ -9,7 +9,7 @@ pub returns : goal.returns
 returns g c =
     wrote-is (ap (λ head. head ++ (c.args.text.now ++ c.args.remedy.now)) c.head.ensures
     ∙ line-joined c.args.channel c.args.text.now c.args.remedy.now)
-    (wrote-behind c.put_rest.result c.in_ok-write_to.ensures.count c.in_ok-write_to.ensures.grew c.put_rest.ensures)
+    (wrote-behind c.put_rest.result c.in_ok-write_to.ensures.no_failure c.in_ok-write_to.ensures.grew c.put_rest.ensures)
 
 pub returns-in_err-write_to : goal.returns-in_err-write_to
 returns-in_err-write_to g c =
@@ -17,7 +17,7 @@ returns-in_err-write_to g c =
     let f = c.in_err-write_to.ensures.err in
     rw p.1 (record {
       grew = tt;
-      count = tt;
+      no_failure = tt;
       err = (
         f.0,
         front-is (line-joined c.args.channel c.args.text.now c.args.remedy.now)

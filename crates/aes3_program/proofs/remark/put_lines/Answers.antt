@@ -23,7 +23,7 @@ lines-preserved g c =
           (grew-join {x = before} c.lines.invariant.grew
           (grew-is (ap (untaken_line c.args.channel c.args.settings.now c.args.taken.now c.lines.at) text)
           (search (rules, c.in_ok-put_if_untaken.ensures.grew))));
-      quiet = c.in_ok-put_if_untaken.ensures.count ∙ c.lines.invariant.quiet;
+      quiet = c.in_ok-put_if_untaken.ensures.no_failure ∙ c.lines.invariant.quiet;
     }
 
 pub returns-in_err-put_if_untaken : goal.returns-in_err-put_if_untaken
@@ -38,7 +38,7 @@ returns-in_err-put_if_untaken g c =
     let f = c.in_err-put_if_untaken.ensures.err in
     rw p.1 (record {
       grew = tt;
-      count = tt;
+      no_failure = tt;
       err = (
         f.0 ∙ ap (λ n. n + 1) c.lines.invariant.quiet,
         front-is more.1
@@ -56,6 +56,6 @@ returns g c =
     record {
       grew = grew-is (ap (untaken_lines c.args.channel c.args.settings.now c.args.taken.now 0)
           (take_all c.lines.at texts (omega (arith, len)))) c.lines.invariant.grew;
-      count = c.lines.invariant.quiet;
+      no_failure = c.lines.invariant.quiet;
       err = tt;
     }

@@ -12,7 +12,7 @@ returns g c =
     met_lines 1 (map (λ text. text.now) first) c.args.first.now
     ++ met_lines 2 (map (λ text. text.now) second) c.args.second.now)
     c.as_slice.ensures.value (search (rules, c.as_slice-2.ensures.value)))
-    (wrote-behind c.put_untaken-2.result c.in_ok-put_untaken.ensures.count c.in_ok-put_untaken.ensures.grew
+    (wrote-behind c.put_untaken-2.result c.in_ok-put_untaken.ensures.no_failure c.in_ok-put_untaken.ensures.grew
     c.put_untaken-2.ensures)
 
 pub returns-in_err-put_untaken : goal.returns-in_err-put_untaken
@@ -21,7 +21,7 @@ returns-in_err-put_untaken g c =
     let f = c.in_err-put_untaken.ensures.err in
     rw p.1 (record {
       grew = tt;
-      count = tt;
+      no_failure = tt;
       err = (
         f.0,
         front-more (front-is (ap (λ (first : List (Bor (List ℕ))).

@@ -6,7 +6,7 @@ use Rattle.aes3_program.proofs.remark.put_unsaid.Goals as goal
 
 pub returns : goal.returns
 returns g c =
-    wrote-behind c.put_unsaid_width.result c.in_ok-put_unsaid_rate.ensures.count c.in_ok-put_unsaid_rate.ensures.grew
+    wrote-behind c.put_unsaid_width.result c.in_ok-put_unsaid_rate.ensures.no_failure c.in_ok-put_unsaid_rate.ensures.grew
     c.put_unsaid_width.ensures
 
 pub returns-in_err-put_unsaid_rate : goal.returns-in_err-put_unsaid_rate
@@ -15,6 +15,6 @@ returns-in_err-put_unsaid_rate g c =
     let f = c.in_err-put_unsaid_rate.ensures.err in
     rw p.1 (record {
       grew = tt;
-      count = tt;
+      no_failure = tt;
       err = (f.0, front-more f.1 (unsaid_width_line c.args.unsaid.now.bits));
     })

@@ -8,7 +8,7 @@ use Rattle.aes3_program.proofs.remark.put_wave.Goals as goal
 
 pub returns : goal.returns
 returns g c =
-    wrote-behind c.put_settings.result c.in_ok-put_unsaid.ensures.count c.in_ok-put_unsaid.ensures.grew c.put_settings.ensures
+    wrote-behind c.put_settings.result c.in_ok-put_unsaid.ensures.no_failure c.in_ok-put_unsaid.ensures.grew c.put_settings.ensures
 
 pub returns-in_err-put_unsaid : goal.returns-in_err-put_unsaid
 returns-in_err-put_unsaid g c =
@@ -16,7 +16,7 @@ returns-in_err-put_unsaid g c =
     let f = c.in_err-put_unsaid.ensures.err in
     rw p.1 (record {
       grew = tt;
-      count = tt;
+      no_failure = tt;
       err = (
         f.0,
         front-more f.1 (met_lines 1 (texts_of c.args.typed.now.first) c.args.first.now

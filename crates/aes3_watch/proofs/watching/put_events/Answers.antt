@@ -15,7 +15,7 @@ returns-in_err-line_of_event g c =
     let f = c.in_err-line_of_event.ensures.err in
     rw p.1 (record {
       grew = tt;
-      count = tt;
+      no_failure = tt;
       err = (
         f.0 ∙ ap (λ n. n + 1) c.loop-event.invariant.quiet,
         front-is (split-lines style es k _ (omega arith))
@@ -27,7 +27,7 @@ pub loop-event-preserved : goal.loop-event-preserved
 loop-event-preserved g c = record {
   grew = grew-is (more-lines c.args.style.now c.args.events.now c.loop-event.event-index _ (omega arith))
       (grew-join c.loop-event.invariant.grew c.in_ok-line_of_event.ensures.grew);
-  quiet = c.in_ok-line_of_event.ensures.count ∙ c.loop-event.invariant.quiet;
+  quiet = c.in_ok-line_of_event.ensures.no_failure ∙ c.loop-event.invariant.quiet;
 }
 
 pub returns : goal.returns
@@ -36,6 +36,6 @@ returns g c =
     record {
       grew = grew-is (ap (event_lines c.args.style.now) (take_all c.loop-event.event-index es (omega arith)))
           c.loop-event.invariant.grew;
-      count = c.loop-event.invariant.quiet;
+      no_failure = c.loop-event.invariant.quiet;
       err = tt;
     }

@@ -11,7 +11,7 @@ use Rattle.aes3_capture_places.proofs.places.Places.take.Goals as goal
 pub returns-then-mark-saturating_add-clause-placed : goal.returns-then-mark-saturating_add-clause-placed
 returns-then-mark-saturating_add-clause-placed c = λ bit known levels room placed.
     let more = levels_of_samples c.args.unit c.args.piece.now in
-    let took = ok-unless c.feed.result c.feed.ensures.err_count (c.feed.ensures.took bit) in
+    let took = ok-unless c.feed.result c.feed.ensures.one_failure (c.feed.ensures.took bit) in
     let recovered = took.recovered (counting known) levels placed.recovered in
     let stay = marks-stay known levels more c.args.self.now.marks.kept placed.marks in
     let is = subst (λ (o : Option Mark). IfSome o (IsMark known (levels ++ more))) c.in-Some.is
@@ -26,7 +26,7 @@ returns-then-mark-saturating_add-clause-placed c = λ bit known levels room plac
 pub returns-in_default-clause-placed : goal.returns-in_default-clause-placed
 returns-in_default-clause-placed c = λ bit known levels room placed.
     let more = levels_of_samples c.args.unit c.args.piece.now in
-    let took = ok-unless c.feed.result c.feed.ensures.err_count (c.feed.ensures.took bit) in
+    let took = ok-unless c.feed.result c.feed.ensures.one_failure (c.feed.ensures.took bit) in
     record {
       recovered = took.recovered (counting known) levels placed.recovered;
       marks = marks-stay known levels more c.args.self.now.marks.kept placed.marks;
@@ -35,7 +35,7 @@ returns-in_default-clause-placed c = λ bit known levels room placed.
 pub returns-else-mark-saturating_add-clause-placed : goal.returns-else-mark-saturating_add-clause-placed
 returns-else-mark-saturating_add-clause-placed c = λ bit known levels room placed.
     let more = levels_of_samples c.args.unit c.args.piece.now in
-    let took = ok-unless c.feed.result c.feed.ensures.err_count (c.feed.ensures.took bit) in
+    let took = ok-unless c.feed.result c.feed.ensures.one_failure (c.feed.ensures.took bit) in
     record {
       recovered = took.recovered (counting known) levels placed.recovered;
       marks = marks-stay known levels more c.args.self.now.marks.kept placed.marks;
@@ -43,7 +43,7 @@ returns-else-mark-saturating_add-clause-placed c = λ bit known levels room plac
 
 pub returns-in_default-clause-close : goal.returns-in_default-clause-close
 returns-in_default-clause-close c = λ bit known levels placed kept.
-    let took = ok-unless c.feed.result c.feed.ensures.err_count (c.feed.ensures.took bit) in
+    let took = ok-unless c.feed.result c.feed.ensures.one_failure (c.feed.ensures.took bit) in
     let seen = (took.recovered (counting known) levels placed.recovered).samples in
     record {
       kept = kept;

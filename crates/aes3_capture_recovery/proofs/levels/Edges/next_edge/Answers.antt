@@ -18,7 +18,7 @@ returns-clause-edge c =
           ≡ replicate n (level_if e.high) ++ s ∷ low_cells (p.len - n - 1) (p.levels / 2 ^ n / 2))
           (sym (level-not e.high))
           (split-levels p.levels p.len n c.same_levels.result (level_if e.high) c.min-same.ensures
-          c.if-same-piece.false c.same_levels.ensures.most p.few c.same_levels.ensures.same
+          c.if-same-piece.false c.same_levels.ensures.most p.few c.same_levels.ensures.equal
           c.same_levels.ensures.next);
       turned = level-not e.high;
       next = refl;

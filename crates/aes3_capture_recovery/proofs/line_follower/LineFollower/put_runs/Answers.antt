@@ -22,7 +22,7 @@ loop-at-preserved g c =
     let sixteen : length part ≡ 16
     = length-take-le (at + 16 - at) (drop at runs) (omega (arith, left, room)) ∙ n in
     record {
-      quiet = c.in_ok-put_some.ensures.count ∙ v.quiet;
+      quiet = c.in_ok-put_some.ensures.no_failure ∙ v.quiet;
       within = room;
       cells = λ before e.
           puts-is (sym (line-more before (take at runs) part (v.after before)) ∙ ap (line before) (sym split))

@@ -16,7 +16,7 @@ loop-run-preserved g c =
     let old = c.loop-run.self in
     let mid = c.next_edge.new.self in
     record {
-      quiet = c.in_ok-tell.ensures.count ∙ c.loop-run.invariant.quiet;
+      quiet = c.in_ok-tell.ensures.no_failure ∙ c.loop-run.invariant.quiet;
       followed = λ begun front first before levels w.
           followed-edge old mid c.tell.new.self c.loop-run.sink c.tell.new.sink tt begun front first before
           (levels ++ levels_in c.args.piece) c.loop-run.left c.next_edge.new.piece c.in-Some.run' c.loop-run.left.few

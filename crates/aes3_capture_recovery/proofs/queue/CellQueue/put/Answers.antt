@@ -23,7 +23,7 @@ loop-left-preserved g c =
     = omega (arith, within, many) in
     record {
       within = omega (arith, within);
-      quiet = c.in_ok-put_few.ensures.count ∙ c.loop-left.invariant.quiet;
+      quiet = c.in_ok-put_few.ensures.no_failure ∙ c.loop-left.invariant.quiet;
       put = puts-is (replicate-append-replicate (c.args.cells - c.loop-left.left) 32 level
           ∙ ap (λ n. replicate n level) sum)
           (puts-chain c.args.self.now c.loop-left.self c.put_few.new.self c.args.sink.now c.loop-left.sink

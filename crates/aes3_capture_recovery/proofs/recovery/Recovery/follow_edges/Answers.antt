@@ -43,7 +43,7 @@ loop-at-preserved g c =
     let up2 = c.take_edges.ensures.up in
     record {
       within = omega (arith, most, below);
-      quiet = c.in_ok-some.ensures.count ∙ v.quiet;
+      quiet = c.in_ok-some.ensures.no_failure ∙ v.quiet;
       samples = c.take_edges.ensures.samples ∙ v.samples;
       up = omega (arith, up1, up2);
       level = λ before turns.

@@ -30,7 +30,7 @@ loop-i-preserved g c =
     let next : take (c.loop-i.i + 1) old.runs ≡ runs ++ run ∷ []
     = take-next old.runs mid.runs c.loop-i.i v.keeps.runs_are (omega (arith, within, below)) in
     record {
-      quiet = c.in_ok-tell.ensures.count ∙ v.quiet;
+      quiet = c.in_ok-tell.ensures.no_failure ∙ v.quiet;
       state = c.tell.ensures.state ∙ v.state;
       distance = c.tell.ensures.distance ∙ v.distance;
       keeps = keeps-chain old mid c.tell.new.self v.keeps c.tell.ensures.keeps;

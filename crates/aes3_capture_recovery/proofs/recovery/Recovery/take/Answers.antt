@@ -55,7 +55,7 @@ loop-run-preserved g c =
     let up1 = c.loop-run.invariant.up in
     let up2 = c.edge.ensures.up in
     record {
-      quiet = c.in_ok-edge.ensures.count ∙ c.loop-run.invariant.quiet;
+      quiet = c.in_ok-edge.ensures.no_failure ∙ c.loop-run.invariant.quiet;
       up = omega (arith, up1, up2);
       some = λ was. let before = c.loop-run.invariant.some was in
           let kept = c.edge.ensures.samples in omega (arith, before, kept);

@@ -16,5 +16,5 @@ loop-self-preserved g c =
       taken = ap (followed_by (g.T.Sink.taken c.write.new.self)) (sym (drop-drop n b.start (take b.end b.bytes.items)))
           ∙ handed-on _ _ n (held b.start b.end b.bytes.items) c.in_ok-self.ensures.tells
           (grew-is (ap (take n) given) c.in_ok-self.ensures.bytes) ∙ c.loop-self.invariant.taken;
-      quiet = c.in_ok-self.ensures.count ∙ c.loop-self.invariant.quiet;
+      quiet = c.in_ok-self.ensures.no_failure ∙ c.loop-self.invariant.quiet;
     }

@@ -16,7 +16,7 @@ returns-then-self-lt-WORD_LEN-clause-wrote g c =
       grew = grew-is (sym
           (packed-short _ v.len c.args.level (sym (ap length cells) ∙ length-high_cells v.len v.word)
           c.if-self-lt-WORD_LEN.true)) (grew-none refl);
-      count = refl;
+      no_failure = refl;
       err = tt;
     }
 

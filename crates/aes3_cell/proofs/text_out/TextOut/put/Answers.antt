@@ -10,7 +10,7 @@ returns-then-self-lt-WORD_LEN-clause-wrote g c =
       grew = grew-is (sym
           (put-short _ _ _ c.args.level (ap (λ v. v.cells) c.self.view_is) c.if-self-lt-WORD_LEN.true))
           (grew-none refl);
-      count = refl;
+      no_failure = refl;
       err = tt;
     }
 

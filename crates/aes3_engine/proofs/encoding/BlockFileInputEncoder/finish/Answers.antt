@@ -6,7 +6,7 @@ pub returns-in-Ok-put_ending : goal.returns-in-Ok-put_ending
 returns-in-Ok-put_ending g c = (
   end-clean c.args.encoder.now.output (g.T.Sink.taken c.args.sink.now) (g.T.Sink.taken c.put_ending.new.sink)
       (sym c.in-Ok.is ∙ c.end.ensures) c.in-Ok-put_ending.ensures.grew,
-  c.in-Ok-put_ending.ensures.count,
+  c.in-Ok-put_ending.ensures.no_failure,
 )
 
 pub returns-in-Err : goal.returns-in-Err

@@ -23,7 +23,7 @@ returns-in-Ok g c = (
   block-fed c.args.encoder.now.output c.args.self.now c.feed_block.new.file (take 1536 c.args.piece.now) c.in-Some.block
       (g.T.Sink.taken c.args.sink.now) (g.T.Sink.taken c.put_cells.new.sink)
       c.in-Some.ensures.taken c.in-Ok.ensures.grew,
-  c.in-Ok.ensures.count,
+  c.in-Ok.ensures.no_failure,
 )
 
 pub returns-in-Err : goal.returns-in-Err
@@ -39,7 +39,7 @@ pub take_few-requires-clause-following : goal.take_few-requires-clause-following
 take_few-requires-clause-following g c =
     subst (λ (f : FileReader). (b : List ℕ) × (length b + length c.args.piece.now ≤ 2 ^ 40)
     × Encodes f c.args.encoder.now.blocks b)
-    (sym (c.feed_block.ensures.same c.in-None.is)) c.requires.following
+    (sym (c.feed_block.ensures.unchanged c.in-None.is)) c.requires.following
 
 pub returns-in-None : goal.returns-in-None
 returns-in-None g c =
@@ -47,4 +47,4 @@ returns-in-None g c =
     subst (λ (f : FileReader). FrontRan (encoding_state c.args.encoder.now.output f c.args.encoder.now.blocks)
     (encoding_state n.encoder.output n.file n.encoder.blocks) c.args.piece.now
     (movement_of g.T.Sink.taken g.T.Sink.failed c.args.sink.now n.sink) c.take_few.result)
-    (c.feed_block.ensures.same c.in-None.is) c.take_few.ensures
+    (c.feed_block.ensures.unchanged c.in-None.is) c.take_few.ensures

@@ -5,4 +5,4 @@ use Rattle.aes3_engine.proofs.exact_samples.ExactBlocksReporter.finish.Goals as 
 
 pub returns : goal.returns
 unfolding exact_writing
-returns g c = λ r h. record { grew = grew-none refl; count = refl; err = tt }
+returns g c = λ r h. record { grew = grew-none refl; no_failure = refl; err = tt }

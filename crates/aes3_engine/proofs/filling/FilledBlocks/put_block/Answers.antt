@@ -13,7 +13,7 @@ returns-clause-progress g c =
 
 pub returns-clause-wrote : goal.returns-clause-wrote
 returns-clause-wrote g c =
-    wrote-behind c.put_narrowed.result c.in_ok-put_filling.ensures.count c.in_ok-put_filling.ensures.grew
+    wrote-behind c.put_narrowed.result c.in_ok-put_filling.ensures.no_failure c.in_ok-put_filling.ensures.grew
     (wrote-is (ap (λ (f : SampleFormat). narrowed f c.samples_of_block-samples.result) c.note.ensures.format
     ∙ ap (narrowed c.args.self.now.format) c.samples_of_block-samples.ensures) c.put_narrowed.ensures)
 
@@ -23,6 +23,6 @@ returns-in_err-put_filling-clause-wrote g c =
     let f = c.in_err-put_filling.ensures.err in
     rw p.1 (record {
       grew = tt;
-      count = tt;
+      no_failure = tt;
       err = (f.0, front-more f.1 (narrowed c.args.self.now.format (block_samples c.args.block.now)));
     })

@@ -48,6 +48,6 @@ returns-in-None-clause-wrote g c =
     λ d h f. record {
       grew = grew-is (sym (no-end-bytes k.filled.format k.filled.fill d (end-none c.in-None.is h)))
           (grew-none refl);
-      count = refl;
+      no_failure = refl;
       err = tt;
     }

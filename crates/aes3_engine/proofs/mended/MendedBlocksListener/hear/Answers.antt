@@ -20,8 +20,8 @@ put-requires-clause-few g c =
     let d = few-decided q.0 in
     omega (arith, c.requires.few, s, l, m, f, d)
 
-pub returns-in-Some-clause-same : goal.returns-in-Some-clause-same
-returns-in-Some-clause-same g c =
+pub returns-in-Some-clause-unchanged : goal.returns-in-Some-clause-unchanged
+returns-in-Some-clause-unchanged g c =
     IfOk-weaker c.put.result _ _ (λ u took. ap₂ mend_writing took.format took.fill) c.put.ensures.took
 
 pub returns-in-Some-clause-next : goal.returns-in-Some-clause-next
@@ -56,6 +56,6 @@ returns-in-None-clause-wrote g c =
     λ d e h f. record {
       grew = grew-is (sym (quiet-bytes k.filled.format k.filled.fill d e
           (told-none c.in-None.is h))) (grew-none refl);
-      count = refl;
+      no_failure = refl;
       err = tt;
     }

@@ -46,7 +46,7 @@ returns-in-Ok g c =
           (g.T.Sink.taken c.args.sink.now) (g.T.Sink.taken c.put_samples.new.sink) (λ b. tt) w (omega arith)
           (grew-is (block-made s.format s.words c.args.change.now _ (take s.at s.begun ++ replicate (len - s.at) 0)
           front j) c.in-Ok.ensures.bytes),
-      c.in-Ok.ensures.count,
+      c.in-Ok.ensures.no_failure,
     )
 
 pub returns-in-Err : goal.returns-in-Err

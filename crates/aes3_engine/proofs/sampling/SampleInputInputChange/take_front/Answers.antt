@@ -101,7 +101,7 @@ returns-in-Ok g c =
           front
           (grew-is (block-made s.format s.words c.args.change.now new (take s.at s.begun ++ take n xs)
           (ap (λ v. take v new) (sym q) ∙ front) (omega arith)) c.in-Ok.ensures.bytes),
-      c.in-Ok.ensures.count,
+      c.in-Ok.ensures.no_failure,
     )
 
 pub returns-in-Err : goal.returns-in-Err

@@ -40,7 +40,7 @@ returns-in-Ok g c =
         h,
         grew-is (sym (ends-is s.reader.words o b)) c.in-Ok.ensures.grew,
       ),
-      c.in-Ok.ensures.count,
+      c.in-Ok.ensures.no_failure,
     )
 
 pub returns-in-Err : goal.returns-in-Err

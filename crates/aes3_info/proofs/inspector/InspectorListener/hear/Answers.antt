@@ -21,7 +21,7 @@ returns-in-Some-clause-next g c = λ d e h f. rw (told-one c.in-Some.is h) (c.co
 pub returns-in-Some-clause-wrote : goal.returns-in-Some-clause-wrote
 returns-in-Some-clause-wrote g c = λ d e h f. record {
   grew = grew-is (sym (none-behind c.args.self.now.notation d e)) (grew-none refl);
-  count = refl;
+  no_failure = refl;
   err = tt;
 }
 
@@ -31,6 +31,6 @@ returns-in-None-clause-next g c = λ d e h f. rw (told-none c.in-None.is h) f
 pub returns-in-None-clause-wrote : goal.returns-in-None-clause-wrote
 returns-in-None-clause-wrote g c = λ d e h f. record {
   grew = grew-is (sym (none-behind c.args.self.now.notation d e)) (grew-none refl);
-  count = refl;
+  no_failure = refl;
   err = tt;
 }

@@ -25,9 +25,9 @@ returns-in-Ok g c = (
     },
     c.in-Ok.ensures.grew (cells_of_text b) h.taker,
   ),
-  c.in-Ok.ensures.count,
+  c.in-Ok.ensures.no_failure,
 )
 
 pub returns-in-Err : goal.returns-in-Err
 unfolding text_reading
-returns-in-Err g c = (λ b h. (refl, c.in-Err.ensures.err_grew (cells_of_text b) h.taker), c.in-Err.ensures.err_count)
+returns-in-Err g c = (λ b h. (refl, c.in-Err.ensures.err_grew (cells_of_text b) h.taker), c.in-Err.ensures.one_failure)

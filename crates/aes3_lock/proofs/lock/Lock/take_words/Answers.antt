@@ -45,7 +45,7 @@ returns-else-take_word-clause-follows c = λ l f.
     let at = c.loop-taken.taken in
     let zero : c.take_eights-eights.result ≡ 0 = omega arith in
     subst (λ (k : LockState). Follows k (l ++ flat_map word_cells (take at words)))
-    (sym (c.take_word.ensures.same c.if-take_word.false))
+    (sym (c.take_word.ensures.unchanged c.if-take_word.false))
     (subst (λ cells. Follows c.take_eights-eights.new.self cells) (none-taken _ _ _ zero)
     (c.take_eights-eights.ensures.follows _ (c.loop-taken.invariant.follows l f)))
 
@@ -72,13 +72,13 @@ loop-taken-preserved c =
 
 pub returns-else-take_word-clause-stops : goal.returns-else-take_word-clause-stops
 returns-else-take_word-clause-stops c = λ _ l f t is.
-    let same = c.take_word.ensures.same c.if-take_word.false in
+    let same = c.take_word.ensures.unchanged c.if-take_word.false in
     c.take_word.ensures.stops c.if-take_word.false l (subst (λ (k : LockState). Follows k l) same f)
     t (ap (λ (k : LockState). k.candidate) (sym same) ∙ is)
 
 pub returns-else-take_word-clause-begins : goal.returns-else-take_word-clause-begins
 returns-else-take_word-clause-begins c = λ _ none.
-    let same = c.take_word.ensures.same c.if-take_word.false in
+    let same = c.take_word.ensures.unchanged c.if-take_word.false in
     let cells = word_cells (get_or c.args.words.now c.loop-taken.taken 0) in
     subst (λ (k : LockState). BeginsIn (drop 1 k.recent ++ cells)) (sym same)
     (c.take_word.ensures.begins c.if-take_word.false (ap (λ (k : LockState). k.candidate) (sym same) ∙ none))

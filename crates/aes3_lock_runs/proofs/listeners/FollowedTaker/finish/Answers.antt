@@ -24,8 +24,8 @@ count-requires g c =
     let f = few-decided h.0 in
     (decided h.0, omega (arith, h.1, f), h.2.1)
 
-pub returns-in_err-end-clause-err_count : goal.returns-in_err-end-clause-err_count
-returns-in_err-end-clause-err_count g c =
+pub returns-in_err-end-clause-one_failure : goal.returns-in_err-end-clause-one_failure
+returns-in_err-end-clause-one_failure g c =
     let h = c.requires.following in
     let e = c.end-ending.ensures in
     let error = err_from_is_err_and c.from_residual.result c.from_residual.ensures.1 in
@@ -52,8 +52,8 @@ returns-clause-grew g c =
     let e = c.end-ending.ensures in
     λ d h. (c.in_ok-end.ensures.wrote d (heard-end c.args.self.now.tally e.report e.held d h.0 h.1) h.2).grew
 
-pub returns-clause-count : goal.returns-clause-count
-returns-clause-count g c =
+pub returns-clause-no_failure : goal.returns-clause-no_failure
+returns-clause-no_failure g c =
     let h = c.requires.following in
     let e = c.end-ending.ensures in
     (c.in_ok-end.ensures.wrote h.0 (heard-end c.args.self.now.tally e.report e.held h.0 h.2.0 h.2.1) h.2.2).count

@@ -34,7 +34,7 @@ returns-in_err-tell-in-Some-clause-wrote g c =
     rw error.1 (λ d h f.
     let q = c.in_err-tell-in-Some.ensures.wrote (decided d) h.blocks f in record {
       grew = tt;
-      count = tt;
+      no_failure = tt;
       err = (
         q.err.0,
         front-is (sym (ends-one w d x (end-one c.in-Some.is h))) (front-more q.err.1 _),

@@ -8,8 +8,8 @@ use Rattle.aes3_lock_runs.proofs.Listening.{told-none, told-one}
 use Rattle.aes3_lock_runs.proofs.Reports.{adds-nothing, adds-report, same-reporting}
 use Rattle.aes3_lock_runs.proofs.listeners.ReportListenerListener.hear.Goals as goal
 
-pub returns-in-Some-clause-same : goal.returns-in-Some-clause-same
-returns-in-Some-clause-same g c = IfOk-weaker c.tell.result _ _ (λ u e. same-reporting e) c.tell.ensures.same
+pub returns-in-Some-clause-unchanged : goal.returns-in-Some-clause-unchanged
+returns-in-Some-clause-unchanged g c = IfOk-weaker c.tell.result _ _ (λ u e. same-reporting e) c.tell.ensures.unchanged
 
 pub returns-in-Some-clause-next : goal.returns-in-Some-clause-next
 returns-in-Some-clause-next g c =
@@ -35,6 +35,6 @@ returns-in-None-clause-wrote g c =
     λ d e h f. record {
       grew = grew-is (sym (adds-nothing (g.R.Reporter.writes c.args.self.now.reporter) d e
           (told-none c.in-None.is h))) (grew-none refl);
-      count = refl;
+      no_failure = refl;
       err = tt;
     }

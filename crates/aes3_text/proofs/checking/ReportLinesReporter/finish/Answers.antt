@@ -7,6 +7,6 @@ use Rattle.aes3_text.proofs.checking.ReportLinesReporter.finish.Goals as goal
 pub returns : goal.returns
 returns g c = λ r h. record {
   grew = grew-is (ends-is (λ _. told_line c.args.self.now.lines) [] r) (grew-none refl);
-  count = refl;
+  no_failure = refl;
   err = tt;
 }

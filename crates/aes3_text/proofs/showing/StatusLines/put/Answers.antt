@@ -30,7 +30,7 @@ pub returns-in-Marked-clause-wrote : goal.returns-in-Marked-clause-wrote
 returns-in-Marked-clause-wrote g c = λ bs h n. record {
   grew = grew-is (sym (ap (λ e. report_details c.args.self.now.changes c.args.self.now.detail bs
       (report_in c.args.lock.now e)) c.in-Marked.is)) (grew-none refl);
-  count = refl;
+  no_failure = refl;
   err = tt;
 }
 
@@ -43,7 +43,7 @@ pub returns-in-Fault-clause-wrote : goal.returns-in-Fault-clause-wrote
 returns-in-Fault-clause-wrote g c = λ bs h n. record {
   grew = grew-is (sym (ap (λ e. report_details c.args.self.now.changes c.args.self.now.detail bs
       (report_in c.args.lock.now e)) c.in-Fault.is)) (grew-none refl);
-  count = refl;
+  no_failure = refl;
   err = tt;
 }
 
@@ -56,6 +56,6 @@ pub returns-in-Unfinished-clause-wrote : goal.returns-in-Unfinished-clause-wrote
 returns-in-Unfinished-clause-wrote g c = λ bs h n. record {
   grew = grew-is (sym (ap (λ e. report_details c.args.self.now.changes c.args.self.now.detail bs
       (report_in c.args.lock.now e)) c.in-Unfinished.is)) (grew-none refl);
-  count = refl;
+  no_failure = refl;
   err = tt;
 }

@@ -12,7 +12,7 @@ returns-in_err-put_line-clause-wrote g c =
     let f = c.in_err-put_line.ensures.err in
     rw p.1 (record {
       grew = tt;
-      count = tt;
+      no_failure = tt;
       err = (
         f.0,
         front-is
@@ -34,9 +34,9 @@ returns-in_err-put_line-2-clause-wrote g c =
     c.channel_status-first.result in
     rw p.1 (record {
       grew = tt;
-      count = tt;
+      no_failure = tt;
       err = (
-        f.0 ∙ ap (λ n. n + 1) c.in_ok-put_line.ensures.count,
+        f.0 ∙ ap (λ n. n + 1) c.in_ok-put_line.ensures.no_failure,
         front-is
             (ap₂ (λ u v. line_as k.changes k.detail c.args.place.number c.args.place.at First c.args.block.now k.first u
             ++ line_as k.changes k.detail c.args.place.number c.args.place.at Second c.args.block.now k.second v)
@@ -56,6 +56,6 @@ returns-clause-wrote g c =
           ++ line_as k.changes k.detail c.args.place.number c.args.place.at Second c.args.block.now k.second v)
           c.channel_status-first.ensures c.channel_status-second.ensures)
           (grew-join {x = line} (search (rules, c.in_ok-put_line.ensures.grew)) c.in_ok-put_line-2.ensures.grew);
-      count = c.in_ok-put_line-2.ensures.count ∙ c.in_ok-put_line.ensures.count;
+      no_failure = c.in_ok-put_line-2.ensures.no_failure ∙ c.in_ok-put_line.ensures.no_failure;
       err = tt;
     }

@@ -6,6 +6,6 @@ use Rattle.aes3_text.proofs.showing.StatusLinesReporter.finish.Goals as goal
 pub returns : goal.returns
 returns g c = λ r h. record {
   grew = grew-is (no-ends c.args.self.now.changes c.args.self.now.detail r) (grew-none refl);
-  count = refl;
+  no_failure = refl;
   err = tt;
 }

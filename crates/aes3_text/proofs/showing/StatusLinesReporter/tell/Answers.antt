@@ -7,8 +7,8 @@ use Rattle.aes3_text.specs.Runs.{showing}
 use Rattle.aes3_text.proofs.StatusChanges.{adds-is, next-last}
 use Rattle.aes3_text.proofs.showing.StatusLinesReporter.tell.Goals as goal
 
-pub returns-clause-same : goal.returns-clause-same
-returns-clause-same g c = ok-always c.put.result (ap₂ showing c.put.ensures.changes c.put.ensures.detail)
+pub returns-clause-unchanged : goal.returns-clause-unchanged
+returns-clause-unchanged g c = ok-always c.put.result (ap₂ showing c.put.ensures.changes c.put.ensures.detail)
 
 pub returns-clause-next : goal.returns-clause-next
 returns-clause-next g c =

@@ -48,7 +48,7 @@ returns-in-Some g c =
           (mark-ran own.lines new.lines own.scan new.scan own.marks new.marks d c.in-Some.found sink c.tell_alone.result
           (λ b f. subst (λ (k : ScanState). ScanFollows k (b ++ d)) (sym e.scan) (p.follows b f))
           (λ b f. p.mark b f ∙ ap (λ o. marks b ++ option_to_list o) c.in-Some.is)
-          e.marks e.none e.wrote.grew e.wrote.count e.wrote.err);
+          e.marks e.none e.wrote.grew e.wrote.no_failure e.wrote.err);
     }
 
 pub returns-in-None : goal.returns-in-None

@@ -59,7 +59,7 @@ loop-word-preserved g c =
           (r.next (d ++ f) (v.next d h));
       held = λ d h. held-is (more d ws i (omega arith)) (held-join (v.held d h) (r.wrote (d ++ f) (v.next d h)));
       fits = r.fits;
-      quiet = r.count ∙ v.quiet;
+      quiet = r.no_failure ∙ v.quiet;
     }
 
 pub returns-in_err-take_word : goal.returns-in_err-take_word
@@ -113,7 +113,7 @@ returns g c =
       ran = ran-by (mark_state c.args.self.now.lines c.args.self.now.scan c.args.self.now.marks)
           (mark_state c.write_to.new.self c.loop-word.self.scan c.loop-word.self.marks) (flat_map word_cells ws)
           (movement_of g.T.Sink.taken g.T.Sink.failed c.args.sink.now c.write_to.new.sink)
-          c.write_to.result r.none r.wrote.grew r.wrote.count r.wrote.err
+          c.write_to.result r.none r.wrote.grew r.wrote.no_failure r.wrote.err
           (λ none grew count. (
             refl,
             (λ d h. (

@@ -23,7 +23,7 @@ loop-mark-preserved g c =
           c.tell.ensures.marks c.in_ok-tell.ensures.wrote;
       scan = c.tell.ensures.scan ∙ v.scan;
       fits = c.in_ok-tell.ensures.fits;
-      quiet = c.in_ok-tell.ensures.count ∙ v.quiet;
+      quiet = c.in_ok-tell.ensures.no_failure ∙ v.quiet;
     }
 
 pub returns-in_err-tell-clause-err : goal.returns-in_err-tell-clause-err

@@ -19,7 +19,7 @@ returns-in_err-tell_before-clause-wrote g c =
     let f = c.in_err-tell_before.ensures.wrote.err in
     rw p.1 (record {
       grew = tt;
-      count = tt;
+      no_failure = tt;
       err = (
         f.0,
         front-is (sym (lines-append k.lines (gaps_before c.args.blocks k.account.place x) (reported x ∷ [])))
@@ -35,7 +35,7 @@ returns-clause-wrote g c =
     wrote-is (ap (λ z. account_lines k.lines (gaps_before c.args.blocks k.account.place x) ++ z)
     (sym (append-nil (told_line k.lines x)))
     ∙ sym (lines-append k.lines (gaps_before c.args.blocks k.account.place x) (reported x ∷ [])))
-    (wrote-behind c.tell_ending.result b.count b.grew
+    (wrote-behind c.tell_ending.result b.no_failure b.grew
     (wrote-is (ending-told k.lines c.args.ending (read_words c.args.lock.now.words))
     (rw c.tell_before.ensures.lines at c.tell_ending.ensures)))
 

@@ -30,7 +30,7 @@ returns-in_err-tell_gaps-clause-wrote g c =
     let f = c.in_err-tell_gaps.ensures.wrote.err in
     rw p.1 (record {
       grew = tt;
-      count = tt;
+      no_failure = tt;
       err = (
         f.0,
         front-is (ap (account_lines k.lines) (due-report c.args._blocks k.account.place k.account.found x d

@@ -15,7 +15,7 @@ loop-gap-preserved g c =
           (n.further x e) (n.within x e) n.behind t.lost (rw v.lines at c.in_ok-tell_gap.ensures.wrote.grew));
       lines = t.lines ∙ v.lines;
       found = ap (λ a. a.found) t.account ∙ n.found ∙ v.found;
-      quiet = c.in_ok-tell_gap.ensures.wrote.count ∙ v.quiet;
+      quiet = c.in_ok-tell_gap.ensures.wrote.no_failure ∙ v.quiet;
     }
 
 pub returns-in_err-tell_gap-clause-wrote : goal.returns-in_err-tell_gap-clause-wrote
@@ -26,7 +26,7 @@ returns-in_err-tell_gap-clause-wrote g c =
     let f = c.in_err-tell_gap.ensures.wrote.err in
     rw p.1 (record {
       grew = tt;
-      count = tt;
+      no_failure = tt;
       err = (
         f.0 ∙ ap (λ m. m + 1) v.quiet,
         gaps-fail _ c.next.new.self.place x v.told (c.next.ensures.gap x c.in-Some.is) (rw v.lines at f.1),

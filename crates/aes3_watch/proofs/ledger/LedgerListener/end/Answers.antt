@@ -66,7 +66,7 @@ returns-in_err-tell-in-Some-clause-wrote g c =
     rw p.1 (λ d h f.
     let r = behind_report (accounted d) x in record {
       grew = tt;
-      count = tt;
+      no_failure = tt;
       err = (
         w.err.0,
         front-is (close_with-lines k.lines r (length d) d x refl refl (end-one c.in-Some.is h))
@@ -98,7 +98,7 @@ returns-in_ok-tell-in-Some-clause-wrote g c =
     λ d h f.
     wrote-is (close_with-lines k.lines m.account.place c.seen.result d x
     (reached-is m.account.place d x f.accounts t.place) (c.seen.ensures ∙ h.follows.seen) (end-one c.in-Some.is h))
-    (wrote-behind c.tell_gaps.result t.wrote.count
+    (wrote-behind c.tell_gaps.result t.wrote.no_failure
     (grew-is (report-lines k.lines c.args.blocks k.account.place d x h.blocks f.accounts.place_is) t.wrote.grew)
     (wrote-is (ap (account_lines k.lines)
     (due-all m.account.place c.seen.result u c.end.ensures.to c.end.ensures.short))

@@ -68,7 +68,7 @@ returns-in_err-tell-in-Some-clause-wrote g c =
     let r = behind_report (accounted d) x in
     let s = length (d ++ e) - block_len in record {
       grew = tt;
-      count = tt;
+      no_failure = tt;
       err = (
         w.err.0,
         front-is (take-lines k.lines r s d e x refl refl (told-one c.in-Some.is h))
@@ -77,8 +77,8 @@ returns-in_err-tell-in-Some-clause-wrote g c =
       );
     })
 
-pub returns-in_ok-tell-in-Some-clause-same : goal.returns-in_ok-tell-in-Some-clause-same
-returns-in_ok-tell-in-Some-clause-same g c =
+pub returns-in_ok-tell-in-Some-clause-unchanged : goal.returns-in_ok-tell-in-Some-clause-unchanged
+returns-in_ok-tell-in-Some-clause-unchanged g c =
     ok-always c.tell_gaps.result (ap accounting (c.tell_gaps.ensures.lines ∙ c.tell.ensures.lines))
 
 pub returns-in_ok-tell-in-Some-clause-next : goal.returns-in_ok-tell-in-Some-clause-next
@@ -109,13 +109,13 @@ returns-in_ok-tell-in-Some-clause-wrote g c =
     λ d e h f.
     wrote-is (take-lines k.lines m.account.place u.to d e x (reached-is m.account.place d x f.accounts t.place)
     (c.passed.ensures.to ∙ ap (λ n. n - block_len) (c.seen.ensures ∙ h.follows.seen)) (told-one c.in-Some.is h))
-    (wrote-behind c.tell_gaps.result t.wrote.count
+    (wrote-behind c.tell_gaps.result t.wrote.no_failure
     (grew-is (report-lines k.lines c.args.blocks k.account.place d x h.blocks f.accounts.place_is) t.wrote.grew)
     (wrote-is (ap (account_lines k.lines) (due-full m.account.place u.to u refl c.passed.ensures.short))
     (rw c.tell.ensures.lines at c.tell_gaps.ensures.wrote)))
 
-pub returns-in-None-clause-same : goal.returns-in-None-clause-same
-returns-in-None-clause-same g c = ok-always c.tell_gaps-in-None.result (ap accounting c.tell_gaps-in-None.ensures.lines)
+pub returns-in-None-clause-unchanged : goal.returns-in-None-clause-unchanged
+returns-in-None-clause-unchanged g c = ok-always c.tell_gaps-in-None.result (ap accounting c.tell_gaps-in-None.ensures.lines)
 
 pub returns-in-None-clause-next : goal.returns-in-None-clause-next
 returns-in-None-clause-next g c =

@@ -14,7 +14,7 @@ returns-in_err-go_on-clause-wrote g c =
     let f = c.in_err-go_on.ensures.wrote.err in
     rw p.1 (record {
       grew = tt;
-      count = tt;
+      no_failure = tt;
       err = (
         f.0,
         front-is (period-lines k.watcher.style k.every (summed_by k.watcher.state k.from k.place k.figures)
@@ -32,9 +32,9 @@ returns-in_err-tell-clause-wrote g c =
     let f = c.in_err-tell.ensures.err in
     rw p.1 (record {
       grew = tt;
-      count = tt;
+      no_failure = tt;
       err = (
-        f.0 ∙ ap (λ m. m + 1) c.in_ok-go_on.ensures.wrote.count,
+        f.0 ∙ ap (λ m. m + 1) c.in_ok-go_on.ensures.wrote.no_failure,
         front-is (period-lines k.watcher.style k.every (summed_by k.watcher.state k.from k.place k.figures)
             (summed_by n.watcher.state n.from n.place n.figures) c.go_on.ensures.state)
             (front-join c.in_ok-go_on.ensures.wrote.grew (rw c.go_on.ensures.style at f.1)),
@@ -49,6 +49,6 @@ returns-clause-wrote g c =
       grew = grew-is (period-lines k.watcher.style k.every (summed_by k.watcher.state k.from k.place k.figures)
           (summed_by n.watcher.state n.from n.place n.figures) c.go_on.ensures.state)
           (grew-join c.in_ok-go_on.ensures.wrote.grew (rw c.go_on.ensures.style at c.in_ok-tell.ensures.grew));
-      count = c.in_ok-tell.ensures.count ∙ c.in_ok-go_on.ensures.wrote.count;
+      no_failure = c.in_ok-tell.ensures.no_failure ∙ c.in_ok-go_on.ensures.wrote.no_failure;
       err = tt;
     }

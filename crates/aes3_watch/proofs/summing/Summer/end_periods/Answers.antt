@@ -38,7 +38,7 @@ returns-in_err-end_period-clause-wrote g c =
     let f = c.in_err-end_period.ensures.wrote.err in
     rw p.1 (record {
       grew = tt;
-      count = tt;
+      no_failure = tt;
       err = (
         f.0 ∙ ap (λ n. n + 1) v.quiet,
         ended-front k.watcher.style k.every c.ending._told (ends_before k.every u c.args.to) u (omega arith)
@@ -59,7 +59,7 @@ ending-preserved g c =
       state = c.in_ok-end_period.ensures.state ∙ next-is v.every v.state ∙ sym (periods-more k.every c.ending._told u);
       grew = grew-is (ended-lines k.watcher.style k.every c.ending._told u)
           (grew-join v.grew (grew-is (period-is v.style v.every v.state) c.in_ok-end_period.ensures.wrote.grew));
-      quiet = c.in_ok-end_period.ensures.wrote.count ∙ v.quiet;
+      quiet = c.in_ok-end_period.ensures.wrote.no_failure ∙ v.quiet;
     }
 
 pub returns-clause-few : goal.returns-clause-few
@@ -84,6 +84,6 @@ returns-clause-wrote g c =
     let e = ends-is k.every u c.args.to c.saturating_sub.result c.ending._told c.saturating_sub.ensures (omega arith) in
     record {
       grew = grew-is (ap (λ n. notice_lines k.watcher.style (periods_told k.every n u)) e) c.ending.invariant.grew;
-      count = c.ending.invariant.quiet;
+      no_failure = c.ending.invariant.quiet;
       err = tt;
     }

@@ -15,7 +15,7 @@ returns-in_err-end_periods-clause-wrote g c =
     let f = c.in_err-end_periods.ensures.wrote.err in
     rw p.1 (record {
       grew = tt;
-      count = tt;
+      no_failure = tt;
       err = (
         f.0,
         front-is (go-lines k.watcher.style k.every u v c.args.to refl)
@@ -33,9 +33,9 @@ returns-in_err-go_on-clause-wrote g c =
     let f = c.in_err-go_on.ensures.wrote.err in
     rw p.1 (record {
       grew = tt;
-      count = tt;
+      no_failure = tt;
       err = (
-        f.0 ∙ ap (λ m. m + 1) c.in_ok-end_periods.ensures.wrote.count,
+        f.0 ∙ ap (λ m. m + 1) c.in_ok-end_periods.ensures.wrote.no_failure,
         front-is (go-lines k.watcher.style k.every u v c.args.to c.in_ok-end_periods.ensures.state)
             (front-join c.in_ok-end_periods.ensures.wrote.grew (rw c.end_periods.ensures.style at f.1)),
       );
@@ -60,6 +60,6 @@ returns-clause-wrote g c =
       grew = grew-is (go-lines k.watcher.style k.every u v c.args.to c.in_ok-end_periods.ensures.state)
           (grew-join c.in_ok-end_periods.ensures.wrote.grew
           (rw c.end_periods.ensures.style at c.in_ok-go_on.ensures.wrote.grew));
-      count = c.in_ok-go_on.ensures.wrote.count ∙ c.in_ok-end_periods.ensures.wrote.count;
+      no_failure = c.in_ok-go_on.ensures.wrote.no_failure ∙ c.in_ok-end_periods.ensures.wrote.no_failure;
       err = tt;
     }

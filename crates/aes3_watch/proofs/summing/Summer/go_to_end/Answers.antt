@@ -19,7 +19,7 @@ returns-in_err-go_to-clause-wrote g c =
     let f = c.in_err-go_to.ensures.wrote.err in
     rw p.1 (record {
       grew = tt;
-      count = tt;
+      no_failure = tt;
       err = (
         f.0,
         front-is (all-lines k.watcher.style k.every u v n told refl refl)
@@ -38,9 +38,9 @@ returns-in_err-tell_last-clause-wrote g c =
     let f = c.in_err-tell_last.ensures.err in
     rw p.1 (record {
       grew = tt;
-      count = tt;
+      no_failure = tt;
       err = (
-        f.0 ∙ ap (λ m. m + 1) c.in_ok-go_to.ensures.wrote.count,
+        f.0 ∙ ap (λ m. m + 1) c.in_ok-go_to.ensures.wrote.no_failure,
         front-is (all-lines k.watcher.style k.every (summed_by k.watcher.state k.from k.place k.figures)
             (summed_by n.watcher.state n.from n.place n.figures) c.args.seen told c.in_ok-go_to.ensures.state refl)
             (front-join c.in_ok-go_to.ensures.wrote.grew
@@ -58,9 +58,9 @@ returns-in_err-put_events-clause-wrote g c =
     let f = c.in_err-put_events.ensures.err in
     rw p.1 (record {
       grew = tt;
-      count = tt;
+      no_failure = tt;
       err = (
-        f.0 ∙ ap (λ m. m + 1) (c.in_ok-tell_last.ensures.count ∙ c.in_ok-go_to.ensures.wrote.count),
+        f.0 ∙ ap (λ m. m + 1) (c.in_ok-tell_last.ensures.no_failure ∙ c.in_ok-go_to.ensures.wrote.no_failure),
         front-is (all-lines k.watcher.style k.every (summed_by k.watcher.state k.from k.place k.figures)
             (summed_by n.watcher.state n.from n.place n.figures) c.args.seen _ c.in_ok-go_to.ensures.state refl)
             (front-join c.in_ok-go_to.ensures.wrote.grew
@@ -89,6 +89,6 @@ returns-clause-wrote g c =
           (grew-join (rw c.go_to.ensures.style at c.in_ok-tell_last.ensures.grew)
           (grew-is (ap₂ event_lines (c.go_to_end.ensures.style ∙ c.go_to.ensures.style) told)
           c.in_ok-put_events.ensures.grew)));
-      count = c.in_ok-put_events.ensures.count ∙ c.in_ok-tell_last.ensures.count ∙ c.in_ok-go_to.ensures.wrote.count;
+      no_failure = c.in_ok-put_events.ensures.no_failure ∙ c.in_ok-tell_last.ensures.no_failure ∙ c.in_ok-go_to.ensures.wrote.no_failure;
       err = tt;
     }

@@ -27,7 +27,7 @@ returns-in_err-go_to-clause-wrote g c =
     let f = c.in_err-go_to.ensures.wrote.err in
     rw p.1 (record {
       grew = tt;
-      count = tt;
+      no_failure = tt;
       err = (
         f.0,
         front-is (report-lines k.watcher.style k.every u v x c.place_in.result told c.place_in.ensures refl refl)
@@ -48,9 +48,9 @@ returns-in_err-put_events-clause-wrote g c =
     let f = c.in_err-put_events.ensures.err in
     rw p.1 (record {
       grew = tt;
-      count = tt;
+      no_failure = tt;
       err = (
-        f.0 ∙ ap (λ m. m + 1) c.in_ok-go_to.ensures.wrote.count,
+        f.0 ∙ ap (λ m. m + 1) c.in_ok-go_to.ensures.wrote.no_failure,
         front-is (report-lines k.watcher.style k.every (summed_by k.watcher.state k.from k.place k.figures)
             (summed_by n.watcher.state n.from n.place n.figures) x c.place_in.result _ c.place_in.ensures
             c.in_ok-go_to.ensures.state refl)
@@ -72,6 +72,6 @@ returns-clause-wrote g c =
           c.in_ok-go_to.ensures.state refl)
           (grew-join c.in_ok-go_to.ensures.wrote.grew
           (grew-is (ap₂ event_lines style told) c.in_ok-put_events.ensures.grew));
-      count = c.in_ok-put_events.ensures.count ∙ c.in_ok-go_to.ensures.wrote.count;
+      no_failure = c.in_ok-put_events.ensures.no_failure ∙ c.in_ok-go_to.ensures.wrote.no_failure;
       err = tt;
     }

@@ -65,7 +65,7 @@ returns-in_err-take_report-in-Some-clause-wrote g c =
     let w = c.in_err-take_report-in-Some.ensures.wrote in
     rw p.1 (λ d h f. record {
       grew = tt;
-      count = tt;
+      no_failure = tt;
       err = (
         w.err.0,
         front-is (closed_with-lines k.watcher.style k.every u (next_sum k.every u x) _ d x f.some f.state_is refl refl
@@ -97,7 +97,7 @@ returns-in_ok-take_report-in-Some-clause-wrote g c =
     λ d h f.
     wrote-is (closed_with-lines k.watcher.style k.every u v c.seen.result d x f.some f.state_is t.state
     (c.seen.ensures ∙ h.follows.seen) (end-one c.in-Some.is h))
-    (wrote-behind c.go_to_end.result t.wrote.count t.wrote.grew
+    (wrote-behind c.go_to_end.result t.wrote.no_failure t.wrote.grew
     (wrote-is (ap₂ (λ y z. notice_lines y (all_told z v c.seen.result)) c.take_report.ensures.style
     c.take_report.ensures.every) c.go_to_end.ensures.wrote))
 

@@ -61,7 +61,7 @@ returns-in_err-take_report-in-Some-clause-wrote g c =
     let w = c.in_err-take_report-in-Some.ensures.wrote in
     rw p.1 (λ d e h f. record {
       grew = tt;
-      count = tt;
+      no_failure = tt;
       err = (
         w.err.0,
         front-is (taken-lines k.watcher.style k.every u (next_sum k.every u x) _ d e x f.some f.state_is refl refl
@@ -69,8 +69,8 @@ returns-in_err-take_report-in-Some-clause-wrote g c =
       );
     })
 
-pub returns-in_ok-take_report-in-Some-clause-same : goal.returns-in_ok-take_report-in-Some-clause-same
-returns-in_ok-take_report-in-Some-clause-same g c =
+pub returns-in_ok-take_report-in-Some-clause-unchanged : goal.returns-in_ok-take_report-in-Some-clause-unchanged
+returns-in_ok-take_report-in-Some-clause-unchanged g c =
     ok-always c.go_to.result (ap₂ summing (c.go_to.ensures.style ∙ c.take_report.ensures.style)
     (c.go_to.ensures.every ∙ c.take_report.ensures.every))
 
@@ -103,12 +103,12 @@ returns-in_ok-take_report-in-Some-clause-wrote g c =
     λ d e h f.
     wrote-is (taken-lines k.watcher.style k.every u v s d e x f.some f.state_is t.state
     (less s c.seen.result _ (omega arith) (c.seen.ensures ∙ h.follows.seen)) (told-one c.in-Some.is h))
-    (wrote-behind c.go_to.result t.wrote.count t.wrote.grew
+    (wrote-behind c.go_to.result t.wrote.no_failure t.wrote.grew
     (wrote-is (ap₂ (λ y z. notice_lines y (told_to z v s)) c.take_report.ensures.style c.take_report.ensures.every)
     c.go_to.ensures.wrote))
 
-pub returns-in-None-clause-same : goal.returns-in-None-clause-same
-returns-in-None-clause-same g c =
+pub returns-in-None-clause-unchanged : goal.returns-in-None-clause-unchanged
+returns-in-None-clause-unchanged g c =
     ok-always c.go_to-in-None.result (ap₂ summing c.go_to-in-None.ensures.style c.go_to-in-None.ensures.every)
 
 pub returns-in-None-clause-next : goal.returns-in-None-clause-next

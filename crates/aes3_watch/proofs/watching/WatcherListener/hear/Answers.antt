@@ -38,8 +38,8 @@ go_on-requires-in-None-clause-few g c =
     let l = loss-room h.0 h.1 c.args.lock.now.seen h.3 h.2.follows.seen c.requires.few in
     omega (arith, l)
 
-pub returns-in-Some-clause-same : goal.returns-in-Some-clause-same
-returns-in-Some-clause-same g c =
+pub returns-in-Some-clause-unchanged : goal.returns-in-Some-clause-unchanged
+returns-in-Some-clause-unchanged g c =
     ok-always c.put_events.result (ap watching (c.go_on.ensures.style ∙ c.take_report.ensures.style))
 
 pub returns-in-Some-clause-next : goal.returns-in-Some-clause-next
@@ -67,8 +67,8 @@ returns-in-Some-clause-wrote g c =
     (less s c.seen.result _ (omega arith) (c.seen.ensures ∙ h.follows.seen)) (told-one c.in-Some.is h))
     c.put_events.ensures
 
-pub returns-in-None-clause-same : goal.returns-in-None-clause-same
-returns-in-None-clause-same g c = ok-always c.put_events-in-None.result (ap watching c.go_on-in-None.ensures.style)
+pub returns-in-None-clause-unchanged : goal.returns-in-None-clause-unchanged
+returns-in-None-clause-unchanged g c = ok-always c.put_events-in-None.result (ap watching c.go_on-in-None.ensures.style)
 
 pub returns-in-None-clause-next : goal.returns-in-None-clause-next
 returns-in-None-clause-next g c =

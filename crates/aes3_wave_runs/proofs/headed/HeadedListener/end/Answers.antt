@@ -23,7 +23,7 @@ returns-in_err-open-clause-wrote g c =
     ∙ ends-headed m k.header.depth k.header.rate w q.1 d y h.told)
     (record {
       grew = tt;
-      count = tt;
+      no_failure = tt;
       err = (
         c.in_err-open.ensures.wrote.err.0,
         front-more c.in_err-open.ensures.wrote.err.1
@@ -45,10 +45,10 @@ returns-in_err-close-clause-wrote g c =
     (wrote-is (ap₂ (λ t s. opened_after k.header.depth k.header.rate t (first_given s y)
     ++ (close_of k.header.depth k.header.rate (open_after t (first_given s y)) ++ w.ends d)) q.0.is c.gives_marked.ensures
     ∙ ends-headed m k.header.depth k.header.rate w q.1 d y h.told)
-    (wrote-behind (Err c.in_err-close.field-0.0) e.wrote.count e.wrote.grew
+    (wrote-behind (Err c.in_err-close.field-0.0) e.wrote.no_failure e.wrote.grew
     (record {
       grew = tt;
-      count = tt;
+      no_failure = tt;
       err = (
         c.in_err-close.ensures.err.0,
         front-more (front-is (close-is e.depth e.rate e.is_written) c.in_err-close.ensures.err.1) (w.ends d),
@@ -79,6 +79,6 @@ returns-clause-wrote g c =
     wrote-is (ap₂ (λ t s. opened_after k.header.depth k.header.rate t (first_given s y)
     ++ (close_of k.header.depth k.header.rate (open_after t (first_given s y)) ++ w.ends d)) q.0.is c.gives_marked.ensures
     ∙ ends-headed m k.header.depth k.header.rate w q.1 d y h.told)
-    (wrote-behind c.end.result e.wrote.count e.wrote.grew
-    (wrote-behind c.end.result c.in_ok-close.ensures.count
+    (wrote-behind c.end.result e.wrote.no_failure e.wrote.grew
+    (wrote-behind c.end.result c.in_ok-close.ensures.no_failure
     (grew-is (close-is e.depth e.rate e.is_written) c.in_ok-close.ensures.grew) (c.end.ensures.wrote d h q.2)))

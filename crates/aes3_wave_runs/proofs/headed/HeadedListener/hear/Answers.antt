@@ -23,7 +23,7 @@ returns-in_err-open-clause-wrote g c =
     ∙ behind-headed m k.header.depth k.header.rate w q.1 d f y h.told)
     (record {
       grew = tt;
-      count = tt;
+      no_failure = tt;
       err = (c.in_err-open.ensures.wrote.err.0, front-more c.in_err-open.ensures.wrote.err.1 (behind w d f));
     }))
 
@@ -38,7 +38,7 @@ returns-clause-next g c =
       subst (IsOpened m new) (sym h.told) (opened-next m k.header new _ y c.gives_marked.ensures e.is_written e.named q.0),
       subst (IsQuiet m) (sym same) q.1,
       next d f h q.2,
-    )) c.hear.ensures.same c.hear.ensures.next
+    )) c.hear.ensures.unchanged c.hear.ensures.next
 
 pub returns-clause-wrote : goal.returns-clause-wrote
 returns-clause-wrote g c =
@@ -51,4 +51,4 @@ returns-clause-wrote g c =
     wrote-is (ap₂ (λ t s. opened_after k.header.depth k.header.rate t (first_given s y) ++ behind w d f) q.0.is
     c.gives_marked.ensures
     ∙ behind-headed m k.header.depth k.header.rate w q.1 d f y h.told)
-    (wrote-behind c.hear.result e.wrote.count e.wrote.grew (c.hear.ensures.wrote d f h q.2))
+    (wrote-behind c.hear.result e.wrote.no_failure e.wrote.grew (c.hear.ensures.wrote d f h q.2))
