@@ -16,7 +16,7 @@ use aes3_frame::{GatheredCells, PAYLOAD_LIMIT, SUBFRAMES, wrong_in};
 use aes3_slot::{Mark, mark_of, slot_bits, subframe_cells};
 
 /// A subframe's cells, inverted if `inverted` is true.
-fn turned(inverted: bool, cells: u64) -> u64
+fn inverted_if(inverted: bool, cells: u64) -> u64
     ensures { read_word result ≡ read_word cells }
 {
     if inverted { !cells } else { cells }
@@ -34,7 +34,7 @@ fn renewed(before: Level, mark: Mark, cells: u64) -> u64
     ensures { word_cells result ≡ line before (subframe_runs mark
         (take payload_len (read_word cells))) }
 {
-    let same = turned(is_inverted(before, cells), cells);
+    let same = inverted_if(is_inverted(before, cells), cells);
     if wrong_in(before, mark, same) == 0 {
         return same;
     }
@@ -61,7 +61,7 @@ fn turn_all(before: Level, words: &[u64; SUBFRAMES], cells: &mut [u64; SUBFRAMES
     let inverted = is_inverted(before, words[0]);
     let mut wrong = 0;
     for (subframe, word) in words.iter().enumerate() {
-        let same = turned(inverted, *word);
+        let same = inverted_if(inverted, *word);
         cells[subframe] = same;
         wrong |= wrong_in(before, mark_of(subframe as u64), same);
     }

@@ -1,7 +1,7 @@
 //! What to do with a file that is no capture.
 
 use aes3_capture_recovery::Unit;
-use aes3_files::{FileKind, are_packed, are_turned};
+use aes3_files::{FileKind, are_packed, are_reversed};
 
 /// How many of the first octets are inspected.
 pub const FIRST_LEN: usize = 512;
@@ -30,7 +30,7 @@ pub fn advice_on_other(first: &[u8], unit: Unit) -> Option<&'static str> {
         _ if are_packed(first) && has_single_sample(first, unit) => {
             Some("these are packed cells already: `aes3 check --packed-in FILE` reads them")
         }
-        _ if are_turned(first) && has_single_sample(first, unit) => Some(
+        _ if are_reversed(first) && has_single_sample(first, unit) => Some(
             "these are packed cells already: `aes3 check --packed-in --lsb-first FILE` reads them",
         ),
         _ => None,

@@ -7,7 +7,7 @@ use crate::watched::HEAD_LEN;
 use crate::widths::advice_on_width;
 use aes3_cell::{Form, RunError};
 use aes3_cli_jobs::{Job, ReadWork, Refusal};
-use aes3_files::{FileKind, SoundFile, are_packed, are_turned};
+use aes3_files::{FileKind, SoundFile, are_packed, are_reversed};
 use aes3_forms_samples::SampleFormat;
 use aes3_wave::{Cause, HeaderError};
 
@@ -151,7 +151,7 @@ fn advice_on_octets(error: RunError, first: &[u8]) -> Option<&'static str>
     ensures { IfSome result (λ told. IsTrue (is_told told.now)) }
 {
     match error {
-        RunError::BadCell { .. } if are_turned(first) => {
+        RunError::BadCell { .. } if are_reversed(first) => {
             Some("these look like packed cells: try `--packed-in --lsb-first`")
         }
         RunError::BadCell { .. } => Some("these look like packed cells: try `--packed-in`"),
@@ -238,7 +238,7 @@ pub(crate) fn advice_on_taken(
 fn advice_on_packed(words: &[&str], looks: FileKind, first: &[u8]) -> Option<&'static str> {
     match looks {
         FileKind::CellText => Some("these are cells as text: leave `--raw-in` out"),
-        FileKind::Octets if !words.contains(&"--lsb-first") && are_turned(first) => {
+        FileKind::Octets if !words.contains(&"--lsb-first") && are_reversed(first) => {
             Some("the cells look packed with the first in the lowest bit: try `--lsb-first`")
         }
         _ => None,

@@ -16,7 +16,7 @@ mod sound;
 
 pub use input::Input;
 pub use kind::FileKind;
-pub use packed::{are_packed, are_turned};
+pub use packed::{are_packed, are_reversed};
 pub use part::PartFile;
 pub use preview::Preview;
 pub use sound::{SOUND_HEAD_LEN, SoundFile};

@@ -24,13 +24,13 @@ pub fn are_packed(first: &[u8]) -> bool {
 
 /// Whether the octets can be packed cells only with the first cell in the lowest bit. Some two
 /// neighbours then have such a run, and none have one with the lowest bit of each octet first.
-pub fn are_turned(first: &[u8]) -> bool {
+pub fn are_reversed(first: &[u8]) -> bool {
     let mut is_long = false;
-    let mut is_long_turned = false;
+    let mut is_long_reversed = false;
     for at in 1..first.len() {
         let (before, octet) = (first[at - 1], first[at]);
         is_long |= has_long_run(before, octet);
-        is_long_turned |= has_long_run(before.reverse_bits(), octet.reverse_bits());
+        is_long_reversed |= has_long_run(before.reverse_bits(), octet.reverse_bits());
     }
-    is_long && !is_long_turned
+    is_long && !is_long_reversed
 }

@@ -144,8 +144,8 @@ pub(crate) fn with_bit(word: u32, place: u32, value: bool) -> u32
 {
     // If the bit changes, so does the parity: inverting it keeps it right, without a count of ones.
     let slot = 4 + place;
-    let turned = (word ^ u32::from(value) << slot) & 1 << slot;
-    word ^ (turned | turned << (31 - slot))
+    let changed = (word ^ u32::from(value) << slot) & 1 << slot;
+    word ^ (changed | changed << (31 - slot))
 }
 
 /// The bits in slots 4 to 31 of a word, with its parity bit.

@@ -5,7 +5,7 @@ ghost use Rattle.aes3_program_terminal.specs.Recognising.{Recognised};
 use aes3_cell::Form;
 use aes3_cli_arguments::{CommandLine, LineFault};
 use aes3_cli_jobs::{Job, ReadWork};
-use aes3_files::{FileKind, Preview, are_turned};
+use aes3_files::{FileKind, Preview, are_reversed};
 use std::alloc::AllocError;
 use std::io::Read;
 
@@ -37,7 +37,7 @@ pub fn recognise<R: Read + Drop>(
                 input: Form::Packed,
                 work: ReadWork::Info { notation },
             };
-            line.octets.lsb_first = are_turned(first);
+            line.octets.lsb_first = are_reversed(first);
         }
     }
     Ok(())

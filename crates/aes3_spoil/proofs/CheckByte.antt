@@ -26,7 +26,7 @@ use Rattle.aes3_spoil.specs.declared.kinds.ErrorKind.TheVariants.{Changed, Inver
 use Rattle.aes3_spoil.specs.EachLaws.{AreCheckErrors}
 use Rattle.aes3_spoil.specs.Errors.{errors_at, errors_before, errors_of, same_kind}
 use Rattle.aes3_spoil.specs.ReportLaws.{IsTheReport}
-use Rattle.aes3_spoil.specs.Spoiled.{is_odd, is_turned, level_turned, spoiled, spoiled_at, spoiled_from}
+use Rattle.aes3_spoil.specs.Spoiled.{is_odd, is_inverted, level_inverted, spoiled, spoiled_at, spoiled_from}
 use Rattle.aes3_spoil.proofs.Damaged.{from-same, no-before}
 use Rattle.aes3_spoil.proofs.Refuting.{drop-changed, only-report}
 use Rattle.aes3_spoil.proofs.SpoiledCells.{times-once}
@@ -57,19 +57,19 @@ module _ (e : Errors) (k l : ℕ) (h : ChangeTwo e k l) where
   elsewhere : (kind : ErrorKind) (i : ℕ) → (k ≡ i → ⊥) → (l ≡ i → ⊥) → errors_at e kind i ≡ 0
   elsewhere kind i a b = let x = ne_eqb k i a in let y = ne_eqb l i b in at-two kind i ∙ (rw (x, y) refl)
 
-  one : (i : ℕ) (x : Level) → spoiled_at e i x ≡ level_turned (is_odd (errors_at e Changed i)) x ∷ []
-  unfolding is_turned
+  one : (i : ℕ) (x : Level) → spoiled_at e i x ≡ level_inverted (is_odd (errors_at e Changed i)) x ∷ []
+  unfolding is_inverted
   one i x =
       let z : errors_at e Changed i + errors_before e Inverted (suc i) ≡ errors_at e Changed i =
       (let b = no-before e Inverted (suc i) (λ j o. no-other Inverted j refl) in omega (arith, b)) in
-      ap₂ (λ n b. replicate n (level_turned b x))
+      ap₂ (λ n b. replicate n (level_inverted b x))
       (sym (times-once e i (no-other Lost i refl) (no-other Doubled i refl))) (ap is_odd z)
 
   other-one : (i : ℕ) (x : Level) → errors_at e Changed i ≡ 1 → spoiled_at e i x ≡ other x ∷ []
-  other-one i x n = one i x ∙ ap (λ n. level_turned (is_odd n) x ∷ []) n
+  other-one i x n = one i x ∙ ap (λ n. level_inverted (is_odd n) x ∷ []) n
 
   same-one : (i : ℕ) (x : Level) → (k ≡ i → ⊥) → (l ≡ i → ⊥) → spoiled_at e i x ≡ x ∷ []
-  same-one i x a b = one i x ∙ ap (λ n. level_turned (is_odd n) x ∷ []) (elsewhere Changed i a b)
+  same-one i x a b = one i x ∙ ap (λ n. level_inverted (is_odd n) x ∷ []) (elsewhere Changed i a b)
 
   behind : (i : ℕ) (c : List Level) → k < i → l < i → spoiled_from e i c ≡ c
   behind i c a b =

@@ -12,7 +12,7 @@ use Rattle.aes3_spoil.specs.declared.kinds.ErrorKind.{ErrorKind}
 use Rattle.aes3_spoil.specs.declared.kinds.ErrorKind.TheVariants.{Changed, Inverted, Lost, Doubled}
 use Rattle.aes3_spoil.specs.Errors.{Clear, errors_at, errors_before, errors_of, same_kind}
 use Rattle.aes3_spoil.specs.SpoilLaws.{IsOne}
-use Rattle.aes3_spoil.specs.Spoiled.{is_odd, is_turned, level_turned, spoiled, spoiled_at, spoiled_from}
+use Rattle.aes3_spoil.specs.Spoiled.{is_odd, is_inverted, level_inverted, spoiled, spoiled_at, spoiled_from}
 use Rattle.aes3_spoil.proofs.SpoiledCells.{cell-clear, cells-clear, times-none, times-once, times-twice}
 use Rattle.aes3_spoil.proofs.SpoiledCells.{same-cells, other-cells}
 
@@ -48,7 +48,7 @@ one-here e kind k h other =
 pub from-same : (e : Errors) (i : ℕ) (c : List Level) → Clear e i (i + length c) → errors_before e Inverted i ≡ 0
     → spoiled_from e i c ≡ c
 from-same e i c h b =
-    cells-clear e i c h ∙ ap (λ n. map (level_turned (is_odd n)) c) b ∙ same-cells c
+    cells-clear e i c h ∙ ap (λ n. map (level_inverted (is_odd n)) c) b ∙ same-cells c
 
 pub none-same : (e : Errors) (c : List Level) → errors_of e ≡ [] → e.every ≡ None → spoiled e c ≡ c
 unfolding spoiled
@@ -60,11 +60,11 @@ step : (e : Errors) (kind : ErrorKind) (k : ℕ) → IsOne e kind k → (i : ℕ
     → spoiled_at e i x ≡ x ∷ []
 step e kind k h i x less =
     cell-clear e i x (λ o. one-elsewhere e kind k h o i (λ q. omega (arith, q, less)))
-    ∙ ap (λ n. level_turned (is_odd n) x ∷ [])
+    ∙ ap (λ n. level_inverted (is_odd n) x ∷ [])
     (no-before e Inverted i (λ j g. one-elsewhere e kind k h Inverted j (λ q. omega (arith, q, g, less))))
 
 rest : (e : Errors) (kind : ErrorKind) (k : ℕ) → IsOne e kind k → (c : List Level)
-    → spoiled_from e (suc k) c ≡ map (level_turned (is_odd (errors_before e Inverted (suc k)))) c
+    → spoiled_from e (suc k) c ≡ map (level_inverted (is_odd (errors_before e Inverted (suc k)))) c
 rest e kind k h c =
     cells-clear e (suc k) c
     (record { none = λ o i g l. one-elsewhere e kind k h o i (λ q. omega (arith, q, g)) })
@@ -79,9 +79,9 @@ before-next e kind k h =
     ∙ (let z : 0 + errors_at e Inverted k ≡ errors_at e Inverted k = omega arith in z) ∙ one-here e kind k h Inverted
 
 turned-here : (e : Errors) (kind : ErrorKind) (k : ℕ) → IsOne e kind k
-    → is_turned e k
+    → is_inverted e k
     ≡ is_odd (cond {A = ℕ} (same_kind kind Changed) 1 0 + cond {A = ℕ} (same_kind kind Inverted) 1 0)
-unfolding is_turned
+unfolding is_inverted
 turned-here e kind k h =
     ap is_odd (ap₂ ◌+◌ (one-here e kind k h Changed) (before-next e kind k h))
 
@@ -91,10 +91,10 @@ changed-from e zero i (x ∷ c) h =
     let j : i + 0 ≡ i = omega arith in
     let o : IsOne e Changed i = subst (IsOne e Changed) j h in
     ap₂ ◌++◌
-    (ap₂ (λ n b. replicate n (level_turned b x))
+    (ap₂ (λ n b. replicate n (level_inverted b x))
     (sym (times-once e i (one-here e Changed i o Lost) (one-here e Changed i o Doubled)))
     (turned-here e Changed i o))
-    (rest e Changed i o c ∙ ap (λ n. map (level_turned (is_odd n)) c) (before-next e Changed i o) ∙ same-cells c)
+    (rest e Changed i o c ∙ ap (λ n. map (level_inverted (is_odd n)) c) (before-next e Changed i o) ∙ same-cells c)
 changed-from e (suc k) i (x ∷ c) h =
     let j : i + suc k ≡ suc i + k = omega arith in
     ap₂ ◌++◌ (step e Changed (i + suc k) h i x (omega arith))
@@ -107,8 +107,8 @@ lost-from e zero i (x ∷ c) h =
     let o : IsOne e Lost i = subst (IsOne e Lost) j h in
     let one = one-here e Lost i o Lost in
     ap₂ ◌++◌
-    (ap (λ n. replicate n (level_turned (is_turned e i) x)) (sym (times-none e i (omega (arith, one)))))
-    (rest e Lost i o c ∙ ap (λ n. map (level_turned (is_odd n)) c) (before-next e Lost i o) ∙ same-cells c)
+    (ap (λ n. replicate n (level_inverted (is_inverted e i) x)) (sym (times-none e i (omega (arith, one)))))
+    (rest e Lost i o c ∙ ap (λ n. map (level_inverted (is_odd n)) c) (before-next e Lost i o) ∙ same-cells c)
 lost-from e (suc k) i (x ∷ c) h =
     let j : i + suc k ≡ suc i + k = omega arith in
     ap₂ ◌++◌ (step e Lost (i + suc k) h i x (omega arith)) (lost-from e k (suc i) c (subst (IsOne e Lost) j h))
@@ -121,10 +121,10 @@ doubled-from e zero i (x ∷ c) h l =
     let o : IsOne e Doubled i = subst (IsOne e Doubled) j h in
     let two = one-here e Doubled i o Doubled in
     ap₂ ◌++◌
-    (ap₂ (λ n b. replicate n (level_turned b x))
+    (ap₂ (λ n b. replicate n (level_inverted b x))
     (sym (times-twice e i (one-here e Doubled i o Lost) (omega (arith, two))))
     (turned-here e Doubled i o))
-    (rest e Doubled i o c ∙ ap (λ n. map (level_turned (is_odd n)) c) (before-next e Doubled i o) ∙ same-cells c)
+    (rest e Doubled i o c ∙ ap (λ n. map (level_inverted (is_odd n)) c) (before-next e Doubled i o) ∙ same-cells c)
 doubled-from e (suc k) i (x ∷ c) h l =
     let j : i + suc k ≡ suc i + k = omega arith in
     ap₂ ◌++◌ (step e Doubled (i + suc k) h i x (omega arith))
@@ -138,10 +138,10 @@ inverted-from e zero i (x ∷ c) h =
     let j : i + 0 ≡ i = omega arith in
     let o : IsOne e Inverted i = subst (IsOne e Inverted) j h in
     ap₂ ◌++◌
-    (ap₂ (λ n b. replicate n (level_turned b x))
+    (ap₂ (λ n b. replicate n (level_inverted b x))
     (sym (times-once e i (one-here e Inverted i o Lost) (one-here e Inverted i o Doubled)))
     (turned-here e Inverted i o))
-    (rest e Inverted i o c ∙ ap (λ n. map (level_turned (is_odd n)) c) (before-next e Inverted i o) ∙ other-cells c)
+    (rest e Inverted i o c ∙ ap (λ n. map (level_inverted (is_odd n)) c) (before-next e Inverted i o) ∙ other-cells c)
 inverted-from e (suc k) i (x ∷ c) h =
     let j : i + suc k ≡ suc i + k = omega arith in
     ap₂ ◌++◌ (step e Inverted (i + suc k) h i x (omega arith))

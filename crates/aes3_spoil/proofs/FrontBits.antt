@@ -8,7 +8,7 @@ use Rattle.aes3_level.specs.Words.{level_of, low_cells}
 use Rattle.aes3_capture_recovery.specs.Endings.{level_if}
 use Rattle.aes3_capture_recovery.proofs.WordBits.{low_cells-low-bits}
 use Rattle.aes3_slot.proofs.Turns.{low_cells-not}
-use Rattle.aes3_spoil.specs.Spoiled.{is_odd, level_turned}
+use Rattle.aes3_spoil.specs.Spoiled.{is_odd, level_inverted}
 use Rattle.aes3_spoil.proofs.SpoiledCells.{same-cells, other-cells}
 
 over : (q d r : ℕ) → r < d → (q * d + r) / d ≡ q
@@ -37,22 +37,22 @@ pub front-cells : (n w : ℕ) → n ≤ 64 → low_cells n (bit_and w (184467440
 front-cells n w h = ap (low_cells n) (front n w h) ∙ low_cells-low-bits n w
 
 pub front-same : (n w : ℕ) → n ≤ 64
-    → low_cells n (bit_and w (18446744073709551615 / 2 ^ (64 - n))) ≡ map (level_turned false) (low_cells n w)
+    → low_cells n (bit_and w (18446744073709551615 / 2 ^ (64 - n))) ≡ map (level_inverted false) (low_cells n w)
 front-same n w h = front-cells n w h ∙ sym (same-cells (low_cells n w))
 
 pub front-other : (n w : ℕ) → n ≤ 64 → w < 2 ^ 64
     → low_cells n (bit_and (18446744073709551615 - w) (18446744073709551615 / 2 ^ (64 - n)))
-    ≡ map (level_turned true) (low_cells n w)
+    ≡ map (level_inverted true) (low_cells n w)
 front-other n w h l =
     front-cells n (18446744073709551615 - w) h ∙ low_cells-not n w h l ∙ sym (other-cells (low_cells n w))
 
 -- the level of a word's first cell, turned
 pub first-level : (w : ℕ) (turned : Bool)
-    → level_if (cond turned (not (is_odd w)) (is_odd w)) ≡ level_turned turned (level_of (w % 2))
+    → level_if (cond turned (not (is_odd w)) (is_odd w)) ≡ level_inverted turned (level_of (w % 2))
 first-level w turned = go (w % 2) (omega arith) turned
   where
     go : (b : ℕ) → b < 2 → (turned : Bool)
-        → level_if (cond turned (not (b == 1)) (b == 1)) ≡ level_turned turned (level_of b)
+        → level_if (cond turned (not (b == 1)) (b == 1)) ≡ level_inverted turned (level_of b)
     go zero h true = refl
     go zero h false = refl
     go (suc zero) h true = refl

@@ -10,7 +10,7 @@ use Rattle.aes3_spoil.specs.declared.errors.Errors.{Errors}
 use Rattle.aes3_spoil.specs.declared.kinds.ErrorKind.{ErrorKind}
 use Rattle.aes3_spoil.specs.declared.kinds.ErrorKind.TheVariants.{Changed, Inverted, Lost, Doubled}
 use Rattle.aes3_spoil.specs.Errors.{Clear, errors_at, errors_before}
-use Rattle.aes3_spoil.specs.Spoiled.{is_odd, is_turned, level_turned, spoiled, spoiled_at, spoiled_from, times}
+use Rattle.aes3_spoil.specs.Spoiled.{is_odd, is_inverted, level_inverted, spoiled, spoiled_at, spoiled_from, times}
 use Rattle.aes3_spoil.proofs.Listed.{clear-back, clear-front}
 
 from-join : (e : Errors) (i : ℕ) (c d : List Level)
@@ -36,18 +36,18 @@ pub spoiled-one : (e : Errors) (i : ℕ) (x : Level) → spoiled_from e i (x ∷
 spoiled-one e i x = append-nil (spoiled_at e i x)
 
 -- all cells as they are, and all turned
-pub same-cells : (c : List Level) → map (level_turned false) c ≡ c
+pub same-cells : (c : List Level) → map (level_inverted false) c ≡ c
 same-cells [] = refl
 same-cells (x ∷ c) = ap (λ d. x ∷ d) (same-cells c)
 
-pub other-cells : (c : List Level) → map (level_turned true) c ≡ map other c
+pub other-cells : (c : List Level) → map (level_inverted true) c ≡ map other c
 other-cells [] = refl
 other-cells (x ∷ c) = ap (λ d. other x ∷ d) (other-cells c)
 
 -- a cell at which no error stands
 pub turned-clear : (e : Errors) (i : ℕ) → errors_at e Changed i ≡ 0 → errors_at e Inverted i ≡ 0
-    → is_turned e i ≡ is_odd (errors_before e Inverted i)
-unfolding is_turned
+    → is_inverted e i ≡ is_odd (errors_before e Inverted i)
+unfolding is_inverted
 turned-clear e i a b = rw (a, b) (ap is_odd (let z : 0 + (errors_before e Inverted i + 0) ≡ errors_before e Inverted i
     = omega arith in z))
 
@@ -64,9 +64,9 @@ unfolding times
 times-once e i a b = rw (a, b) refl
 
 pub cell-clear : (e : Errors) (i : ℕ) (x : Level) → ((kind : ErrorKind) → errors_at e kind i ≡ 0)
-    → spoiled_at e i x ≡ level_turned (is_odd (errors_before e Inverted i)) x ∷ []
+    → spoiled_at e i x ≡ level_inverted (is_odd (errors_before e Inverted i)) x ∷ []
 cell-clear e i x h =
-    ap₂ (λ n b. replicate n (level_turned b x)) (sym (times-once e i (h Lost) (h Doubled)))
+    ap₂ (λ n b. replicate n (level_inverted b x)) (sym (times-once e i (h Lost) (h Doubled)))
     (turned-clear e i (h Changed) (h Inverted))
 
 before-clear : (e : Errors) (i : ℕ) → errors_at e Inverted i ≡ 0
@@ -75,13 +75,13 @@ before-clear e i h = omega (arith, h)
 
 -- cells at which no error stands
 pub cells-clear : (e : Errors) (i : ℕ) (c : List Level) → Clear e i (i + length c)
-    → spoiled_from e i c ≡ map (level_turned (is_odd (errors_before e Inverted i))) c
+    → spoiled_from e i c ≡ map (level_inverted (is_odd (errors_before e Inverted i))) c
 cells-clear e i [] h = refl
 cells-clear e i (x ∷ c) h =
     let z : (kind : ErrorKind) → errors_at e kind i ≡ 0 = λ kind. h.none kind i (omega arith) (omega arith) in
     ap₂ ◌++◌ (cell-clear e i x z)
     (cells-clear e (suc i) c (clear-front (omega arith) (clear-back (omega arith) h))
-    ∙ ap (λ n. map (level_turned (is_odd n)) c) (before-clear e i (z Inverted)))
+    ∙ ap (λ n. map (level_inverted (is_odd n)) c) (before-clear e i (z Inverted)))
 
 pub inverted-clear : (e : Errors) (i n : ℕ) → Clear e i (i + n)
     → errors_before e Inverted (i + n) ≡ errors_before e Inverted i

@@ -17,7 +17,7 @@ use Rattle.aes3_spoil.specs.declared.errors.Errors.{Errors}
 use Rattle.aes3_spoil.specs.declared.kinds.ErrorKind.TheVariants.{Changed, Inverted}
 use Rattle.aes3_spoil.specs.declared.spoiling.Spoiler.{Spoiler}
 use Rattle.aes3_spoil.specs.Errors.{Clear, errors_at, errors_before}
-use Rattle.aes3_spoil.specs.Spoiled.{is_odd, is_turned, level_turned, spoiled, spoiled_from, times}
+use Rattle.aes3_spoil.specs.Spoiled.{is_odd, is_inverted, level_inverted, spoiled, spoiled_from, times}
 use Rattle.aes3_spoil.specs.Spoiling.{Spoils, bytes_added, held, spoiler_state, spoiling}
 use Rattle.aes3_spoil.proofs.FrontBits.{first-level}
 use Rattle.aes3_spoil.proofs.Listed.{clear-back, clear-front}
@@ -79,10 +79,10 @@ ends-front s (Err x) w = λ c h. front-is (ap (ending_of s.out.form) h.held ∙ 
 -- cells at which no error stands
 pub clear-cells : (s : Spoiler) (n word : ℕ) (c : List Level) → n ≤ s.clear → length (low_cells n word) ≡ n
     → Spoils s c
-    → spoiled_from s.errors (length c) (low_cells n word) ≡ map (level_turned s.inverted) (low_cells n word)
+    → spoiled_from s.errors (length c) (low_cells n word) ≡ map (level_inverted s.inverted) (low_cells n word)
 clear-cells s n word c less l h =
     cells-clear s.errors (length c) (low_cells n word) (clear-front (omega (arith, less, l)) h.clear)
-    ∙ ap (λ b. map (level_turned b) (low_cells n word)) (sym h.inverted)
+    ∙ ap (λ b. map (level_inverted b) (low_cells n word)) (sym h.inverted)
 
 pub clear-stands : (s : Spoiler) (n : ℕ) (c d : List Level) → n ≤ s.clear → length d ≡ n → Spoils s c
     → Stands s.errors (s.place + n) s.inverted (s.clear - n) (c ++ d)
@@ -110,8 +110,8 @@ inverted-one s c inverted count h k e =
 pub turned-one : (s : Spoiler) (c : List Level) (inverted turned : Bool) (count : ℕ) → Spoils s c
     → inverted ≡ is_odd (errors_before s.errors Inverted (suc (length c)))
     → count ≡ errors_at s.errors Changed s.place → turned ≡ cond (is_odd count) (not inverted) inverted
-    → turned ≡ is_turned s.errors (length c)
-unfolding is_turned
+    → turned ≡ is_inverted s.errors (length c)
+unfolding is_inverted
 turned-one s c inverted turned count h i k e =
     let b = errors_before s.errors Inverted (suc (length c)) in
     let a = errors_at s.errors Changed (length c) in
@@ -119,13 +119,13 @@ turned-one s c inverted turned count h i k e =
     ∙ ap is_odd (let z : b + a ≡ a + b = omega arith in z)
 
 pub one-cell : (s : Spoiler) (c : List Level) (turned : Bool) (n word : ℕ) → Spoils s c
-    → turned ≡ is_turned s.errors (length c) → n ≡ times s.errors s.place
+    → turned ≡ is_inverted s.errors (length c) → n ≡ times s.errors s.place
     → spoiled_from s.errors (length c) (low_cells 1 word)
     ≡ replicate n (level_if (cond turned (not (is_odd word)) (is_odd word)))
 one-cell s c turned n word h t k =
     spoiled-one s.errors (length c) (level_of (word % 2))
     ∙ sym (ap₂ replicate (k ∙ ap (times s.errors) h.place)
-    (first-level word turned ∙ ap (λ b. level_turned b (level_of (word % 2))) t))
+    (first-level word turned ∙ ap (λ b. level_inverted b (level_of (word % 2))) t))
 
 pub one-stands : (s : Spoiler) (c : List Level) (x : Level) (inverted : Bool) (clear : ℕ) → Spoils s c
     → inverted ≡ is_odd (errors_before s.errors Inverted (suc (length c)))

@@ -10,12 +10,12 @@ abbrev pub is_odd : ℕ → Bool
 is_odd n = (n % 2) == 1
 
 -- the level, or the other one
-abbrev pub level_turned : Bool → Level → Level
-level_turned turned level = if turned then other level else level
+abbrev pub level_inverted : Bool → Level → Level
+level_inverted turned level = if turned then other level else level
 
 -- cell i has the other level: the errors are odd that change it, or invert it or one before it
-unfoldable pub is_turned : Errors → ℕ → Bool
-is_turned errors i = is_odd (errors_at errors Changed i + errors_before errors Inverted (suc i))
+unfoldable pub is_inverted : Errors → ℕ → Bool
+is_inverted errors i = is_odd (errors_at errors Changed i + errors_before errors Inverted (suc i))
 
 -- how many times cell i is written: a lost one is not, a doubled one is twice
 unfoldable pub times : Errors → ℕ → ℕ
@@ -24,7 +24,7 @@ times errors i =
 
 -- what errors make of cell i, of cells of which the first is cell i, and of all cells
 abbrev pub spoiled_at : Errors → ℕ → Level → List Level
-spoiled_at errors i level = replicate (times errors i) (level_turned (is_turned errors i) level)
+spoiled_at errors i level = replicate (times errors i) (level_inverted (is_inverted errors i) level)
 
 abbrev pub spoiled_from : Errors → ℕ → List Level → List Level
 spoiled_from errors i [] = []

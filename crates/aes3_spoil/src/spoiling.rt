@@ -11,7 +11,7 @@ ghost use Rattle.aes3_input.specs.Driving.{CellRun};
 ghost use Rattle.aes3_input.specs.Forms.{CellsRan};
 ghost use Rattle.aes3_input.specs.Inputs.{cells_of};
 ghost use Rattle.aes3_input.specs.Running.{movement_of};
-ghost use Rattle.aes3_spoil.specs.Spoiled.{is_odd, level_turned, spoiled, times};
+ghost use Rattle.aes3_spoil.specs.Spoiled.{is_odd, level_inverted, spoiled, times};
 ghost use Rattle.aes3_spoil.specs.Spoiling.{Spoils, spoil_counts, spoiler_state, spoiling};
 ghost use Rattle.aes3_spoil.specs.Spoiling.{whole_words};
 
@@ -36,16 +36,16 @@ struct Spoiler {
     out: CellsOut,
 }
 
-/// The first cells of a word, all inverted if `turned` is true.
+/// The first cells of a word, all inverted if `is_inverted` is true.
 #[inline(always)]
-fn front_of(word: u64, len: u32, turned: bool) -> u64
+fn front_of(word: u64, len: u32, is_inverted: bool) -> u64
     requires some { 0 < len }
     requires few { len ≤ 64 }
-    ensures cells { low_cells len result ≡ map (level_turned turned) (low_cells len word) }
+    ensures cells { low_cells len result ≡ map (level_inverted is_inverted) (low_cells len word) }
     ensures no_more { result < 2 ^ len }
 {
     let all = u64::MAX >> (64 - len);
-    if turned { !word & all } else { word & all }
+    if is_inverted { !word & all } else { word & all }
 }
 
 /// Whether a number is odd.
@@ -124,12 +124,12 @@ impl Spoiler {
         let inversions = self.errors.count(ErrorKind::Inverted, place);
         let changes = self.errors.count(ErrorKind::Changed, place);
         let inverted = differ(self.inverted, is_odd(inversions));
-        let turned = differ(inverted, is_odd(changes));
+        let is_inverted = differ(inverted, is_odd(changes));
         let times = times(&self.errors, place);
         self.place += 1;
         self.inverted = inverted;
         self.clear = self.errors.clear_from(place + 1);
-        let high = differ(is_odd(word), turned);
+        let high = differ(is_odd(word), is_inverted);
         self.out.put(sink, bits_of_cells(high, times), times)
     }
 }

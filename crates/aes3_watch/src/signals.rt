@@ -103,8 +103,8 @@ pub(crate) fn carry_the_same(words: &[u64; SUBFRAMES], lasts: &[u8; SUBFRAMES]) 
     let mut unlike = u8x16::splat(0);
     for i in 0..SUBFRAMES / LANES {
         let at = LANES * i;
-        let turned = last_cells(words, at) ^ u8x16::from_slice(&lasts[at..]);
-        unlike |= turned ^ (turned >> u8x16::splat(1));
+        let changed = last_cells(words, at) ^ u8x16::from_slice(&lasts[at..]);
+        unlike |= changed ^ (changed >> u8x16::splat(1));
     }
     unlike.reduce_or() & FIRST_CELLS == 0
 }

@@ -8,7 +8,7 @@ use crate::numbers::Numbers;
 use crate::runs::{run_capture, run_command, some_of};
 use crate::workload_lines::{
     Layout, NO_STATUS, blocks, dense_preambles, noise, packed_cells, samples_of_block, slipped,
-    text_cells, with_turned_cells,
+    text_cells, with_inverted_cells,
 };
 use aes3_capture_recovery::Unit;
 use anyhow::{Result, bail};
@@ -71,7 +71,7 @@ impl<'a> Workload<'a> {
     fn line(&mut self) -> Result<Vec<Vec<u8>>, AllocError> {
         let blocks = blocks(self.alloc, &mut self.numbers, BLOCKS)?;
         let mut pieces = packed_cells(self.alloc, blocks.as_slice())?;
-        let some = with_turned_cells(
+        let some = with_inverted_cells(
             self.alloc,
             packed_cells(self.alloc, &blocks.as_slice()[..blocks.len().min(2)])?,
             &mut self.numbers,
@@ -144,7 +144,7 @@ impl<'a> Workload<'a> {
         let packed = self.line()?;
         let slips = slipped(alloc, packed.as_slice(), &mut self.numbers, 2000)?;
         self.packed(&["check", "--packed-in", "--gaps"], slips.as_slice(), 400)?;
-        let hit = with_turned_cells(alloc, packed, &mut self.numbers, 400)?;
+        let hit = with_inverted_cells(alloc, packed, &mut self.numbers, 400)?;
         let hit = text_cells(alloc, hit.as_slice(), LINES)?;
         self.text(&["normal"], hit.as_slice(), 400)
     }

@@ -138,7 +138,7 @@ pub fn text_cells(
 
 /// Copies of the pieces with about one octet in `every` changed, so that a cell is inverted,
 /// followed by the pieces themselves.
-pub fn with_turned_cells(
+pub fn with_inverted_cells(
     alloc: Global,
     pieces: Vec<Vec<u8>>,
     numbers: &mut Numbers,
@@ -146,7 +146,7 @@ pub fn with_turned_cells(
 ) -> Result<Vec<Vec<u8>>, AllocError> {
     let mut all = Vec::new(alloc);
     for piece in pieces.iter() {
-        all.push(turned(alloc, piece.as_slice(), numbers, every)?)?;
+        all.push(with_inverted(alloc, piece.as_slice(), numbers, every)?)?;
     }
     for piece in pieces {
         all.push(piece)?;
@@ -155,7 +155,7 @@ pub fn with_turned_cells(
 }
 
 /// Octets with one bit inverted in about one octet in `every`.
-fn turned(
+fn with_inverted(
     alloc: Global,
     octets: &[u8],
     numbers: &mut Numbers,

@@ -7,7 +7,7 @@ use Rattle.aes3_block.proofs.read_cells.renewed.Goals as goal
 pub returns-then-wrong_in-eq0 : goal.returns-then-wrong_in-eq0
 returns-then-wrong_in-eq0 c =
     c.wrong_in.ensures c.if-wrong_in-eq0.true
-    ∙ ap (λ bits. line c.args.before (subframe_runs c.args.mark (take payload_len bits))) c.turned-same.ensures
+    ∙ ap (λ bits. line c.args.before (subframe_runs c.args.mark (take payload_len bits))) c.inverted_if-same.ensures
 
 pub returns : goal.returns
 returns c =

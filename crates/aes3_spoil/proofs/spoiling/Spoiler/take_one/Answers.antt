@@ -18,12 +18,12 @@ returns g c =
     let i = inverted-one s d c.differ-inverted.result c.count-inversions.result h c.count-inversions.ensures
     (c.differ-inverted.ensures
     ∙ ap (λ b. cond b (not s.inverted) s.inverted) c.is_odd.ensures) in
-    let t = turned-one s d c.differ-inverted.result c.differ-turned.result c.count-changes.result h i
-    (c.count-changes.ensures ∙ ap (errors_at s.errors Changed) (omega arith)) (c.differ-turned.ensures
+    let t = turned-one s d c.differ-inverted.result c.differ-is_inverted.result c.count-changes.result h i
+    (c.count-changes.ensures ∙ ap (errors_at s.errors Changed) (omega arith)) (c.differ-is_inverted.ensures
     ∙ ap (λ b. cond b (not c.differ-inverted.result) c.differ-inverted.result) c.is_odd-2.ensures) in
-    one-cell s d c.differ-turned.result n w h t c.times-times.ensures.times
+    one-cell s d c.differ-is_inverted.result n w h t c.times-times.ensures.times
     ∙ ap (λ b. replicate n (level_if b)) (sym (c.differ-high.ensures
-    ∙ ap (λ b. cond c.differ-turned.result (not b) b) c.is_odd-3.ensures)) ∙ sym c.bits_of_cells.ensures.cells)
+    ∙ ap (λ b. cond c.differ-is_inverted.result (not b) b) c.is_odd-3.ensures)) ∙ sym c.bits_of_cells.ensures.cells)
     (λ d h.
     let i = inverted-one s d c.differ-inverted.result c.count-inversions.result h c.count-inversions.ensures
     (c.differ-inverted.ensures
