@@ -41,7 +41,7 @@ counted-rest at mid new past told samples n a c = record {
   more = c.more;
   at = c.at;
   passed = passed-more at mid c.at past told samples c.told a c.passed;
-  turned = c.reversed;
+  turned = c.turned;
   sum = ap (λ k. told + k) c.sum ∙ sym (add_assoc told c.told (if c.more then 1 else 0));
 }
 
@@ -89,7 +89,7 @@ turned-ends f g more t = λ same other before run given cells displaced follows 
 pub counted-counts : (old new : Follower) (samples n : ℕ) → Counted old samples n new → Counts old samples n new
 counted-counts old new samples n c =
     run-counts old c.at new samples c.told n c.more c.passed.bounds_is
-    (passed-passes old c.at samples c.told c.passed) (turned-ends c.at new c.more c.reversed) c.sum
+    (passed-passes old c.at samples c.told c.passed) (turned-ends c.at new c.more c.turned) c.sum
 
 -- what it counts of a capture of cells are these
 pub counted-line : (f g : Follower) (runs cells counts : List ℕ) (same other displaced : ℕ)
