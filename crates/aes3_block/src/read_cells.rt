@@ -16,7 +16,7 @@ use aes3_frame::{GatheredCells, PAYLOAD_LIMIT, SUBFRAMES, wrong_in};
 use aes3_slot::{Mark, mark_of, slot_bits, subframe_cells};
 
 /// A subframe's cells, inverted if `inverted` is true.
-fn inverted_if(inverted: bool, cells: u64) -> u64
+fn invert_if(inverted: bool, cells: u64) -> u64
     ensures { read_word result ≡ read_word cells }
 {
     if inverted { !cells } else { cells }
@@ -30,11 +30,11 @@ fn is_inverted(before: Level, cells: u64) -> bool {
 
 /// The cells of the subframe with this preamble after the level `before`, with the payload that
 /// these cells carry.
-fn renewed(before: Level, mark: Mark, cells: u64) -> u64
+fn renew(before: Level, mark: Mark, cells: u64) -> u64
     ensures { word_cells result ≡ line before (subframe_runs mark
         (take payload_len (read_word cells))) }
 {
-    let same = inverted_if(is_inverted(before, cells), cells);
+    let same = invert_if(is_inverted(before, cells), cells);
     if wrong_in(before, mark, same) == 0 {
         return same;
     }
@@ -48,7 +48,7 @@ fn renew_each(before: Level, words: &[u64; SUBFRAMES], cells: &mut [u64; SUBFRAM
         (map (take payload_len) (read_words words.now)) }
 {
     for (subframe, word) in words.iter().enumerate() {
-        cells[subframe] = renewed(before, mark_of(subframe as u64), *word);
+        cells[subframe] = renew(before, mark_of(subframe as u64), *word);
     }
 }
 
@@ -61,7 +61,7 @@ fn turn_all(before: Level, words: &[u64; SUBFRAMES], cells: &mut [u64; SUBFRAMES
     let inverted = is_inverted(before, words[0]);
     let mut wrong = 0;
     for (subframe, word) in words.iter().enumerate() {
-        let same = inverted_if(inverted, *word);
+        let same = invert_if(inverted, *word);
         cells[subframe] = same;
         wrong |= wrong_in(before, mark_of(subframe as u64), same);
     }
@@ -103,7 +103,7 @@ fn are_same(first: Level, second: Level) -> bool
 }
 
 /// The cells of a word, inverted.
-fn inverted(cells: u64) -> u64
+fn invert(cells: u64) -> u64
     ensures { word_cells result ≡ map other (word_cells cells) }
 {
     !cells
@@ -114,7 +114,7 @@ fn invert_all(words: &[u64; SUBFRAMES], cells: &mut [u64; SUBFRAMES])
     ensures { flat_map word_cells cells.new ≡ map other (flat_map word_cells words.now) }
 {
     for (subframe, word) in words.iter().enumerate() {
-        cells[subframe] = inverted(*word);
+        cells[subframe] = invert(*word);
     }
 }
 

@@ -83,7 +83,7 @@ impl Follower {
 
     /// The follower at its latest edge for the same samples in reverse: what was after a place is
     /// before it. Its period is given.
-    pub fn reversed(&self, period: u64) -> Self
+    pub fn reverse(&self, period: u64) -> Self
         requires longest { period ≤ self.now.bounds.high }
         requires shortest { self.now.bounds.low ≤ period }
         ensures bounds { result.bounds ≡ self.now.bounds }

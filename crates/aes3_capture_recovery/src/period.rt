@@ -310,7 +310,7 @@ fn at_first(runs: &[u32], anchor: usize, bounds: Bounds, measured: u64) -> Follo
     for i in 0..anchor + 1 {
         follower.run(runs[anchor - i]);
     }
-    follower.reversed(period)
+    follower.reverse(period)
 }
 
 /// Whether four runs of cells are a preamble: 3, 3, 1, 1 or 3, 2, 1, 2 or 3, 1, 1, 3.

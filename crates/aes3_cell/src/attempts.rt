@@ -76,7 +76,7 @@ fn trouble_of(error: &io::Error) -> Trouble
 }
 
 /// What the result of a reader means.
-fn given(answer: io::Result<usize>) -> Result<usize, Trouble>
+fn answer_of_read(answer: io::Result<usize>) -> Result<usize, Trouble>
     ensures ok { IfOk answer (λ n. result ≡ Ok n) }
     ensures err { IfErr answer (λ _. IsErr result) }
     ensures trouble { IfErr answer (λ error. IfErr result (λ trouble. trouble ≡ Trouble.Interrupted
@@ -89,7 +89,7 @@ fn given(answer: io::Result<usize>) -> Result<usize, Trouble>
 }
 
 /// What the result of a writer means: taking no byte is a failure.
-fn taken(answer: io::Result<usize>) -> Result<usize, Trouble>
+fn answer_of_write(answer: io::Result<usize>) -> Result<usize, Trouble>
     ensures ok { IfOk answer (λ n. 0 < n → result ≡ Ok n) }
     ensures none { IfOk answer (λ n. n ≡ 0 → result ≡ Err Trouble.Failed) }
     ensures err { IfErr answer (λ _. IsErr result) }
@@ -104,7 +104,7 @@ fn taken(answer: io::Result<usize>) -> Result<usize, Trouble>
 }
 
 /// What the result of a flush means.
-fn flushed(answer: io::Result<()>) -> Result<(), Trouble>
+fn answer_of_flush(answer: io::Result<()>) -> Result<(), Trouble>
     ensures ok { IsOk answer → IsOk result }
     ensures err { IfErr answer (λ _. IsErr result) }
     ensures trouble { IfErr answer (λ error. IfErr result (λ trouble. trouble ≡ Trouble.Interrupted
@@ -123,7 +123,7 @@ impl<R: Read> Reader for R {
     ghost met = { λ _. untroubled };
 
     fn try_read(&mut self, buf: &mut [u8]) -> Result<usize, Trouble> {
-        given(self.read(buf))
+        answer_of_read(self.read(buf))
     }
 }
 
@@ -136,11 +136,11 @@ impl<W: Write> Writer for W {
     ghost met = { λ _. untroubled };
 
     fn try_write(&mut self, buf: &[u8]) -> Result<usize, Trouble> {
-        taken(self.write(buf))
+        answer_of_write(self.write(buf))
     }
 
     fn try_flush(&mut self) -> Result<(), Trouble> {
-        flushed(self.flush())
+        answer_of_flush(self.flush())
     }
 }
 

@@ -24,7 +24,7 @@ const FROM_HIGH: [u8; 64] = [
 
 /// The octets with the bits of each in reversed order.
 #[inline(always)]
-fn reversed(octets: u8x64) -> u8x64
+fn reverse_octets(octets: u8x64) -> u8x64
     ensures { result ≡ map (λ octet. octet_of (low_cells 8 octet)) octets }
 {
     let high = u8x64::from_array(FROM_LOW).swizzle_dyn_within::<16>(octets & u8x64::splat(15));
@@ -38,7 +38,7 @@ pub(crate) fn eight_words(octets: u8x64) -> u64x8
     ensures len { length result ≡ 8 }
     ensures cells { flat_map word_cells result ≡ cells_of_octets octets }
 {
-    u64x8::from_le_bytes(reversed(octets))
+    u64x8::from_le_bytes(reverse_octets(octets))
 }
 
 /// The octets of eight words, the first cell of each in the highest bit of its first octet.
@@ -47,5 +47,5 @@ pub(crate) fn octets_of_eight(words: u64x8) -> u8x64
     ensures len { length result ≡ 64 }
     ensures octets { result ≡ octets_of (flat_map word_cells words) }
 {
-    reversed(words.to_le_bytes())
+    reverse_octets(words.to_le_bytes())
 }

@@ -84,7 +84,7 @@ const FEW: u32 = 9;
 /// The same result as `together`, for text with few separators, as in long lines. It closes each
 /// gap by itself, from the lowest one on, by moving all above it down by one.
 #[inline(always)]
-fn closed_up(kept: u64, levels: u64) -> SomeCells
+fn close_up(kept: u64, levels: u64) -> SomeCells
     ensures { low_cells result.len result.word ≡ kept_cells 64 kept levels }
 {
     let mut gaps = !kept;
@@ -124,7 +124,7 @@ fn kept_together(kept: u64, levels: u64) -> SomeCells
     ensures { low_cells result.len result.word ≡ kept_cells 64 kept levels }
 {
     if kept.count_zeros() <= FEW {
-        return closed_up(kept, levels);
+        return close_up(kept, levels);
     }
     if kept == FROM_FIRST {
         every_second(levels)

@@ -66,10 +66,10 @@ pub fn line_of_words<'a>(alloc: Global, words: &'a [&'a str]) -> Result<CommandL
     ensures fault { IfErr result (IsFaultOf (map (λ word. word.now) words.now)) }
 {
     if asks_to_explain(words) {
-        return Err(explained(alloc, &words[1..]));
+        return Err(explain(alloc, &words[1..]));
     }
     match explained_number(words) {
-        Some(number) => Err(explained(alloc, &[number])),
+        Some(number) => Err(explain(alloc, &[number])),
         None => plain_line(alloc, words),
     }
 }
@@ -87,7 +87,7 @@ pub fn job_of_words<'a>(alloc: Global, words: &'a [&'a str]) -> Result<Job, Line
 }
 
 /// The answer to the words after `--explain`.
-fn explained(alloc: Global, words: &[&str]) -> LineFault
+fn explain(alloc: Global, words: &[&str]) -> LineFault
     ensures { IsExplanation (map (λ word. word.now) words.now) result }
 {
     match explanation(alloc, words) {

@@ -18,7 +18,7 @@ use aes3_frame::CarriedBits;
 use aes3_lock_runs::{BlockWriter, run_blocks};
 
 /// The V, U or C bits of a channel in a block, as octets.
-fn carried(block: &Block, bits: CarriedBits, channel: Channel) -> [u8; 24]
+fn carried_bytes(block: &Block, bits: CarriedBits, channel: Channel) -> [u8; 24]
     ensures { result ≡ carried bits channel block.now }
 {
     match bits {
@@ -41,7 +41,10 @@ impl BlockWriter for CarriedBlocks {
     ghost ends = { λ _. [] };
 
     fn put<T: Sink>(&self, sink: &mut T, _number: u64, cells: &GatheredCells) -> Result<(), Fault> {
-        write_all(sink, &carried(&cells.block(), self.bits, self.channel))
+        write_all(
+            sink,
+            &carried_bytes(&cells.block(), self.bits, self.channel),
+        )
     }
 
     fn put_end<T: Sink>(&self, _sink: &mut T) -> Result<(), Fault> {

@@ -81,7 +81,7 @@ impl ExactBlocks {
             (exact_samples S16 (placed (report_in lock.now ending ∷ [])))) result }
     {
         match ending {
-            Ending::Whole { at, .. } => self.put_block(sink, at, &lock.gathered().block()),
+            Ending::Whole { at, .. } => self.put_block(sink, at, &lock.gathered_cells().block()),
             Ending::Marked { .. } => Ok(()),
             Ending::Fault { .. } => Ok(()),
             Ending::Unfinished { .. } => Ok(()),

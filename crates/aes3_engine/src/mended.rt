@@ -79,11 +79,13 @@ impl MendedBlocks {
     {
         match ending {
             Ending::Whole { at, .. } => {
-                let block = lock.gathered().block();
+                let block = lock.gathered_cells().block();
                 self.put_block(sink, at, block)
             }
             Ending::Marked { at, .. } => {
-                let block = lock.gathered().mended(self.filled.fill, &self.before);
+                let block = lock
+                    .gathered_cells()
+                    .mended_block(self.filled.fill, &self.before);
                 self.marked += 1;
                 self.put_block(sink, at, block)
             }

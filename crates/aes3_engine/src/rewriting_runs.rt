@@ -141,7 +141,7 @@ impl RewrittenBlocks {
             (report_in lock.now ending)) result }
     {
         match ending {
-            Ending::Whole { .. } => self.put_cells(sink, lock.gathered()),
+            Ending::Whole { .. } => self.put_cells(sink, lock.gathered_cells()),
             Ending::Marked { .. } => Ok(()),
             Ending::Fault { .. } => Ok(()),
             Ending::Unfinished { .. } => Ok(()),

@@ -23,7 +23,7 @@ use aes3_forms_samples::SampleFormat;
 use aes3_lock_runs::{BlockWriter, run_blocks};
 
 /// The subframe with zero audio if its validity bit is 1.
-fn silenced(subframe: Subframe) -> Subframe
+fn silence_subframe(subframe: Subframe) -> Subframe
     ensures { bits_of result ≡ silenced (bits_of subframe) }
 {
     if !subframe.v {
@@ -44,8 +44,8 @@ fn silence(block: &mut Block)
     for i in 0..block.words().len() / 2 {
         let frame = block.frame(i);
         let frame = Frame {
-            first: silenced(frame.first),
-            second: silenced(frame.second),
+            first: silence_subframe(frame.first),
+            second: silence_subframe(frame.second),
         };
         block.set_frame(i, frame);
     }

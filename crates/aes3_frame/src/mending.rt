@@ -53,7 +53,7 @@ impl GatheredCells {
     /// The block whose payloads these subframes carry, those with wrong parity filled: with zeros,
     /// or with the payload of the subframe before it in its channel. Before the first frame, that
     /// is the payload in the last frame of the block `before`.
-    pub fn mended(&self, fill: Fill, before: &Block) -> Block
+    pub fn mended_block(&self, fill: Fill, before: &Block) -> Block
         ensures { result ≡ mended fill before.now (read_words self.now) }
     {
         let kept = before.words();

@@ -97,7 +97,7 @@ impl Inspector {
         ensures facts { self.new.facts ≡ with_samples self.old.facts (report_in lock.now ending) }
     {
         if let Ending::Whole { .. } = ending {
-            let block = lock.gathered().block();
+            let block = lock.gathered_cells().block();
             self.facts.first.count(&block, Channel::First);
             self.facts.second.count(&block, Channel::Second);
         }

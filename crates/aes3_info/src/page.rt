@@ -108,7 +108,7 @@ fn put_end(line: &mut Line, notation: Notation)
 }
 
 /// The value if nothing is known.
-fn unknown(notation: Notation) -> &'static str
+fn unknown_word(notation: Notation) -> &'static str
     ensures text { result.now ≡ unknown notation }
     ensures len { length result.now ≤ 7 }
 {
@@ -194,7 +194,7 @@ fn put_rate(line: &mut Line, notation: Notation, rate: Option<u32>)
 {
     match rate {
         Some(rate) => line.number(u64::from(rate)),
-        None => line.text(unknown(notation)),
+        None => line.text(unknown_word(notation)),
     }
 }
 
@@ -207,7 +207,7 @@ fn put_length(line: &mut Line, notation: Notation, rate: Option<u32>, cells: u64
 {
     match rate {
         Some(rate) => put_seconds(line, cells, second_cells(rate)),
-        None => line.text(unknown(notation)),
+        None => line.text(unknown_word(notation)),
     }
 }
 
@@ -304,7 +304,7 @@ fn status_of(notation: Notation, channel: Channel, status: &Option<[u8; 24]>) ->
     match status {
         None => {
             put_name(&mut line, notation, "status", digit_of(channel));
-            line.text(unknown(notation));
+            line.text(unknown_word(notation));
             put_end(&mut line, notation);
         }
         Some(status) => match notation {
@@ -397,7 +397,7 @@ fn put_silence(line: &mut Line, notation: Notation, channel: Channel, whole: u64
 {
     put_name(line, notation, "silent", digit_of(channel));
     if whole == 0 {
-        line.text(unknown(notation));
+        line.text(unknown_word(notation));
     } else {
         line.text(answer(notation, greatest == 0));
     }

@@ -34,7 +34,7 @@ pub(crate) fn with_next(cells: u64, len: u64, cell: Level) -> u64
 }
 
 /// The subframe whose first `len` cells are these and whose other cells are the first of `word`.
-pub(crate) fn completed(cells: u64, len: u64, word: u64) -> u64
+pub(crate) fn complete_subframe(cells: u64, len: u64, word: u64) -> u64
     requires { len < 64 }
     ensures { cells < 2 ^ len → word_cells result ≡ low_cells len cells
         ++ take (64 - len) (word_cells word) }
@@ -168,7 +168,7 @@ fn fronts_of(begun: u64, len: u64, words: u64x8) -> [u64; 8]
 
 /// The eight subframes that eight words complete. The first begins with the `len` cells of `begun`,
 /// each other one with the last `len` cells of the word before.
-pub(crate) fn eight_completed(begun: u64, len: u64, words: &[u64; 8]) -> [u64; 8]
+pub(crate) fn complete_eight(begun: u64, len: u64, words: &[u64; 8]) -> [u64; 8]
     requires { len < 64 }
     ensures { begun < 2 ^ len → (i : ℕ) → i < 8
         → word_cells (get_or result i 0) ≡ begun_before len begun words.now i
@@ -177,7 +177,7 @@ pub(crate) fn eight_completed(begun: u64, len: u64, words: &[u64; 8]) -> [u64; 8
     let fronts = fronts_of(begun, len, u64x8::from_array(*words));
     let mut subframes = [0; 8];
     for (i, word) in words.iter().enumerate() {
-        subframes[i] = completed(fronts[i], len, *word);
+        subframes[i] = complete_subframe(fronts[i], len, *word);
     }
     subframes
 }

@@ -5,8 +5,8 @@
 mod one_by_one;
 
 use crate::begun_subframe::{
-    PREAMBLE_CELLS, are_subframes, candidate_in, completed, eight_completed, first_cell, first_of,
-    last_behind, last_cell, last_octet, last_of, rest_of, with_cell,
+    PREAMBLE_CELLS, are_subframes, candidate_in, complete_eight, complete_subframe, first_cell,
+    first_of, last_behind, last_cell, last_octet, last_of, rest_of, with_cell,
 };
 use crate::candidate::Candidate;
 use crate::parts::LockParts;
@@ -137,7 +137,7 @@ impl Lock {
     }
 
     /// The same cells as `words`, as they were gathered.
-    pub fn gathered(&self) -> &GatheredCells
+    pub fn gathered_cells(&self) -> &GatheredCells
         ensures { result.now ≡ self.now.words }
     {
         &self.words
@@ -182,7 +182,7 @@ impl Lock {
         ensures unchanged { result ≡ false → self.new ≡ self.old }
         ensures begins { result ≡ false → BeginsIn (drop 1 self.old.recent ++ word_cells word) }
     {
-        let cells = completed(u64::from(self.recent >> 1), PREAMBLE_CELLS - 1, word);
+        let cells = complete_subframe(u64::from(self.recent >> 1), PREAMBLE_CELLS - 1, word);
         if block_preambles(cells, rest_of(word, PREAMBLE_CELLS - 1)) != 0 {
             return false;
         }
@@ -220,7 +220,7 @@ impl Lock {
         }
         let subframe = offset / SUBFRAME_CELLS;
         let len = offset % SUBFRAME_CELLS;
-        let cells = completed(self.subframe, len, word);
+        let cells = complete_subframe(self.subframe, len, word);
         let level = last_of(cells);
         let rest = rest_of(word, len);
         if !begins_subframe(candidate.level, mark_of(subframe), cells, 64)
@@ -267,7 +267,7 @@ impl Lock {
         while taken + 8 <= room
             && let Some(eight) = words[taken..].first_chunk()
         {
-            let subframes = eight_completed(behind, len, eight);
+            let subframes = complete_eight(behind, len, eight);
             let rest = rest_of(eight[7], len);
             // After each eight subframes the preambles are the same, so they are found once.
             if !are_subframes(candidate.level, subframe, &subframes)
@@ -349,7 +349,7 @@ impl Lock {
         ensures none { (cells : List Level) → Follows self.old cells
             → decided (cells ++ low_cells result word) ≡ decided cells }
     {
-        let cells = completed(u64::from(self.recent >> 1), PREAMBLE_CELLS - 1, word);
+        let cells = complete_subframe(u64::from(self.recent >> 1), PREAMBLE_CELLS - 1, word);
         let begun = block_preambles(cells, rest_of(word, PREAMBLE_CELLS - 1));
         let taken = (begun.trailing_zeros() + 1).min(len);
         self.count(word, taken);
@@ -439,7 +439,7 @@ impl Lock {
         }
         let subframe = offset / SUBFRAME_CELLS;
         let begun = offset % SUBFRAME_CELLS;
-        let cells = completed(self.subframe, begun, word);
+        let cells = complete_subframe(self.subframe, begun, word);
         let wrong = wrong_cells(candidate.level, mark_of(subframe), cells) >> begun;
         let right = wrong.trailing_zeros();
         let taken = len.min((SUBFRAME_CELLS - begun) as u32);

@@ -1,5 +1,5 @@
 //! The scan.
-use crate::begun_subframe::{PREAMBLE_CELLS, completed, last_behind, rest_of, with_cell};
+use crate::begun_subframe::{PREAMBLE_CELLS, complete_subframe, last_behind, rest_of, with_cell};
 use crate::word_marks::WordMarks;
 use aes3_level::Level;
 use aes3_slot::{Mark, match_mark, preambles};
@@ -92,7 +92,7 @@ impl Scan {
         ensures all { (cells : List Level) → ScanFollows self.old cells → 7 ≤ length cells
             → result.1 ≡ None → result.0 ≡ len }
     {
-        let cells = completed(u64::from(self.recent >> 1), PREAMBLE_CELLS - 1, word);
+        let cells = complete_subframe(u64::from(self.recent >> 1), PREAMBLE_CELLS - 1, word);
         let begun = preambles(cells, rest_of(word, PREAMBLE_CELLS - 1));
         let quiet = begun.trailing_zeros();
         if quiet >= len {
@@ -121,7 +121,7 @@ impl Scan {
         ensures marks { (cells : List Level) → ScanFollows self.old cells
             → marks (cells ++ word_cells word) ≡ marks cells ++ result }
     {
-        let cells = completed(u64::from(self.recent >> 1), PREAMBLE_CELLS - 1, word);
+        let cells = complete_subframe(u64::from(self.recent >> 1), PREAMBLE_CELLS - 1, word);
         let found = WordMarks::new(self.seen, cells, rest_of(word, PREAMBLE_CELLS - 1));
         self.pass(word, u64::BITS);
         found

@@ -350,7 +350,7 @@ impl<W: BlockWriter> Reporter for BlockReporter<W> {
         ending: Ending,
     ) -> Result<(), Fault> {
         match ending {
-            Ending::Whole { .. } => self.writer.put(sink, blocks, lock.gathered()),
+            Ending::Whole { .. } => self.writer.put(sink, blocks, lock.gathered_cells()),
             Ending::Marked { .. } => Ok(()),
             Ending::Fault { .. } => Ok(()),
             Ending::Unfinished { .. } => Ok(()),

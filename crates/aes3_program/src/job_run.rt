@@ -14,8 +14,9 @@ ghost use Rattle.aes3_program.specs.OctetRuns.{ReadRefused};
 ghost use Rattle.aes3_program.specs.Streams.{HasPassed, PassesOn, moved};
 
 use crate::outcome::{
-    Outcome, encoded, exact, filled, of_file, of_run, plain, rewritten, sampled, waved,
-    waved_exactly, waved_in_time,
+    Outcome, exact, of_file, of_run, outcome_of_exact_wave, outcome_of_fill,
+    outcome_of_filled_wave, outcome_of_rewrite, outcome_of_samples, outcome_of_wave,
+    outcome_of_words, plain,
 };
 use crate::refusal_line::refuse;
 use crate::remark::tell_outcome;
@@ -103,12 +104,12 @@ fn run_wave<S: Source, T: Sink>(
     ensures passed_on { IfOk result (λ _. T.passed sink.new ≡ T.taken sink.new) }
 {
     if valid {
-        waved(
+        outcome_of_wave(
             to_valid_wav(source, sink, MAX_BYTES, input, depth, rate),
             rate,
         )
     } else {
-        waved(to_wav(source, sink, MAX_BYTES, input, depth, rate), rate)
+        outcome_of_wave(to_wav(source, sink, MAX_BYTES, input, depth, rate), rate)
     }
 }
 
@@ -131,7 +132,7 @@ fn run_change<S: Source, T: Sink>(
     if exactly {
         exact(rewrite_exactly(source, sink, MAX_BYTES, input, output, change))
     } else {
-        rewritten(
+        outcome_of_rewrite(
             rewrite(source, sink, MAX_BYTES, input, output, change),
             change,
         )
@@ -200,12 +201,12 @@ fn run_read<S: Source, T: Sink>(
             format,
             fill,
             marked,
-        } => filled(to_filled_pcm(source, sink, MAX_BYTES, input, format, fill, marked)),
+        } => outcome_of_fill(to_filled_pcm(source, sink, MAX_BYTES, input, format, fill, marked)),
         ReadWork::ToWav { depth, rate, valid } => {
             run_wave(source, sink, input, depth, rate, valid)
         }
         ReadWork::ToExactWav { depth, rate } => {
-            waved_exactly(
+            outcome_of_exact_wave(
                 to_exact_wav(source, sink, MAX_BYTES, input, depth, rate),
                 rate,
             )
@@ -215,7 +216,7 @@ fn run_read<S: Source, T: Sink>(
             rate,
             fill,
             marked,
-        } => waved_in_time(
+        } => outcome_of_filled_wave(
             to_filled_wav(source, sink, MAX_BYTES, input, depth, rate, fill, marked),
             rate,
         ),
@@ -253,7 +254,7 @@ pub fn run_job<S: Source, T: Sink>(
     ensures passed_on { IfOk result (λ _. T.passed sink.new ≡ T.taken sink.new) }
 {
     match *job {
-        Job::Encode { output, words } => of_run(encoded(encode_words(
+        Job::Encode { output, words } => of_run(outcome_of_words(encode_words(
             source, sink, MAX_BYTES, output, words,
         ))),
         Job::Stream {
@@ -267,7 +268,7 @@ pub fn run_job<S: Source, T: Sink>(
             exact,
             change,
             words,
-        } => of_run(sampled(
+        } => of_run(outcome_of_samples(
             from_pcm_words(source, sink, MAX_BYTES, format, exact, &change, words),
             &change,
         )),
@@ -294,7 +295,7 @@ pub fn run_job<S: Source, T: Sink>(
 
 /// The error of a run after the sink has passed on what it holds: `Write` if that failed, else
 /// `error`.
-fn flushed<T: Sink>(error: Refusal, sink: &mut T) -> Refusal
+fn flush_after<T: Sink>(error: Refusal, sink: &mut T) -> Refusal
     requires room { error ≢ Run Write → T.failed sink.old + 1 < 2 ^ 64 }
     ensures told { Flushed error (moved T.Sink sink.old sink.new) result }
     ensures passed_on { T.failed sink.new ≡ T.failed sink.old → error ≢ Run Write
@@ -351,7 +352,7 @@ pub(crate) fn finish_begun<S: Source, T: Sink, E: Sink, O: Observer>(
 {
     match run_job(job, source, sink) {
         Ok(outcome) => tell_outcome(job, typed, &outcome, errors, observer),
-        Err(error) => refuse(flushed(error, sink), errors, observer),
+        Err(error) => refuse(flush_after(error, sink), errors, observer),
     }
 }
 
@@ -370,7 +371,7 @@ pub(crate) fn refuse_unread<T: Sink, E: Sink, O: Observer>(
         O.Observer observer.old observer.new result }
 {
     refuse(
-        flushed(Refusal::Run(RunError::Read), sink),
+        flush_after(Refusal::Run(RunError::Read), sink),
         errors,
         observer,
     )

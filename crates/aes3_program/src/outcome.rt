@@ -97,7 +97,7 @@ pub(crate) fn plain(ran: Result<Counts, RunError>) -> Result<Outcome, RunError>
 }
 
 /// The result of a job that fills time.
-pub(crate) fn filled(ran: Result<Filled, RunError>) -> Result<Outcome, RunError>
+pub(crate) fn outcome_of_fill(ran: Result<Filled, RunError>) -> Result<Outcome, RunError>
     ensures { result ≡ answer_as of_filled ran }
 {
     let filled = ran?;
@@ -110,7 +110,7 @@ pub(crate) fn filled(ran: Result<Filled, RunError>) -> Result<Outcome, RunError>
 }
 
 /// The result of a job that reads words which may begin inside a block.
-pub(crate) fn encoded(ran: Result<EncodedWords, RunError>) -> Result<Outcome, RunError>
+pub(crate) fn outcome_of_words(ran: Result<EncodedWords, RunError>) -> Result<Outcome, RunError>
     ensures { result ≡ answer_as of_words ran }
 {
     let encoded = ran?;
@@ -148,7 +148,7 @@ pub(crate) fn exact(ran: Result<Exact, RunError>) -> Result<Outcome, RunError>
 }
 
 /// The result of a job that changes the channel status of blocks.
-pub(crate) fn rewritten(
+pub(crate) fn outcome_of_rewrite(
     ran: Result<Rewritten, RunError>,
     change: &Change,
 ) -> Result<Outcome, RunError>
@@ -189,7 +189,10 @@ fn taken_of(status: &Option<[u8; 24]>, settings: &Option<Settings>) -> Taken
 }
 
 /// The result of a job that makes blocks from samples: their status is the same in all.
-pub(crate) fn sampled(ran: Result<Counts, RunError>, change: &Change) -> Result<Outcome, RunError>
+pub(crate) fn outcome_of_samples(
+    ran: Result<Counts, RunError>,
+    change: &Change,
+) -> Result<Outcome, RunError>
     ensures { result ≡ answer_as (of_samples change.now) ran }
 {
     let counts = ran?;
@@ -245,7 +248,7 @@ fn exact_or(refused: Option<u64>, remark: Remark) -> Remark
 }
 
 /// The result of a job that writes a WAV file; `rate` is its sampling frequency, if one is given.
-pub(crate) fn waved(
+pub(crate) fn outcome_of_wave(
     ran: Result<WaveWritten, RunError>,
     rate: Option<u32>,
 ) -> Result<Outcome, RunError>
@@ -259,7 +262,7 @@ pub(crate) fn waved(
 }
 
 /// The result of such a job that gives blocks exactly.
-pub(crate) fn waved_exactly(
+pub(crate) fn outcome_of_exact_wave(
     ran: Result<ExactWave, RunError>,
     rate: Option<u32>,
 ) -> Result<Outcome, RunError>
@@ -273,7 +276,7 @@ pub(crate) fn waved_exactly(
 }
 
 /// The result of such a job that fills time.
-pub(crate) fn waved_in_time(
+pub(crate) fn outcome_of_filled_wave(
     ran: Result<FilledWave, RunError>,
     rate: Option<u32>,
 ) -> Result<Outcome, RunError>
@@ -334,7 +337,7 @@ fn wave_status(
 }
 
 /// The result of a job that makes blocks from a WAV file: their status is the same in all.
-fn converted(ran: &Converted, options: &WaveOptions) -> Outcome
+fn outcome_of_conversion(ran: &Converted, options: &WaveOptions) -> Outcome
     ensures { result ≡ of_converted options.now ran.now }
 {
     let format = &ran.header.format;
@@ -382,7 +385,7 @@ pub(crate) fn of_file(
     ensures { result ≡ wave_answer options.now ran }
 {
     match ran {
-        Ok(converted_file) => Ok(converted(&converted_file, options)),
+        Ok(converted_file) => Ok(outcome_of_conversion(&converted_file, options)),
         Err(error) => Err(refusal_of(error)),
     }
 }

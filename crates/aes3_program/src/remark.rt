@@ -20,7 +20,7 @@ use aes3_status::{Settings, Taken};
 use aes3_status_text::{Line, TEXTS, TypedSettings, untaken_remedy};
 
 /// The line of the number of filling frames.
-fn filled(frames: u64) -> Line
+fn line_of_filled(frames: u64) -> Line
     ensures { result ≡ filled_line frames }
 {
     let mut line = Line::new();
@@ -31,7 +31,7 @@ fn filled(frames: u64) -> Line
 }
 
 /// The line of the number of words that are left out.
-fn left_out(words: u64) -> Line
+fn line_of_left_out(words: u64) -> Line
     ensures { result ≡ left_out_line words }
 {
     let mut line = Line::new();
@@ -59,7 +59,7 @@ fn put_filled_at_usual_rate<T: Sink>(frames: u64, sink: &mut T) -> Result<(), Fa
     requires room { T.failed sink.old + 1 < 2 ^ 64 }
     ensures { Wrote T.taken T.failed sink.old sink.new (filled_line frames ++ usual_rate_line) result }
 {
-    filled(frames).write_to(sink)?;
+    line_of_filled(frames).write_to(sink)?;
     usual_rate().write_to(sink)
 }
 
@@ -277,8 +277,8 @@ fn put_remark<T: Sink>(
 {
     match remark {
         Remark::Nothing => Ok(()),
-        Remark::Filled { frames } => filled(*frames).write_to(sink),
-        Remark::LeftOut { words } => left_out(*words).write_to(sink),
+        Remark::Filled { frames } => line_of_filled(*frames).write_to(sink),
+        Remark::LeftOut { words } => line_of_left_out(*words).write_to(sink),
         Remark::Settings { first, second } => put_settings(typed, first, second, sink),
         Remark::UsualRate => usual_rate().write_to(sink),
         Remark::FilledAtUsualRate { frames } => put_filled_at_usual_rate(*frames, sink),

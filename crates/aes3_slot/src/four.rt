@@ -13,7 +13,7 @@ use aes3_level::Level;
 use std::simd::prelude::*;
 
 /// The words with each bit inverted if the bit `distance` below it is a one.
-fn inverted_from_below(words: u32x4, distance: u32) -> u32x4
+fn invert_from_below(words: u32x4, distance: u32) -> u32x4
     requires { distance < 32 }
     ensures { result ≡ map (λ w. bit_xor w (w * 2 ^ distance % 2 ^ 32)) words }
 {
@@ -28,11 +28,11 @@ fn odd_so_far(words: u32x4) -> u32x4
     ensures next { (i k : ℕ) → i < 4 → k < 31 → (bit_at (get_or result i 0) k
         + bit_at (get_or result i 0) (k + 1)) % 2 ≡ bit_at (get_or words i 0) (k + 1) }
 {
-    let odd = inverted_from_below(words, 1);
-    let odd = inverted_from_below(odd, 2);
-    let odd = inverted_from_below(odd, 4);
-    let odd = inverted_from_below(odd, 8);
-    inverted_from_below(odd, 16)
+    let odd = invert_from_below(words, 1);
+    let odd = invert_from_below(odd, 2);
+    let odd = invert_from_below(odd, 4);
+    let odd = invert_from_below(odd, 8);
+    invert_from_below(odd, 16)
 }
 
 /// The numbers below 16, with bit `n` of each at `2 n + 1`.

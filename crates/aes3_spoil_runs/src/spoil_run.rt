@@ -28,7 +28,7 @@ For more information, try '--help'.
 
 /// The error of a run after the sink has passed on what it holds: `Write` if that failed, else
 /// `error`.
-fn flushed<T: Sink>(error: RunError, sink: &mut T) -> RunError
+fn flush_after<T: Sink>(error: RunError, sink: &mut T) -> RunError
     requires room { error ≢ RunError.Write → T.failed sink.old + 1 < 2 ^ 64 }
     ensures last { Flushed error (movement_of T.taken T.failed sink.old sink.new) result }
     ensures passed_on { T.failed sink.new ≡ T.failed sink.old → error ≢ RunError.Write
@@ -81,7 +81,7 @@ pub fn run_job<S: Source, T: Sink, E: Sink>(
 {
     match spoil(source, sink, MAX_BYTES, job.input, job.output, &job.errors) {
         Ok(_) => DONE,
-        Err(error) => refuse(flushed(error, sink), messages),
+        Err(error) => refuse(flush_after(error, sink), messages),
     }
 }
 

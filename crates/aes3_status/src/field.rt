@@ -129,7 +129,7 @@ pub(crate) fn bytes_at(bytes: &[u8; 24], byte: usize) -> [u8; 4]
 }
 
 /// The byte with its bits from bit `first` on replaced by the lowest `count` bits of `code`.
-fn replaced(byte: u8, first: u32, count: u32, code: u8) -> u8
+fn replace_bits(byte: u8, first: u32, count: u32, code: u8) -> u8
     requires { first + count ≤ 8 }
     ensures { result ≡ number (with_bits first (low_bits count code) (byte_bits byte)) }
 {
@@ -146,7 +146,7 @@ pub(crate) fn put_code(bytes: &mut [u8; 24], place: Place, code: u8)
     requires inside { place.first + place.count ≤ 8 }
     ensures { bytes.new ≡ with_field place code bytes.old }
 {
-    bytes[place.byte] = replaced(bytes[place.byte], place.first, place.count, code);
+    bytes[place.byte] = replace_bits(bytes[place.byte], place.first, place.count, code);
 }
 
 impl ProField {

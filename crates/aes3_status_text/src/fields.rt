@@ -156,7 +156,12 @@ impl Line {
     {
         let [first, second, third, last] = characters;
         self.field(name);
-        self.bytes(&[shown(first), shown(second), shown(third), shown(last)]);
+        self.bytes(&[
+            printed_byte(first),
+            printed_byte(second),
+            printed_byte(third),
+            printed_byte(last),
+        ]);
     }
 
     /// Appends a field with the four lowest bits of a number as digits, the lowest first.
@@ -192,7 +197,7 @@ impl Line {
 }
 
 /// A byte of an origin or a destination as it is printed (AES3-2, bytes 6 to 13).
-fn shown(byte: u8) -> u8
+fn printed_byte(byte: u8) -> u8
     ensures { result ≡ shown byte }
 {
     if byte.is_ascii_graphic() { byte } else { b'.' }

@@ -22,14 +22,14 @@ impl<'a> TypedSettings<'a> {
         ensures second { texts_of result.second ≡ take 32 (map (λ text. text.now) second.now) }
     {
         TypedSettings {
-            first: kept(first),
-            second: kept(second),
+            first: keep_texts(first),
+            second: keep_texts(second),
         }
     }
 }
 
 /// The first 32 texts.
-fn kept<'a>(texts: &[&'a str]) -> ArrayVec<&'a str, TEXTS>
+fn keep_texts<'a>(texts: &[&'a str]) -> ArrayVec<&'a str, TEXTS>
     ensures { texts_of result ≡ take 32 (map (λ text. text.now) texts.now) }
 {
     let mut kept = ArrayVec::new();

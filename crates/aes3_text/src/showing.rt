@@ -140,7 +140,7 @@ impl StatusLines {
         match ending {
             Ending::Whole { at, .. } => {
                 let place = Place { number: blocks, at };
-                self.put_block(sink, place, &lock.gathered().block())
+                self.put_block(sink, place, &lock.gathered_cells().block())
             }
             Ending::Marked { .. } => Ok(()),
             Ending::Fault { .. } => Ok(()),

@@ -257,7 +257,7 @@ impl Watcher {
             Some(latest) if carry_the_same(words, &self.lasts) => latest,
             _ => {
                 self.lasts = last_cells_of(words);
-                Signals::of(&lock.gathered().block())
+                Signals::of(&lock.gathered_cells().block())
             }
         }
     }

@@ -32,7 +32,7 @@ pub enum Mono {
 }
 
 /// The highest octet of a signed number, from an unsigned one with 128 as zero.
-fn signed(octet: u8) -> u8
+fn to_signed(octet: u8) -> u8
     ensures { result ≡ signed octet }
 {
     if octet < 128 {
@@ -43,7 +43,7 @@ fn signed(octet: u8) -> u8
 }
 
 /// A sample of 32 bits with the bits that are not valid set to 0.
-fn counted(width: Width, sample: [u8; SAMPLE_LEN]) -> [u8; SAMPLE_LEN]
+fn to_width(width: Width, sample: [u8; SAMPLE_LEN]) -> [u8; SAMPLE_LEN]
     ensures { result ≡ counted width sample }
 {
     let [a, b, c, d] = sample;
@@ -75,12 +75,12 @@ impl WaveFormat {
         ensures { result ≡ sample_at self at frame.now }
     {
         let wide = match self.container {
-            Container::Octets1 => [0, 0, 0, signed(frame[at])],
+            Container::Octets1 => [0, 0, 0, to_signed(frame[at])],
             Container::Octets2 => [0, 0, frame[at], frame[at + 1]],
             Container::Octets3 => [0, frame[at], frame[at + 1], frame[at + 2]],
             Container::Octets4 => [frame[at], frame[at + 1], frame[at + 2], frame[at + 3]],
         };
-        counted(self.width, wide)
+        to_width(self.width, wide)
     }
 
     /// The sample of a channel, as a sample of 32 bits.

@@ -106,7 +106,7 @@ fn is_wave(first: &[u8]) -> bool
 }
 
 /// A length, if it is known.
-fn named(greatest: u64, len: u64) -> Option<u64>
+fn named_len(greatest: u64, len: u64) -> Option<u64>
     ensures { result ≡ named greatest len }
 {
     if len == 0 || len == greatest {
@@ -220,11 +220,11 @@ impl Known {
         let len = len as u64;
         if len == NOT_NAMED && self.is_long {
             match self.sizes {
-                Some(len) => named(u64::MAX, len),
+                Some(len) => named_len(u64::MAX, len),
                 None => None,
             }
         } else {
-            named(NOT_NAMED, len)
+            named_len(NOT_NAMED, len)
         }
     }
 

@@ -229,7 +229,7 @@ fn data_head(len: u32) -> HeaderOctets
 }
 
 /// The header of samples of `len` octets.
-fn known(depth: Depth, rate: u32, len: u64) -> HeaderOctets
+fn header_of_file(depth: Depth, rate: u32, len: u64) -> HeaderOctets
     requires { len < 2 ^ 63 }
     ensures { result ≡ written_known depth rate len }
 {
@@ -258,7 +258,7 @@ pub fn header_of(depth: Depth, rate: u32, len: Option<u64>) -> HeaderOctets
     ensures { result ≡ written depth rate len }
 {
     match len {
-        Some(len) => known(depth, rate, len),
+        Some(len) => header_of_file(depth, rate, len),
         None => {
             let mut header = riff(NOT_NAMED);
             header.put(junk().as_slice());

@@ -106,7 +106,7 @@ impl Header {
             None => Ok(()),
             Some(ending) => match ending {
                 Ending::Whole { .. } => {
-                    let block = lock.gathered().block();
+                    let block = lock.gathered_cells().block();
                     self.begin(sink, rate_of_status(&block.channel_status(Channel::First)))
                 }
                 Ending::Marked { .. } => {

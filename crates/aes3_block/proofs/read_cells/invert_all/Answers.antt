@@ -11,9 +11,9 @@ loop-subframe-preserved c =
     let i = c.loop-subframe.subframe in
     let len = c.loop-subframe.invariant.len in
     record {
-      len = length-set c.loop-subframe.cells i c.inverted.result ∙ len;
-      cells = inverted-more c.args.words.now c.loop-subframe.cells i c.inverted.result (omega arith)
-          (omega (arith, len)) c.loop-subframe.invariant.cells c.inverted.ensures;
+      len = length-set c.loop-subframe.cells i c.invert.result ∙ len;
+      cells = inverted-more c.args.words.now c.loop-subframe.cells i c.invert.result (omega arith)
+          (omega (arith, len)) c.loop-subframe.invariant.cells c.invert.ensures;
     }
 
 pub returns : goal.returns

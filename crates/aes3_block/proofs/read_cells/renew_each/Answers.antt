@@ -15,10 +15,10 @@ loop-subframe-preserved c =
     let n = block_subframes_384 in
     let len = c.loop-subframe.invariant.len in
     record {
-      len = length-set c.loop-subframe.cells i c.renewed.result ∙ len;
-      cells = cells-more carried carried-payload c.args.before words c.loop-subframe.cells i c.renewed.result
+      len = length-set c.loop-subframe.cells i c.renew.result ∙ len;
+      cells = cells-more carried carried-payload c.args.before words c.loop-subframe.cells i c.renew.result
           (omega arith) (omega arith) c.loop-subframe.invariant.cells
-          (c.renewed.ensures
+          (c.renew.ensures
           ∙ ap (λ m. line c.args.before (subframe_runs m (carried (get_or words i 0)))) c.mark_of.ensures);
     }
 

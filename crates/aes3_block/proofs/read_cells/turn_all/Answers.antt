@@ -16,16 +16,16 @@ loop-subframe-preserved c =
     let n = block_subframes_384 in
     let len = c.loop-subframe.invariant.len in
     record {
-      len = length-set c.loop-subframe.cells i c.inverted_if-same.result ∙ len;
+      len = length-set c.loop-subframe.cells i c.invert_if-same.result ∙ len;
       cells = λ z.
           let p = le_or_l c.loop-subframe.wrong c.wrong_in-wrong.result in
           let q = le_or_r c.loop-subframe.wrong c.wrong_in-wrong.result in
-          cells-more carried carried-payload c.args.before words c.loop-subframe.cells i c.inverted_if-same.result
+          cells-more carried carried-payload c.args.before words c.loop-subframe.cells i c.invert_if-same.result
           (omega arith) (omega arith)
           (c.loop-subframe.invariant.cells (omega (arith, z, p)))
           (c.wrong_in-wrong.ensures (omega (arith, z, q))
-          ∙ ap (λ m. line c.args.before (subframe_runs m (carried c.inverted_if-same.result))) c.mark_of.ensures
-          ∙ ap (λ bits. line c.args.before (subframe_runs (mark_at i) (take payload_len bits))) c.inverted_if-same.ensures);
+          ∙ ap (λ m. line c.args.before (subframe_runs m (carried c.invert_if-same.result))) c.mark_of.ensures
+          ∙ ap (λ bits. line c.args.before (subframe_runs (mark_at i) (take payload_len bits))) c.invert_if-same.ensures);
     }
 
 pub returns : goal.returns

@@ -66,5 +66,5 @@ returns-clause-found c = λ narrow spread late later places cells line three.
     rw e at (v.behind narrow spread late later places cells line three) in
     let b = v.bounds_is in
     let borne = line.borne in
-    turned-at c.loop-i.follower c.reversed.result c.clamp-period.result spread late later (late + later + spread) places 0
-    (rw b borne) (omega arith) (omega arith) (line.displaced.side 0 (omega arith)) c.reversed.ensures.begins at
+    turned-at c.loop-i.follower c.reverse.result c.clamp-period.result spread late later (late + later + spread) places 0
+    (rw b borne) (omega arith) (omega arith) (line.displaced.side 0 (omega arith)) c.reverse.ensures.begins at

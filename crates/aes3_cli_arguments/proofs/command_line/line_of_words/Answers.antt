@@ -6,13 +6,13 @@ use Rattle.aes3_cli_arguments.proofs.command_line.line_of_words.Goals as goal
 pub returns-then-asks_to_explain-clause-fault : goal.returns-then-asks_to_explain-clause-fault
 returns-then-asks_to_explain-clause-fault c =
     let words = map (λ (word : Bor (List ℕ)). word.now) c.args.words.now in
-    told_of words _ c.explained.result (behind_word c.args.words.now c.if-asks_to_explain.ensures) c.explained.ensures
+    told_of words _ c.explain.result (behind_word c.args.words.now c.if-asks_to_explain.ensures) c.explain.ensures
 
 pub returns-in-Some-clause-fault : goal.returns-in-Some-clause-fault
 returns-in-Some-clause-fault c =
     let words = map (λ (word : Bor (List ℕ)). word.now) c.args.words.now in
-    told_of words (c.in-Some.number.now ∷ []) c.explained-in-Some.result
-    (inr (c.in-Some.number.now, c.in-Some.ensures.some, refl)) c.explained-in-Some.ensures
+    told_of words (c.in-Some.number.now ∷ []) c.explain-in-Some.result
+    (inr (c.in-Some.number.now, c.in-Some.ensures.some, refl)) c.explain-in-Some.ensures
 
 pub returns-in-None-clause-job : goal.returns-in-None-clause-job
 returns-in-None-clause-job c =

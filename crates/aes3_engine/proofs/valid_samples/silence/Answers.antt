@@ -8,7 +8,7 @@ use Rattle.aes3_engine.proofs.valid_samples.silence.Goals as goal
 pub loop-i-preserved : goal.loop-i-preserved
 loop-i-preserved c =
     frame-more c.loop-i.i c.args.block.now c.loop-i.block _ _ _ _ _ c.loop-i.invariant c.frame-frame.ensures.first
-    c.frame-frame.ensures.second c.silenced.ensures c.silenced-in-loop-i.ensures c.set_frame.ensures
+    c.frame-frame.ensures.second c.silence_subframe.ensures c.silence_subframe-in-loop-i.ensures c.set_frame.ensures
 
 pub returns : goal.returns
 returns c =

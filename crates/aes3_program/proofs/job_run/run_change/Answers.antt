@@ -12,4 +12,4 @@ returns-then-exactly-clause-ran g c =
 pub returns-else-exactly-clause-ran : goal.returns-else-exactly-clause-ran
 returns-else-exactly-clause-ran g c =
     stream-of c.args.input c.args.output (ap (λ (v : Bool). Rewrite c.args.change.now v) c.if-exactly.false)
-    (told-ran (of_rewritten c.args.change.now) c.rewritten.ensures c.rewrite.ensures.run)
+    (told-ran (of_rewritten c.args.change.now) c.outcome_of_rewrite.ensures c.rewrite.ensures.run)

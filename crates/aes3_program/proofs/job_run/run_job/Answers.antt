@@ -5,7 +5,7 @@ use Rattle.aes3_program.proofs.job_run.run_job.Goals as goal
 pub returns-in-Encode-clause-ran : goal.returns-in-Encode-clause-ran
 returns-in-Encode-clause-ran g c =
     answered-of _ _ _ _ c.in-Encode.is
-    (c.encoded.result, told-ran of_words c.encoded.ensures c.encode_words.ensures.run, c.of_run.ensures)
+    (c.outcome_of_words.result, told-ran of_words c.outcome_of_words.ensures c.encode_words.ensures.run, c.of_run.ensures)
 
 pub returns-in-Stream-clause-ran : goal.returns-in-Stream-clause-ran
 returns-in-Stream-clause-ran g c =
@@ -18,7 +18,7 @@ returns-in-Read-clause-ran g c =
 pub returns-in-FromPcm-clause-ran : goal.returns-in-FromPcm-clause-ran
 returns-in-FromPcm-clause-ran g c =
     answered-of _ _ _ _ c.in-FromPcm.is
-    (c.sampled.result, told-ran (of_samples c.in-FromPcm.change) c.sampled.ensures c.from_pcm_words.ensures.run, c.of_run-in-FromPcm.ensures)
+    (c.outcome_of_samples.result, told-ran (of_samples c.in-FromPcm.change) c.outcome_of_samples.ensures c.from_pcm_words.ensures.run, c.of_run-in-FromPcm.ensures)
 
 pub returns-in-FromWav-clause-ran : goal.returns-in-FromWav-clause-ran
 returns-in-FromWav-clause-ran g c =

@@ -42,7 +42,7 @@ returns-in-ToExactPcm-clause-ran g c =
 
 pub returns-in-ToFilledPcm-clause-ran : goal.returns-in-ToFilledPcm-clause-ran
 returns-in-ToFilledPcm-clause-ran g c =
-    read-of c.args.input c.in-ToFilledPcm.is (told-ran of_filled c.filled.ensures c.to_filled_pcm.ensures.run)
+    read-of c.args.input c.in-ToFilledPcm.is (told-ran of_filled c.outcome_of_fill.ensures c.to_filled_pcm.ensures.run)
 
 pub returns-in-ToWav-clause-ran : goal.returns-in-ToWav-clause-ran
 returns-in-ToWav-clause-ran g c =
@@ -51,12 +51,12 @@ returns-in-ToWav-clause-ran g c =
 pub returns-in-ToExactWav-clause-ran : goal.returns-in-ToExactWav-clause-ran
 returns-in-ToExactWav-clause-ran g c =
     read-of c.args.input c.in-ToExactWav.is
-    (told-ran (of_exact_wave c.in-ToExactWav.rate) c.waved_exactly.ensures c.to_exact_wav.ensures.run)
+    (told-ran (of_exact_wave c.in-ToExactWav.rate) c.outcome_of_exact_wave.ensures c.to_exact_wav.ensures.run)
 
 pub returns-in-ToFilledWav-clause-ran : goal.returns-in-ToFilledWav-clause-ran
 returns-in-ToFilledWav-clause-ran g c =
     read-of c.args.input c.in-ToFilledWav.is
-    (told-ran (of_filled_wave c.in-ToFilledWav.rate) c.waved_in_time.ensures c.to_filled_wav.ensures.run)
+    (told-ran (of_filled_wave c.in-ToFilledWav.rate) c.outcome_of_filled_wave.ensures c.to_filled_wav.ensures.run)
 
 pub returns-in-ToBits-clause-ran : goal.returns-in-ToBits-clause-ran
 returns-in-ToBits-clause-ran g c =

@@ -7,7 +7,7 @@ returns-in-Ok-clause-ran g c = done c.args.job.now c.in-Ok.ensures.run (omega ar
 
 pub returns-in-Err-clause-ran : goal.returns-in-Err-clause-ran
 returns-in-Err-clause-ran g c =
-    refused-flushed c.args.job.now c.in-Err.ensures.run c.flushed.ensures.last (omega (arith, c.refuse.ensures.status))
+    refused-flushed c.args.job.now c.in-Err.ensures.run c.flush_after.ensures.last (omega (arith, c.refuse.ensures.status))
     c.refuse.ensures.line
 
 pub returns-in-Ok-clause-done : goal.returns-in-Ok-clause-done
@@ -18,4 +18,4 @@ returns-in-Err-clause-done g c = done_exactly c.args.job.now (returns-in-Err-cla
 
 pub returns-in-Err-clause-passed_on : goal.returns-in-Err-clause-passed_on
 returns-in-Err-clause-passed_on g c =
-    passed-on c.args.job.now c.in-Err.ensures.run c.flushed.ensures.last c.flushed.ensures.passed_on
+    passed-on c.args.job.now c.in-Err.ensures.run c.flush_after.ensures.last c.flush_after.ensures.passed_on

@@ -4,4 +4,4 @@ use Rattle.aes3_status.proofs.field.put_code.Goals as goal
 
 pub returns : goal.returns
 unfolding with_field
-returns c = ap (set c.args.bytes.now c.args.place.byte) c.replaced.ensures
+returns c = ap (set c.args.bytes.now c.args.place.byte) c.replace_bits.ensures

@@ -13,5 +13,5 @@ returns-in-Whole-clause-met g c = λ xs h.
     (ap (λ (e : Ending). report_in c.args.lock.now e) c.in-Whole.is)
     (subst (λ b. AreMetAt c.put_block.new.self.met (xs ++ record { place = c.in-Whole.at; block = b } ∷ []))
     (c.block.ensures
-    ∙ ap (λ (words : List ℕ). map (take payload_len) (read_words words)) c.gathered.ensures)
+    ∙ ap (λ (words : List ℕ). map (take payload_len) (read_words words)) c.gathered_cells.ensures)
     (c.put_block.ensures.met xs h))

@@ -13,7 +13,7 @@ returns-in-Whole-clause-met g c = λ r h.
     met-whole c.put_cells.new.self.met r (report_in c.args.lock.now c.args.ending)
     (ap (λ (e : Ending). report_in c.args.lock.now e) c.in-Whole.is)
     (subst (λ (words : List ℕ). AreMet c.put_cells.new.self.met
-    (wholes r ++ map (take payload_len) (read_words words) ∷ [])) c.gathered.ensures
+    (wholes r ++ map (take payload_len) (read_words words) ∷ [])) c.gathered_cells.ensures
     (c.put_cells.ensures.met (wholes r) h))
 
 pub returns-in-Marked-clause-met : goal.returns-in-Marked-clause-met

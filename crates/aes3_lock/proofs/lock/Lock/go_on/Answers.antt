@@ -55,16 +55,16 @@ refuted c l f =
     let h = c.if-right-taken.true in
     let m = c.min-taken.ensures in
     let n = right c in
-    part-refuted _ c.refute.new.self c.args.candidate l c.args.word c.completed-cells.result n
+    part-refuted _ c.refute.new.self c.args.candidate l c.args.word c.complete_subframe-cells.result n
     (subst (λ k. Follows k l) (sym c.self.view_is) f)
     (ap (λ (k : LockState). k.candidate) c.self.view_is ∙ c.requires.in_hand) c.self.invariant.1
-    (record { cells = c.completed-cells.ensures; fits = omega (arith, m, h); room = omega (arith, b, o) })
+    (record { cells = c.complete_subframe-cells.ensures; fits = omega (arith, m, h); room = omega (arith, b, o) })
     (omega (arith, m, h))
-    (all-right c.args.candidate c.completed-cells.result
+    (all-right c.args.candidate c.complete_subframe-cells.result
     (c.self.inside.seen - c.args.candidate.at) c.wrong_cells.result c.mark_of.result
     (omega arith) c.mark_of.ensures c.wrong_cells.ensures
     n (omega arith) (omega (arith, m, h)))
-    (next-wrong c.args.candidate c.completed-cells.result
+    (next-wrong c.args.candidate c.complete_subframe-cells.result
     (c.self.inside.seen - c.args.candidate.at) c.wrong_cells.result c.mark_of.result
     (omega arith) c.mark_of.ensures c.wrong_cells.ensures
     n refl (omega (arith, m, h)))
@@ -101,7 +101,7 @@ next c = record {
 }
 
 begun : (c : After-quiet)
-    → Begun c.first_of-self-inside.result c.completed-cells.result c.min-taken.result
+    → Begun c.first_of-self-inside.result c.complete_subframe-cells.result c.min-taken.result
     (c.self.inside.seen - c.args.candidate.at)
 begun c =
     let e = c.if-end-lt-SUBFRAME_CELLS.true in
@@ -110,7 +110,7 @@ begun c =
       short = omega (arith, e, t);
       cells = subst
           (λ j. low_cells ((c.self.inside.seen - c.args.candidate.at) % 64 + j) c.first_of-self-inside.result
-          ≡ low_cells ((c.self.inside.seen - c.args.candidate.at) % 64 + j) c.completed-cells.result)
+          ≡ low_cells ((c.self.inside.seen - c.args.candidate.at) % 64 + j) c.complete_subframe-cells.result)
           t c.first_of-self-inside.ensures.cells;
       few = subst (λ j. c.first_of-self-inside.result < 2 ^
           ((c.self.inside.seen - c.args.candidate.at) % 64 + j)) t c.first_of-self-inside.ensures.few;
@@ -124,11 +124,11 @@ goes-next c l f =
     let o = c.if-offset-ge-BLOCK_CELLS.false in
     let h = c.if-right-taken.false in
     let m = c.min-taken.ensures in
-    part-next _ c.args.candidate l c.args.word c.completed-cells.result c.min-taken.result
+    part-next _ c.args.candidate l c.args.word c.complete_subframe-cells.result c.min-taken.result
     (subst (λ k. Follows k l) (sym c.self.view_is) f)
     (ap (λ (k : LockState). k.candidate) c.self.view_is ∙ c.requires.in_hand)
-    (record { cells = c.completed-cells.ensures; fits = omega (arith, m); room = omega (arith, b, o) })
-    (all-right c.args.candidate c.completed-cells.result
+    (record { cells = c.complete_subframe-cells.ensures; fits = omega (arith, m); room = omega (arith, b, o) })
+    (all-right c.args.candidate c.complete_subframe-cells.result
     (c.self.inside.seen - c.args.candidate.at) c.wrong_cells.result c.mark_of.result
     (omega arith) c.mark_of.ensures c.wrong_cells.ensures
     c.min-taken.result (omega (arith, h)) (omega (arith, m)))
@@ -173,11 +173,11 @@ goes-whole c l f =
     let m = c.min-taken.ensures in
     let e = c.if-end-lt-SUBFRAME_CELLS.false in
     let t = c.from.ensures in
-    part-whole _ c.args.candidate l c.args.word c.completed-cells.result c.min-taken.result
+    part-whole _ c.args.candidate l c.args.word c.complete_subframe-cells.result c.min-taken.result
     (subst (λ k. Follows k l) (sym c.self.view_is) f)
     (ap (λ (k : LockState). k.candidate) c.self.view_is ∙ c.requires.in_hand)
-    (record { cells = c.completed-cells.ensures; fits = omega (arith, m); room = omega (arith, b, o) })
-    (all-right c.args.candidate c.completed-cells.result
+    (record { cells = c.complete_subframe-cells.ensures; fits = omega (arith, m); room = omega (arith, b, o) })
+    (all-right c.args.candidate c.complete_subframe-cells.result
     (c.self.inside.seen - c.args.candidate.at) c.wrong_cells.result c.mark_of.result
     (omega arith) c.mark_of.ensures c.wrong_cells.ensures
     c.min-taken.result (omega (arith, h)) (omega (arith, m)))
@@ -192,7 +192,7 @@ goes-whole c l f =
       before = c.args.candidate.before;
       level = v;
     })) c.last_of.ensures) refl
-    (c.keep.ensures ∙ ap (λ v. set v ((c.self.inside.seen - c.args.candidate.at) / 64) c.completed-cells.result)
+    (c.keep.ensures ∙ ap (λ v. set v ((c.self.inside.seen - c.args.candidate.at) / 64) c.complete_subframe-cells.result)
     (ap (λ (k : LockState). k.words) c.self-2.view_is ∙ c.count.ensures.words
     ∙ ap (λ (k : LockState). k.words) (sym c.self.view_is)))
     c.self.invariant.1 (omega (arith, e, t, m))

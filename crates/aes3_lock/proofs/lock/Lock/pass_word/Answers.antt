@@ -10,8 +10,8 @@ returns-then-block_preambles-ne0-clause-begins c = λ r.
     subst (λ (k : LockState). BeginsIn (drop 1 k.recent ++ word_cells c.args.word)) c.self.view_is
     (one-begins c.block_preambles.result _ (drop 1 (low_cells 8 c.self.inside.recent) ++ word_cells c.args.word)
     (omega arith) c.if-block_preambles-ne0.true c.block_preambles.ensures
-    (seven-before c.self.inside.recent c.from.result c.args.word c.completed-cells.result c.rest_of.result
-    c.from.ensures c.completed-cells.ensures c.rest_of.ensures.cells (omega arith)))
+    (seven-before c.self.inside.recent c.from.result c.args.word c.complete_subframe-cells.result c.rest_of.result
+    c.from.ensures c.complete_subframe-cells.ensures c.rest_of.ensures.cells (omega arith)))
 
 searching : (c : goal.After-self-2-1) → c.self.inside.candidate ≡ None
 searching c = ap (λ (k : LockState). k.candidate) c.self.view_is ∙ c.requires.searching
@@ -22,8 +22,8 @@ quiet c =
     none-begins c.block_preambles.result _ (drop 1
     (low_cells 8 c.self.inside.recent)
     ++ word_cells c.args.word) c.if-block_preambles-ne0.false c.block_preambles.ensures
-    (seven-before c.self.inside.recent c.from.result c.args.word c.completed-cells.result c.rest_of.result
-    c.from.ensures c.completed-cells.ensures c.rest_of.ensures.cells (omega arith))
+    (seven-before c.self.inside.recent c.from.result c.args.word c.complete_subframe-cells.result c.rest_of.result
+    c.from.ensures c.complete_subframe-cells.ensures c.rest_of.ensures.cells (omega arith))
 
 pub returns-clause-follows : goal.returns-clause-follows
 returns-clause-follows c = λ r l f.

@@ -23,8 +23,8 @@ both c l f =
     let r = c.requires in
     searched c.args.self.now
     (after c) l _ c.block_preambles-begun.result c.args.word c.min-taken.result f c.requires.searching (omega arith)
-    (seven-before c.self.inside.recent c.from.result c.args.word c.completed-cells.result c.rest_of.result
-    c.from.ensures c.completed-cells.ensures c.rest_of.ensures.cells (omega arith)
+    (seven-before c.self.inside.recent c.from.result c.args.word c.complete_subframe-cells.result c.rest_of.result
+    c.from.ensures c.complete_subframe-cells.ensures c.rest_of.ensures.cells (omega arith)
     ∙ ap (λ (k : LockState). drop 1 k.recent ++ word_cells c.args.word) c.self.view_is)
     c.block_preambles-begun.ensures (omega (arith, m, r)) (omega (arith, m)) (omega (arith, m, r))
     (ap (λ (k : LockState). k.seen) c.self-2.view_is ∙ c.count.ensures.seen)

@@ -38,7 +38,7 @@ keep_eight-requires-clause-right c = λ i h.
     let subframe = (c.self.inside.seen - t.at) / 64 in
     let e = c.loop-taken.invariant.eights in
     let o = c.if-offset-lt-SUBFRAME_CELLS.false in
-    subst (λ m. IsRight t.level m (get_or c.eight_completed-subframes.result i 0))
+    subst (λ m. IsRight t.level m (get_or c.complete_eight-subframes.result i 0))
     (mark-even subframe c.loop-taken.taken i (omega (arith, o)) (omega (arith, e)))
     (c.are_subframes.ensures.right c.if-not-are_subframes.false i h)
 
@@ -80,10 +80,10 @@ goes-on c l f =
     let few = subst (λ p. c.loop-taken.behind < 2 ^ p) part (begun-few now t so_far follows refl) in
     let next = lock_behind c.loop-taken.self-inside.seen c.last_octet-self-inside.result t c.rest_of-rest.result
     c.keep_eight.new.self (at + 8) in
-    let a = eight-later now t so_far eight c.eight_completed-subframes.result follows refl i.count count
+    let a = eight-later now t so_far eight c.complete_eight-subframes.result follows refl i.count count
     (front-fits eight words at count front (fits c)) subframe at len some
     (omega (arith, e)) (omega (arith, seen, s, o)) part (omega (arith, seen, s, o, r, b))
-    (c.eight_completed-subframes.ensures few)
+    (c.complete_eight-subframes.ensures few)
     (c.are_subframes.ensures.fronts c.if-not-are_subframes.false)
     (c.are_subframes.ensures.levels c.if-not-are_subframes.false)
     c.rest_of-rest.result c.rest_of-rest.ensures.cells c.rest_of-rest.ensures.few
@@ -110,7 +110,7 @@ loop-taken-preserved c =
       count = ap length c.keep_eight.ensures
           ∙ length-with_first
           ((c.self.inside.seen - c.in-Some.candidate.at) / 64 + c.loop-taken.taken) c.loop-taken.self-inside.words
-          c.eight_completed-subframes.result 8 ∙ i.count;
+          c.complete_eight-subframes.result 8 ∙ i.count;
       follows = λ l f. (goes-on c l f).0;
       none = λ l f. (goes-on c l f).1;
     }

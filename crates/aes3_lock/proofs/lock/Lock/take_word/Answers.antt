@@ -28,17 +28,17 @@ returns-then-not-begins_subframe-clause-stops c = λ r l f t s.
     ∙ c.in-Some.is) in
     subst (λ (t : Candidate). open_at (drop t.at (l ++ word_cells c.args.word)) ≡ false) (sym e)
     (false_from_ne_true (open_at (drop c.in-Some.candidate.at (l ++ word_cells c.args.word))) (λ o.
-    let z = word-fits _ c.in-Some.candidate l c.args.word c.completed-cells.result c.rest_of-rest.result
+    let z = word-fits _ c.in-Some.candidate l c.args.word c.complete_subframe-cells.result c.rest_of-rest.result
     (subst (λ k. Follows k l) (sym c.self.view_is) f) c.in-Some.is
     (record {
-      whole = c.completed-cells.ensures;
+      whole = c.complete_subframe-cells.ensures;
       rest = c.rest_of-rest.ensures.cells;
       few = c.rest_of-rest.ensures.few;
     }) o in
     elim c.then-not-begins_subframe.branch [
       | goal.then-not-begins_subframe-via-then-not-begins_subframe w ↦
           c.begins_subframe.ensures.no w.if-not-begins_subframe.true
-          (subst (λ m. IsFrontOf c.in-Some.candidate.level m (take 64 (word_cells c.completed-cells.result)))
+          (subst (λ m. IsFrontOf c.in-Some.candidate.level m (take 64 (word_cells c.complete_subframe-cells.result)))
           (sym c.mark_of.ensures) z.whole)
       | goal.then-not-begins_subframe-via-else-not-begins_subframe+then-not-begins_subframe-2 w ↦
           w.begins_subframe-else-not-begins_subframe.ensures.no w.if-not-begins_subframe-2.true
@@ -52,10 +52,10 @@ returns-then-not-begins_subframe-clause-stops c = λ r l f t s.
 
 pub returns-clause-follows : goal.returns-clause-follows
 returns-clause-follows c = λ t l f.
-    (word-next _ c.in-Some.candidate l c.args.word c.completed-cells.result c.rest_of-rest.result
+    (word-next _ c.in-Some.candidate l c.args.word c.complete_subframe-cells.result c.rest_of-rest.result
     (subst (λ k. Follows k l) (sym c.self.view_is) f) c.in-Some.is
     (record {
-      whole = c.completed-cells.ensures;
+      whole = c.complete_subframe-cells.ensures;
       rest = c.rest_of-rest.ensures.cells;
       few = c.rest_of-rest.ensures.few;
     })
@@ -74,7 +74,7 @@ returns-clause-follows c = λ t l f.
     (record {
       room = let b = block_len_24576 in omega (arith, b);
       whole = subst
-          (λ m. IsFrontOf c.in-Some.candidate.level m (take 64 (word_cells c.completed-cells.result))) c.mark_of.ensures
+          (λ m. IsFrontOf c.in-Some.candidate.level m (take 64 (word_cells c.complete_subframe-cells.result))) c.mark_of.ensures
           (c.begins_subframe.ensures.yes c.if-not-begins_subframe.false);
       next = subst
           (λ v. IsFrontOf v (mark_at ((c.self.inside.seen - c.in-Some.candidate.at) / 64 + 1))
@@ -94,10 +94,10 @@ returns-clause-follows c = λ t l f.
 
 pub returns-clause-none : goal.returns-clause-none
 returns-clause-none c = λ t l f.
-    (word-next _ c.in-Some.candidate l c.args.word c.completed-cells.result c.rest_of-rest.result
+    (word-next _ c.in-Some.candidate l c.args.word c.complete_subframe-cells.result c.rest_of-rest.result
     (subst (λ k. Follows k l) (sym c.self.view_is) f) c.in-Some.is
     (record {
-      whole = c.completed-cells.ensures;
+      whole = c.complete_subframe-cells.ensures;
       rest = c.rest_of-rest.ensures.cells;
       few = c.rest_of-rest.ensures.few;
     })
@@ -116,7 +116,7 @@ returns-clause-none c = λ t l f.
     (record {
       room = let b = block_len_24576 in omega (arith, b);
       whole = subst
-          (λ m. IsFrontOf c.in-Some.candidate.level m (take 64 (word_cells c.completed-cells.result))) c.mark_of.ensures
+          (λ m. IsFrontOf c.in-Some.candidate.level m (take 64 (word_cells c.complete_subframe-cells.result))) c.mark_of.ensures
           (c.begins_subframe.ensures.yes c.if-not-begins_subframe.false);
       next = subst
           (λ v. IsFrontOf v (mark_at ((c.self.inside.seen - c.in-Some.candidate.at) / 64 + 1))

@@ -24,9 +24,9 @@ returns-then-quiet-len-clause-follows c = λ l f.
 
 pub returns-then-quiet-len-clause-mark : goal.returns-then-quiet-len-clause-mark
 returns-then-quiet-len-clause-mark c = λ l f.
-    none-end l (with_seven c.completed-cells.result c.rest_of.result) c.preambles-begun.result c.args.word (omega arith)
-    (seven-before c.self.inside.recent c.from.result c.args.word c.completed-cells.result c.rest_of.result
-    c.from.ensures c.completed-cells.ensures c.rest_of.ensures.cells (omega arith)
+    none-end l (with_seven c.complete_subframe-cells.result c.rest_of.result) c.preambles-begun.result c.args.word (omega arith)
+    (seven-before c.self.inside.recent c.from.result c.args.word c.complete_subframe-cells.result c.rest_of.result
+    c.from.ensures c.complete_subframe-cells.ensures c.rest_of.ensures.cells (omega arith)
     ∙ ap (λ (k : ScanState). drop 1 k.recent ++ word_cells c.args.word) c.self.view_is
     ∙ ap (λ r. drop 1 r ++ word_cells c.args.word) f.recent)
     c.preambles-begun.ensures c.args.len c.if-quiet-len.true c.requires.len
@@ -49,10 +49,10 @@ followed c l f =
     ∙ ap (λ m. drop m (c.args.self.now.recent ++ low_cells (first c) c.args.word)) e)
 
 told : (c : goal.After-pass-2) (l : List Level) → ScanFollows c.args.self.now l
-    → with_seven c.completed-cells.result c.rest_of.result ≡ drop 1 (last_eight l) ++ word_cells c.args.word
+    → with_seven c.complete_subframe-cells.result c.rest_of.result ≡ drop 1 (last_eight l) ++ word_cells c.args.word
 told c l f =
-    seven-before c.self.inside.recent c.from.result c.args.word c.completed-cells.result c.rest_of.result c.from.ensures
-    c.completed-cells.ensures c.rest_of.ensures.cells (omega arith)
+    seven-before c.self.inside.recent c.from.result c.args.word c.complete_subframe-cells.result c.rest_of.result c.from.ensures
+    c.complete_subframe-cells.ensures c.rest_of.ensures.cells (omega arith)
     ∙ ap (λ (k : ScanState). drop 1 k.recent ++ word_cells c.args.word) c.self.view_is
     ∙ ap (λ r. drop 1 r ++ word_cells c.args.word) f.recent
 
@@ -70,10 +70,10 @@ returns-clause-mark c = λ l f.
     let q = c.if-quiet-len.false in
     let r = c.requires.len in
     let m = c.min-taken.ensures in
-    none-further l (with_seven c.completed-cells.result c.rest_of.result) c.preambles-begun.result c.args.word
+    none-further l (with_seven c.complete_subframe-cells.result c.rest_of.result) c.preambles-begun.result c.args.word
     (omega arith) (told c l f)
     c.preambles-begun.ensures c.min-taken.result (omega (arith, m, q)) (omega (arith, m)) (omega (arith, m, r))
-    ∙ one-ends l (with_seven c.completed-cells.result c.rest_of.result) c.preambles-begun.result c.args.word
+    ∙ one-ends l (with_seven c.complete_subframe-cells.result c.rest_of.result) c.preambles-begun.result c.args.word
     (omega arith) (told c l f)
     c.preambles-begun.ensures (omega (arith, q, r))
     ∙ ap₂ (λ n d. marks l ++ option_to_list (ended_mark n d)) (sym g.seen) (sym g.recent)
@@ -85,7 +85,7 @@ returns-clause-all c = λ l f n e.
     let q = c.if-quiet-len.false in
     let r = c.requires.len in
     let k = trailing_zeros w64 c.preambles-begun.result + 1 in
-    absurd (is-told l (with_seven c.completed-cells.result c.rest_of.result) c.preambles-begun.result c.args.word
+    absurd (is-told l (with_seven c.complete_subframe-cells.result c.rest_of.result) c.preambles-begun.result c.args.word
     (omega arith) (told c l f)
     c.preambles-begun.ensures (length (l ++ low_cells k c.args.word)) (omega (arith, q, r))
     (let a = length-append l (low_cells k c.args.word) in let b = length-low_cells k c.args.word in

@@ -19,8 +19,8 @@ returns-clause-marks c = λ l f.
     c.new-found.ensures l c.args.word (ap (λ (k : ScanState). k.seen) c.self.view_is ∙ f.seen)
     (search (
       rules,
-      seven-before c.self.inside.recent c.from.result c.args.word c.completed-cells.result c.rest_of.result
-          c.from.ensures c.completed-cells.ensures c.rest_of.ensures.cells (omega arith)
+      seven-before c.self.inside.recent c.from.result c.args.word c.complete_subframe-cells.result c.rest_of.result
+          c.from.ensures c.complete_subframe-cells.ensures c.rest_of.ensures.cells (omega arith)
           ∙ ap (λ (k : ScanState). drop 1 k.recent ++ word_cells c.args.word) c.self.view_is
           ∙ ap (λ r. drop 1 r ++ word_cells c.args.word) f.recent,
     ))

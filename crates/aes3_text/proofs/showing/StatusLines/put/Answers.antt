@@ -12,14 +12,14 @@ returns-in-Whole-clause-last g c =
     let k = c.args.self.now in
     let x = report_in c.args.lock.now c.args.ending in
     whole-last c.put_block.result x k.first k.second c.put_block.new.self.first c.put_block.new.self.second
-    (told-whole c.args.lock.now c.in-Whole.is c.gathered.ensures c.block.ensures)
+    (told-whole c.args.lock.now c.in-Whole.is c.gathered_cells.ensures c.block.ensures)
     c.put_block.ensures.first c.put_block.ensures.second
 
 pub returns-in-Whole-clause-wrote : goal.returns-in-Whole-clause-wrote
 returns-in-Whole-clause-wrote g c = λ bs h n.
     let k = c.args.self.now in
     wrote-is (whole-is k.changes k.detail (report_in c.args.lock.now c.args.ending) bs
-    (told-whole c.args.lock.now c.in-Whole.is c.gathered.ensures c.block.ensures) h n) c.put_block.ensures.wrote
+    (told-whole c.args.lock.now c.in-Whole.is c.gathered_cells.ensures c.block.ensures) h n) c.put_block.ensures.wrote
 
 pub returns-in-Marked-clause-last : goal.returns-in-Marked-clause-last
 returns-in-Marked-clause-last g c = λ bs h.

@@ -1,5 +1,5 @@
 use Rattle.aes3_cell.proofs.ClosedGaps.{Closing}
-use Rattle.aes3_cell.proofs.scattered.closed_up.Given as goal
+use Rattle.aes3_cell.proofs.scattered.close_up.Given as goal
 
 abbrev pub invariant-loop-gaps : goal.invariant-loop-gaps
 invariant-loop-gaps l = Closing l.kept l.levels l.gaps l.word l.len

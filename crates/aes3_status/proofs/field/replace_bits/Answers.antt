@@ -3,7 +3,7 @@ use Rattle.aes3_bits.specs.Bits.{low_bits, number}
 use Rattle.aes3_status.specs.Bits.{byte_bits}
 use Rattle.aes3_status.specs.Settings.{with_bits}
 use Rattle.aes3_status.proofs.SetFields.{replaced-sum, replaced-byte}
-use Rattle.aes3_status.proofs.field.replaced.Goals as goal
+use Rattle.aes3_status.proofs.field.replace_bits.Goals as goal
 
 pub overflow_cast-result : goal.overflow_cast-result
 overflow_cast-result c =

@@ -1,7 +1,7 @@
 use Rattle.std.proofs.Common.{◌≡◌, ℕ, ◌-◌, ◌<◌, ◌^◌, ◌++◌, get_or, length, take}
 use Rattle.aes3_level.specs.Words.{word_cells}
 use Rattle.aes3_lock.specs.Eights.{begun_before}
-use Rattle.aes3_lock.proofs.begun_subframe.eight_completed.Given as goal
+use Rattle.aes3_lock.proofs.begun_subframe.complete_eight.Given as goal
 
 abbrev pub invariant-loop-i : goal.invariant-loop-i
 invariant-loop-i l = record {

@@ -1,6 +1,6 @@
 use Rattle.std.proofs.Common.{arith, rules}
 use Rattle.aes3_cell.proofs.ClosedGaps.{closing-none, closing-some, closing-fits, closing-more, closing-all}
-use Rattle.aes3_cell.proofs.scattered.closed_up.Goals as goal
+use Rattle.aes3_cell.proofs.scattered.close_up.Goals as goal
 
 pub loop-gaps-init : goal.loop-gaps-init
 loop-gaps-init c = search (rules, closing-none c.args.kept c.args.levels c.ranges.kept.fits c.ranges.levels.fits)

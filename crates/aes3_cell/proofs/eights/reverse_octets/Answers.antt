@@ -1,5 +1,5 @@
 use Rattle.aes3_cell.proofs.TurnedOctets.{low_four-ok, high_four-ok, turned-lanes}
-use Rattle.aes3_cell.proofs.eights.reversed.Goals as goal
+use Rattle.aes3_cell.proofs.eights.reverse_octets.Goals as goal
 
 pub swizzle-high : goal.swizzle-high
 swizzle-high c = low_four-ok c.args.octets c.fits-octets.0

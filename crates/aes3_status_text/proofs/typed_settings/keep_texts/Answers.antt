@@ -1,7 +1,7 @@
 use Rattle.std.proofs.Common.{◌≡◌, min}
 use Rattle.std.proofs.Common.{◌∙◌, ◌++◌, map, take, ℕ, List, length, Bor, Result, Ok, Err, IsOk, OnOk, sym, ap, arith}
 use Rattle.std.proofs.lemmas.List.{length-take, take-map, take_min}
-use Rattle.aes3_status_text.proofs.typed_settings.kept.Goals as goal
+use Rattle.aes3_status_text.proofs.typed_settings.keep_texts.Goals as goal
 
 is_ok : {A E P : Type 0} (r : Result A E) → IsOk r → OnOk r P → P
 is_ok (Ok v) i p = p
