@@ -3,7 +3,7 @@ use Rattle.aes3_slot.specs.ReadWords.{read_words}
 use Rattle.aes3_frame.specs.Mending.{mended}
 use Rattle.aes3_frame.proofs.BlockLemmas.{block_subframes_384}
 use Rattle.aes3_frame.proofs.MendedBlocks.{behind-kept}
-use Rattle.aes3_frame.proofs.gathered.GatheredCells.mended.Goals as goal
+use Rattle.aes3_frame.proofs.gathered.GatheredCells.mended_block.Goals as goal
 
 pub mended_words-requires-clause-held : goal.mended_words-requires-clause-held
 mended_words-requires-clause-held c = let n = block_subframes_384 in c.words-kept.ensures.lawful 382 (omega (arith, n))
