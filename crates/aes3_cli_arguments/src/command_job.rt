@@ -15,7 +15,7 @@ ghost use Rattle.aes3_cell.specs.declared.refusal.RunError.TheVariants.{BadStatu
 use crate::event_style::notation;
 use crate::format::format;
 use crate::preset::{Beginning, preset, preset_or};
-use crate::refusals::settings_refused;
+use crate::setting_errors::settings_refused;
 use crate::setting_texts::texts_for;
 use crate::show::show;
 use crate::status_text::status_of_text;

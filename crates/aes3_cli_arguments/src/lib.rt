@@ -23,7 +23,7 @@ mod misuse;
 /// The status that a channel begins with.
 mod preset;
 /// The errors for invalid settings.
-mod refusals;
+mod setting_errors;
 /// Settings as typed.
 mod setting_texts;
 /// What `show` does.

@@ -1,7 +1,7 @@
 use Rattle.std.proofs.Common.{◌∙◌, ◌++◌, ap, append_assoc}
 use Rattle.std.specs.Prelude.{codes}
 use Rattle.aes3_cli_arguments.specs.Jobs.{value_text}
-use Rattle.aes3_cli_arguments.proofs.refusals.add_value.Goals as goal
+use Rattle.aes3_cli_arguments.proofs.setting_errors.add_value.Goals as goal
 
 pub returns : goal.returns
 unfolding value_text

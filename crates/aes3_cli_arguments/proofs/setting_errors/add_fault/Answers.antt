@@ -2,7 +2,7 @@ use Rattle.std.proofs.Common.{◌∙◌, ◌++◌, Bor, List, ℕ, ap, map, sym}
 use Rattle.std.proofs.lemmas.Result.{IfOk-weaker}
 use Rattle.aes3_status_text.specs.declared.listed.SettingsFault.{SettingsFault}
 use Rattle.aes3_cli_arguments.specs.Jobs.{fault_text, invalid_text}
-use Rattle.aes3_cli_arguments.proofs.refusals.add_fault.Goals as goal
+use Rattle.aes3_cli_arguments.proofs.setting_errors.add_fault.Goals as goal
 
 pub returns-in-Unknown : goal.returns-in-Unknown
 returns-in-Unknown c =
