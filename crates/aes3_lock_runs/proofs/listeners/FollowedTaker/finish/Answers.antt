@@ -56,4 +56,4 @@ pub returns-clause-no_failure : goal.returns-clause-no_failure
 returns-clause-no_failure g c =
     let h = c.requires.following in
     let e = c.end-ending.ensures in
-    (c.in_ok-end.ensures.wrote h.0 (heard-end c.args.self.now.tally e.report e.held h.0 h.2.0 h.2.1) h.2.2).count
+    (c.in_ok-end.ensures.wrote h.0 (heard-end c.args.self.now.tally e.report e.held h.0 h.2.0 h.2.1) h.2.2).no_failure

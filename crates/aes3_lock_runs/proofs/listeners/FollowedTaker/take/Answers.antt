@@ -61,6 +61,6 @@ returns g c =
           (Ok tt) p.parts (took-some p (c.take-ending.ensures.some c.requires.some))
           (heard-ok p k.tally c.count.new.tally (g.L.Listener.writes k.listener) (g.L.Listener.writes m)
           (g.L.Listener.follows k.listener) (g.L.Listener.follows m) (g.L.Listener.finished k.listener)
-          (g.L.Listener.finished m) sink c.count.ensures e.same e.next (λ a b q f. (e.wrote a b q f).grew)
-          (e.wrote h.0 p.front (heard p k.tally h.0 h.2.0 h.2.1) h.2.2).count);
+          (g.L.Listener.finished m) sink c.count.ensures e.unchanged e.next (λ a b q f. (e.wrote a b q f).grew)
+          (e.wrote h.0 p.front (heard p k.tally h.0 h.2.0 h.2.1) h.2.2).no_failure);
     }

@@ -21,9 +21,9 @@ returns-in_ok-tell-in-Some-clause-wrote g c =
     let t = c.in_ok-tell-in-Some.ensures in
     λ d h f.
     let q = t.wrote (decided d) h.blocks f in
-    wrote-is (ap (λ v. w.adds (decided d) x ++ v.ends (decided d ++ x ∷ [])) t.same
+    wrote-is (ap (λ v. w.adds (decided d) x ++ v.ends (decided d ++ x ∷ [])) t.unchanged
     ∙ sym (ends-one w d x (end-one c.in-Some.is h)))
-    (wrote-behind c.finish.result q.count q.grew
+    (wrote-behind c.finish.result q.no_failure q.grew
     (c.finish.ensures (decided d ++ x ∷ []) (t.next (decided d) h.blocks f)))
 
 pub returns-in_err-tell-in-Some-clause-wrote : goal.returns-in_err-tell-in-Some-clause-wrote

@@ -73,7 +73,7 @@ returns-in_err-take_word g c =
     let error = err_from_is_err_and c.from_residual.result c.from_residual.ensures.1 in
     record {
       ran = rw error.1 (
-        r.err_count ∙ ap (λ k. k + 1) v.quiet,
+        r.one_failure ∙ ap (λ k. k + 1) v.quiet,
         (λ d h.
             front-is
             (ap (λ z. z ++ behind marking (d ++ flat_map word_cells (take (i + 1) ws)) rest)
