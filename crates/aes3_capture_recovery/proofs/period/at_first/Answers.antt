@@ -51,11 +51,11 @@ loop-i-preserved c =
           rw f next.1;
     }
 
-pub turned-requires-clause-longest : goal.turned-requires-clause-longest
-turned-requires-clause-longest c = let b = c.loop-i.invariant.bounds_is in rw b (search (rules, arith, c.clamp-period.ensures))
+pub reverse-requires-clause-longest : goal.reverse-requires-clause-longest
+reverse-requires-clause-longest c = let b = c.loop-i.invariant.bounds_is in rw b (search (rules, arith, c.clamp-period.ensures))
 
-pub turned-requires-clause-shortest : goal.turned-requires-clause-shortest
-turned-requires-clause-shortest c = let b = c.loop-i.invariant.bounds_is in rw b (search (rules, arith, c.clamp-period.ensures))
+pub reverse-requires-clause-shortest : goal.reverse-requires-clause-shortest
+reverse-requires-clause-shortest c = let b = c.loop-i.invariant.bounds_is in rw b (search (rules, arith, c.clamp-period.ensures))
 
 pub returns-clause-found : goal.returns-clause-found
 returns-clause-found c = λ narrow spread late later places cells line three.
