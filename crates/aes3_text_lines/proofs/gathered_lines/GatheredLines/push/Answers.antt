@@ -9,6 +9,6 @@ returns c =
     let l : length s.text ≡ 4096 = search rules in
     let i = c.self.invariant in
     let n = p.ensures.len in
-    let m = p.ensures.unchanged in
+    let m = p.ensures.line_len in
     part-put s.text p.new.line s.len (s.len + 40 - s.len) p.result (omega (arith, l, i)) (omega (arith, n, m))
     ∙ ap₂ (λ x y. x ++ y) c.self.view_is p.ensures.line
