@@ -106,6 +106,30 @@ class watch {
     }
 };
 
+// Tells the sums of a line by periods of `every` cells, as `aes3 watch --every` does, by tell(const sum &): those of the periods that end
+// before each report that the lock tells, those that stand whatever follows the cells that it has seen, and at the end of the cells all
+// that are left. The report of a whole block has its words. Where `every` is 0 or above 2^40, there are no sums, and ok() is false.
+class sums {
+    aes3_sums state;
+    bool made;
+
+  public:
+    explicit sums(uint64_t every) : made(aes3_sums_init(&state, every)) {}
+    bool ok() const { return made; }
+    template <class Tell> void take(const report &told, Tell &&tell) {
+        for (sum it; aes3_sums_before(&state, &told, &it);)
+            tell(it);
+    }
+    template <class Tell> void passed(uint64_t seen, Tell &&tell) {
+        for (sum it; aes3_sums_passed(&state, seen, &it);)
+            tell(it);
+    }
+    template <class Tell> void end(uint64_t seen, Tell &&tell) {
+        for (sum it; aes3_sums_end(&state, seen, &it);)
+            tell(it);
+    }
+};
+
 // How many frames are missing between a whole block and the next one, so that each keeps its time.
 inline uint64_t frames_between(uint64_t first, uint64_t before, uint64_t at) { return aes3_frames_between(first, before, at); }
 

@@ -31,7 +31,7 @@ use Rattle.aes3_c.specs.declared.watch_calls.Aes3Watch.{Aes3Watch}
 use Rattle.aes3_c.specs.Watches.{BeginFrom, HasBegun, HasPut, IsNext, event_numbers, uncounted, watched_in}
 
 -- what is told of a line does not depend on that number
-up-uncounted : (w : Watched) (q : ℕ) → uncounted (up_to (uncounted w) q) ≡ uncounted (up_to w q)
+pub up-uncounted : (w : Watched) (q : ℕ) → uncounted (up_to (uncounted w) q) ≡ uncounted (up_to w q)
 up-uncounted w q = go (is_told w q)
   where
     go : (b : Bool) → uncounted (cond b (uncounted w) (as_lost (uncounted w))) ≡ uncounted (cond b w (as_lost w))
@@ -44,13 +44,13 @@ up-alike v w q h = sym (up-uncounted v q) ∙ ap (λ u. uncounted (up_to u q)) h
 loss-alike : (v w : Watched) (q : ℕ) → uncounted v ≡ uncounted w → loss_events v q ≡ loss_events w q
 loss-alike v w q h = ap (λ u. loss_events u q) h
 
-next-alike : (v w : Watched) (x : Report) → uncounted v ≡ uncounted w → uncounted (next v x) ≡ uncounted (next w x)
+pub next-alike : (v w : Watched) (x : Report) → uncounted v ≡ uncounted w → uncounted (next v x) ≡ uncounted (next w x)
 next-alike v w (Whole at s b) h = refl
 next-alike v w (Marked at s wrong) h = up-alike v w at h
 next-alike v w (Fault at cell why) h = up-alike v w at h
 next-alike v w (Unfinished at cells) h = up-alike v w at h
 
-told-alike : (v w : Watched) (x : Report) → uncounted v ≡ uncounted w → told_events v x ≡ told_events w x
+pub told-alike : (v w : Watched) (x : Report) → uncounted v ≡ uncounted w → told_events v x ≡ told_events w x
 told-alike v w (Whole at s b) h =
     ap₂ (λ l u. l ++ (whole_events u at s ++ change_events at v.latest (signals_of b))) (loss-alike v w at h)
     (up-alike v w at h)
@@ -120,7 +120,7 @@ more-put begun told all p n e =
     ap₂ (λ a b. a ++ b) p n ∙ sym (map-append event_numbers begun told) ∙ ap (map event_numbers) e
 
 -- a report is of one of the cells
-upto-next : (m : ℕ) (a r : List Report) (x : Report) → UpTo m (a ++ x ∷ r) → place_of x ≤ m
+pub upto-next : (m : ℕ) (a r : List Report) (x : Report) → UpTo m (a ++ x ∷ r) → place_of x ≤ m
 upto-next m [] r x u = u.0
 upto-next m (y ∷ a) r x u = upto-next m a r x u.1
 
@@ -135,7 +135,7 @@ next-near {k} {c} {r} x p (rest, h) =
 first-of : {x y : Report} (r a b : List Report) → r ++ y ∷ a ≡ r ++ x ∷ b → y ≡ x
 first-of r a b h = let q = append_cancel_left r _ _ h in cc
 
-late-more : (c d : List Level) (x : Report) (rest : List Report) → reports (c ++ d) ≡ decided c ++ x ∷ rest
+pub late-more : (c d : List Level) (x : Report) (rest : List Report) → reports (c ++ d) ≡ decided c ++ x ∷ rest
     → length c ≤ place_of x + block_len
 late-more c [] x rest e = go (one-final 0 c)
   where
