@@ -18,6 +18,7 @@ namespace aes3 {
 using report = aes3_report;
 using gap = aes3_gap;
 using event = aes3_event;
+using sum = aes3_sum;
 using words = uint32_t[AES3_BLOCK_WORDS];  // a block
 using cells = uint64_t[AES3_BLOCK_WORDS];  // its cells
 using samples = int32_t[AES3_BLOCK_WORDS]; // its samples, channel 1 and channel 2 of each frame

@@ -1,25 +1,21 @@
 //! A watched line, with a sum for each period of it.
 
-ghost use Rattle.std.specs.Prelude.{◌≡◌, ℕ, ◌+◌, ◌*◌, ◌-◌, ◌<◌, ◌≤◌, ◌^◌, ◌++◌, [], List, Some, IfOk, false};
-ghost use Rattle.std.specs.Prelude.{if◌then◌else◌};
+ghost use Rattle.std.specs.Prelude.{◌≡◌, ℕ, ◌+◌, ◌<◌, ◌≤◌, ◌^◌, ◌++◌, [], List, Some, IfOk, false};
 ghost use Rattle.aes3_cell.specs.Ends.{Grew, Told};
 ghost use Rattle.aes3_cell.specs.Writes.{Wrote};
-ghost use Rattle.aes3_frame.specs.Blocks.{block_len};
 ghost use Rattle.aes3_lock.specs.Following.{report_in};
 ghost use Rattle.aes3_lock.specs.Remains.{place_of};
 ghost use Rattle.aes3_input.specs.Driving.{CellRun};
 ghost use Rattle.aes3_input.specs.Inputs.{cells_of};
 ghost use Rattle.aes3_input.specs.Running.{movement_of};
-ghost use Rattle.aes3_lock_gaps.specs.Gaps.{behind_full, full_count};
 ghost use Rattle.aes3_watch.specs.Signals.{signals_of};
 ghost use Rattle.aes3_watch.specs.declared.signals.Signals.{Signals};
 ghost use Rattle.aes3_watch.specs.Watching.{Ended, IsKept, event_lines, loss_events, up_to, watch_counts};
-ghost use Rattle.aes3_watch.specs.Sums.{Sums, begun_sums, change_of, changes_in, end_told, ends_before};
+ghost use Rattle.aes3_watch.specs.Sums.{Sums, all_told, begun_sums, change_of, changes_in, counted_report};
+ghost use Rattle.aes3_watch.specs.Sums.{ends_before, go_to, is_whole, last_sum, next_period, next_sum};
+ghost use Rattle.aes3_watch.specs.Sums.{notice_lines, on_to, period_told, periods, periods_told, place_behind};
+ghost use Rattle.aes3_watch.specs.Sums.{report_told, sum_lines, summing, told_to, with_period};
 ghost use Rattle.aes3_text_lines.specs.SumLines.{sum_line};
-ghost use Rattle.aes3_watch.specs.Sums.{go_to, last_sum, more, next_period, no_figures, next_sum, notice_lines};
-ghost use Rattle.aes3_watch.specs.Sums.{on_to, period_told, periods, periods_told, place_behind, report_told};
-ghost use Rattle.aes3_watch.specs.Sums.{sum_lines, with_period, summing, take_report, all_told, counted_report};
-ghost use Rattle.aes3_watch.specs.Sums.{is_whole, told_to, with_fault, with_lost, with_marked, with_whole};
 
 use crate::period::Period;
 use crate::watching::{Watcher, put_events};
@@ -85,7 +81,8 @@ impl Summer {
         requires few { every ≤ 2 ^ 40 }
         ensures style { result.watcher.style ≡ style }
         ensures every { result.every ≡ every }
-        ensures none { Sums result.every (with_period result.watcher.state result.period) result.watcher.lasts [] }
+        ensures none { Sums result.every (with_period result.watcher.state result.period)
+            result.watcher.lasts [] }
     {
         Summer {
             watcher: Watcher::new(style),
@@ -173,7 +170,8 @@ impl Summer {
             self.new.watcher.state.losses ≤ self.old.watcher.state.losses + 1) }
         ensures state { IfOk result (λ _.
             with_period self.new.watcher.state self.new.period
-            ≡ periods self.old.every (ends_before self.old.every (with_period self.old.watcher.state self.old.period) to)
+            ≡ periods self.old.every
+            (ends_before self.old.every (with_period self.old.watcher.state self.old.period) to)
             (with_period self.old.watcher.state self.old.period)) }
         ensures wrote { Wrote T.taken T.failed sink.old sink.new
             (notice_lines self.old.watcher.style (periods_told self.old.every
@@ -221,13 +219,14 @@ impl Summer {
         ensures watcher { self.new.watcher ≡ self.old.watcher }
         ensures every { self.new.every ≡ self.old.every }
         ensures from { self.new.period.from ≡ self.old.period.from }
-        ensures place { self.new.period.place ≡ place_behind self.old.period.place (report_in _lock.now ending) }
-        ensures figures { (now : Signals) → self.old.watcher.state.latest ≡ Some now → self.new.period.figures
-            ≡ counted_report self.old.period.figures self.old.period.place found now changes
-            (report_in _lock.now ending) }
+        ensures place { self.new.period.place
+            ≡ place_behind self.old.period.place (report_in _lock.now ending) }
+        ensures figures { (now : Signals) → self.old.watcher.state.latest ≡ Some now
+            → self.new.period.figures ≡ counted_report self.old.period.figures
+            self.old.period.place found now changes (report_in _lock.now ending) }
         ensures others { is_whole (report_in _lock.now ending) ≡ false → (now : Signals)
-            → self.new.period.figures ≡ counted_report self.old.period.figures self.old.period.place found now changes
-            (report_in _lock.now ending) }
+            → self.new.period.figures ≡ counted_report self.old.period.figures
+            self.old.period.place found now changes (report_in _lock.now ending) }
     {
         match ending {
             Ending::Whole { at, .. } => {
@@ -265,7 +264,8 @@ impl Summer {
         ensures kept { IfOk result (λ _. IsKept self.new.watcher.state.latest self.new.watcher.lasts) }
         ensures state { IfOk result (λ _.
             with_period self.new.watcher.state self.new.period
-            ≡ next_sum self.old.every (with_period self.old.watcher.state self.old.period) (report_in lock.now ending)) }
+            ≡ next_sum self.old.every (with_period self.old.watcher.state self.old.period)
+            (report_in lock.now ending)) }
         ensures wrote { Wrote T.taken T.failed sink.old sink.new
             (notice_lines self.old.watcher.style (report_told self.old.every
             (with_period self.old.watcher.state self.old.period)
@@ -287,7 +287,8 @@ impl Summer {
     fn tell_last<T: Sink>(&self, sink: &mut T, seen: u64) -> Result<(), Fault>
         requires room { T.failed sink.old + 1 < 2 ^ 64 }
         ensures { Wrote T.taken T.failed sink.old sink.new
-            (notice_lines self.now.watcher.style (last_sum (with_period self.now.watcher.state self.now.period) seen)) result }
+            (notice_lines self.now.watcher.style
+            (last_sum (with_period self.now.watcher.state self.now.period) seen)) result }
     {
         if self.period.from >= seen {
             return Ok(());
