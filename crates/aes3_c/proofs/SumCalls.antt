@@ -17,6 +17,7 @@ use Rattle.aes3_text_lines.specs.declared.event.Event.TheVariants.{End}
 use Rattle.aes3_text_lines.specs.declared.sum.Figures.{Figures}
 use Rattle.aes3_text_lines.specs.declared.sum.Sum.{Sum}
 use Rattle.aes3_watch.specs.declared.watching.Watched.{Watched}
+use Rattle.aes3_watch.specs.declared.period.Period.{Period}
 use Rattle.aes3_watch.specs.declared.summed.Summed.{Summed}
 use Rattle.aes3_watch.specs.Watching.{is_locked, loss_events, next, told_events, up_to}
 use Rattle.aes3_watch.specs.Sums.{all_told, begun_notices, behind_sums, changes_in, counted_report, end_told, ends_before}
@@ -28,7 +29,8 @@ use Rattle.aes3_watch.proofs.Sums.{periods-more, periods_told-add, periods_told-
 use Rattle.aes3_watch.proofs.Sums.{sums-behind, sums-push, told-here}
 use Rattle.aes3_c.specs.declared.sum_calls.Aes3Sum.{Aes3Sum}
 use Rattle.aes3_c.specs.declared.sum_calls.Aes3Sums.{Aes3Sums}
-use Rattle.aes3_c.specs.Sums.{HasBegunSums, HasSummed, period_sum, sum_numbers, summed_in, uncounted_sum}
+use Rattle.aes3_c.specs.Sums.{HasBegunSums, HasSummed, period_in, period_sum, sum_numbers, summed_in}
+use Rattle.aes3_c.specs.Sums.{uncounted_sum}
 use Rattle.aes3_c.specs.Watches.{IsNext, uncounted}
 use Rattle.aes3_c.proofs.WatchCalls.{late-more, next-alike, told-alike, up-uncounted, upto-next}
 
@@ -170,6 +172,13 @@ report-summed {every} {k} k' {c} {r} {put} x p (rest, h) g f l =
           ∙ ap sums_in (sym (append-nil (sums_from every unsummed (r ++ x ∷ [])))));
     }
 
+pub summed-near : {every : ℕ} {k : Aes3Sums} {c : List Level} {r : List Report} {put : List Aes3Sum} (x : Report)
+    → HasSummed every k c r put → IsNext c r x → place_of x ≤ 2 ^ 43
+summed-near {c = c} {r} x p (rest, h) =
+    let u = upto-next (length c) r rest x (subst (UpTo (length c)) h (near-reports c)) in
+    let f = p.few in
+    omega (arith, u, f)
+
 -- the period ends before the next report, where it is one of the cells
 pub period-before : {every : ℕ} {k : Aes3Sums} (k' : Aes3Sums) {c : List Level} {r : List Report}
     {put : List Aes3Sum} (s : Aes3Sum) (x : Report) (p : HasSummed every k c r put) → IsNext c r x
@@ -220,8 +229,7 @@ passed-all {every} {k} c d {r} {put} a p q t l =
     let begun : begun_notices every c ≡ sums_from every unsummed r ++ (front ++ events lost) =
     begun-is every c r w (sym q) refl
     ∙ ap (λ n. sums_from every unsummed r ++ told_to every w n) (sym t)
-    ∙ ap (λ z. sums_from every unsummed r ++ z) (told-here every w m a refl) in
-    (
+    ∙ ap (λ z. sums_from every unsummed r ++ z) (told-here every w m a refl) in (
       sums_in rest,
       p.put_is
           ∙ ap (λ n. map sum_numbers (sums_in (sums_from every unsummed r ++ periods_told every n w))) split
@@ -278,11 +286,22 @@ all-sums {every} {k} c {r} {put} n p q t l =
 last-some : (u : Summed) (n : ℕ) → u.from < n
     → sums_in (last_sum u n) ≡ record { from = u.from; to = n; figures = u.figures } ∷ []
 last-some u n h = ap (λ (b : Bool).
-sums_in (if b then sum (record { from = u.from; to = n; figures = u.figures }) ∷ [] else [])) (lt-ltb u.from n h)
+    sums_in (if b then sum (record { from = u.from; to = n; figures = u.figures }) ∷ [] else [])) (lt-ltb u.from n h)
 
 last-none : (u : Summed) (n : ℕ) → n ≤ u.from → sums_in (last_sum u n) ≡ []
 last-none u n h = ap (λ (b : Bool).
-sums_in (if b then sum (record { from = u.from; to = n; figures = u.figures }) ∷ [] else [])) (le-ltb u.from n h)
+    sums_in (if b then sum (record { from = u.from; to = n; figures = u.figures }) ∷ [] else [])) (le-ltb u.from n h)
+
+-- what is counted up to the end
+pub last-is : (k : Aes3Sums) (p p' : Period) (s : Sum) (n : ℕ) → p ≡ period_in k → p'.from ≡ p.from
+    → p'.figures ≡ with_lost p.figures (block_len * full_count p.place n) → s.from ≡ p'.from → s.to ≡ n
+    → s.figures ≡ p'.figures
+    → s ≡ record { from = k.current.from; to = n; figures = (on_to (summed_in k) n).figures }
+last-is k p p' s n e f g h i j =
+    ap₂ (λ from (figures : Figures). record { from = from; to = s.to; figures = figures })
+    (h ∙ f ∙ ap (λ (y : Period). y.from) e)
+    (j ∙ g ∙ ap (λ (y : Period). with_lost y.figures (block_len * full_count y.place n)) e)
+    ∙ ap (λ to. record { from = k.current.from; to = to; figures = (on_to (summed_in k) n).figures }) i
 
 pub last-put : {every : ℕ} {k : Aes3Sums} (c : List Level) {r : List Report} {put : List Aes3Sum} (s : Aes3Sum)
     (n : ℕ) → HasSummed every k c r put → r ≡ reports c → n ≡ length c → n < k.current.from + k.every

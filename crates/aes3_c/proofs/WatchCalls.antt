@@ -24,8 +24,8 @@ use Rattle.aes3_watch.specs.declared.watching.Watched.{Watched}
 use Rattle.aes3_watch.specs.Signals.{change_events, signals_of}
 use Rattle.aes3_watch.specs.Watching.{behind_reports, begun_events, ended, events_from, is_locked, is_told, loss_events}
 use Rattle.aes3_watch.specs.Watching.{next, told_events, unwatched, up_to, watch_events, whole_events}
-use Rattle.aes3_watch.proofs.WatchedCells.{as_lost, last_events, loss-join, loss-told, next-join, report-join, up-join}
-use Rattle.aes3_watch.proofs.WatchedCells.{up-told}
+use Rattle.aes3_watch.proofs.WatchedCells.{as_lost, behind-push, either, events-push, last-join, last_events, later}
+use Rattle.aes3_watch.proofs.WatchedCells.{loss-join, loss-told, next-join, report-join, up-is-told, up-join, up-told}
 use Rattle.aes3_c.specs.declared.watch_calls.Aes3Event.{Aes3Event}
 use Rattle.aes3_c.specs.declared.watch_calls.Aes3Watch.{Aes3Watch}
 use Rattle.aes3_c.specs.Watches.{BeginFrom, HasBegun, HasPut, IsNext, event_numbers, uncounted, watched_in}
@@ -62,19 +62,6 @@ told-alike v w (Unfinished at cells) h = loss-alike v w at h
 last-alike : (v w : Watched) (n : ℕ) → uncounted v ≡ uncounted w → last_events v n ≡ last_events w n
 last-alike v w n h = ap₂ (λ l u. l ++ End n (is_locked u) ∷ []) (loss-alike v w n h) (up-alike v w n h)
 
--- one more report
-events-push : (w : Watched) (r : List Report) (x : Report)
-    → events_from w (r ++ x ∷ []) ≡ events_from w r ++ told_events (behind_reports w r) x
-events-push w [] x = append-nil (told_events w x)
-events-push w (y ∷ r) x =
-    ap (λ z. told_events w y ++ z) (events-push (next w y) r x)
-    ∙ sym (append_assoc (told_events w y) (events_from (next w y) r) (told_events (behind_reports (next w y) r) x))
-
-behind-push : (w : Watched) (r : List Report) (x : Report)
-    → behind_reports w (r ++ x ∷ []) ≡ next (behind_reports w r) x
-behind-push w [] x = refl
-behind-push w (y ∷ r) x = behind-push (next w y) r x
-
 -- at the first place nothing is lost
 or-true : (x : Bool) → (x || true) ≡ true
 or-true true = refl
@@ -92,20 +79,11 @@ loss-first w = loss-told w 0 true (told-first w)
 
 -- where it is told up to a place, it is up to each one before it
 told-before : (w : Watched) (a b : ℕ) → a ≤ b → is_told w b ≡ true → is_told w a ≡ true
-told-before w a b h e = go w.lost (cases_lt (a - w.place) block_len) e
+told-before w a b h e = go (either (is_told w a))
   where
-    go : (l : Bool) → (a - w.place < block_len) ⊎ (block_len ≤ a - w.place) → (l || nat_lt (b - w.place) block_len) ≡ true
-        → (l || nat_lt (a - w.place) block_len) ≡ true
-    go true c e = refl
-    go false (inl c) e = lt-ltb (a - w.place) block_len c
-    go false (inr c) e = let f = le-ltb (b - w.place) block_len (omega arith) in absurd cc
-
-up-is-told : (w : Watched) (q : ℕ) → is_told (up_to w q) q ≡ true
-up-is-told w q = go (is_told w q) refl
-  where
-    go : (b : Bool) → is_told w q ≡ b → is_told (up_to w q) q ≡ true
-    go true t = ap (λ v. is_told v q) (up-told w q true t) ∙ t
-    go false t = ap (λ v. is_told v q) (up-told w q false t)
+    go : (is_told w a ≡ true) ⊎ (is_told w a ≡ false) → is_told w a ≡ true
+    go (inl t) = t
+    go (inr f) = let g = later w a b h f in absurd cc
 
 up-before : (w : Watched) (a b : ℕ) → a ≤ b → up_to (up_to w b) a ≡ up_to w b
 up-before w a b h = up-told (up_to w b) a true (told-before (up_to w b) a b h (up-is-told w b))
@@ -315,11 +293,6 @@ all-is : (c : List Level) (r : List Report) → r ≡ reports c
     → watch_events c ≡ events_from unwatched r ++ last_events (behind_reports unwatched r) (length c)
 unfolding watch_events ended
 all-is c r q = ap (λ r. events_from unwatched r ++ last_events (behind_reports unwatched r) (length c)) (sym q)
-
-last-join : (w : Watched) (a b : ℕ) → a ≤ b → last_events w b ≡ loss_events w a ++ last_events (up_to w a) b
-last-join w a b h =
-    ap₂ (λ l v. l ++ End b (is_locked v) ∷ []) (loss-join w a b h) (up-join w a b h)
-    ∙ append_assoc (loss_events w a) (loss_events (up_to w a) b) (End b (is_locked (up_to (up_to w a) b)) ∷ [])
 
 pub ended-put : {k : Aes3Watch} (c : List Level) {r : List Report} {put now : List Aes3Event} (told : List Event)
     (n : ℕ) → HasPut k c r put → r ≡ reports c → n ≡ length c → told ≡ last_events (watched_in k) n

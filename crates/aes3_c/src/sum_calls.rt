@@ -1,7 +1,7 @@
 //! A watched line: the sums of its periods, as plain numbers.
 
 ghost use Rattle.std.specs.Prelude.{◌≡◌, ◌+◌, ◌-◌, ◌<◌, ◌≤◌, ◌^◌, ◌++◌, ◌∷◌, [], ℕ, List, Some, None};
-ghost use Rattle.std.specs.Prelude.{false, length, map, true};
+ghost use Rattle.std.specs.Prelude.{Bool, false, length, map, true};
 ghost use Rattle.aes3_level.specs.declared.level.Level.{Level};
 ghost use Rattle.aes3_frame.specs.Files.{payload_of};
 ghost use Rattle.aes3_lock.specs.declared.report.Report.{Report};
