@@ -12,8 +12,8 @@
  *
  * - No pointer is null. Each points to the number of objects that its type or `count` says, aligned as C requires it.
  * - What a function writes overlaps no other argument of that call.
- * - A lock was made by aes3_lock_init(), an account by aes3_account_init(), the state of a watched line by aes3_watch_init(), and
- *   only the functions here write them.
+ * - A lock was made by aes3_lock_init(), an account by aes3_account_init(), the state of a watched line by aes3_watch_init(),
+ *   that of its sums by aes3_sums_init(), and only the functions here write them.
  *
  * The words that are used here:
  *
@@ -715,6 +715,151 @@ uint32_t aes3_watch_passed(aes3_watch *watch, uint64_t seen, aes3_event events[A
  * @endcode
  */
 uint32_t aes3_watch_end(const aes3_watch *watch, uint64_t seen, aes3_event events[AES3_EVENTS]);
+
+/** @} */
+
+/**
+ * @defgroup sums Sums
+ * Gives the sums of a line by periods: what is counted in its first cells, as many as a period has, in the next ones, and so on.
+ *
+ * Each report of the lock goes to aes3_sums_before(), that of a whole block with its words. A report can come after the end of
+ * any number of periods. The call puts the sum of one of them and returns true. Call it again with the same report until it
+ * returns false: then the report is counted. Call aes3_sums_passed() in the same way:
+ *
+ * @code
+ * do {
+ *     at += aes3_lock_take_octets(&lock, octets, count, at, &report);
+ *     if (report.kind == AES3_WHOLE)
+ *         aes3_lock_block(&lock, report.words);
+ *     while (aes3_sums_before(&sums, &report, &sum))
+ *         print_sum(&sum);
+ *     while (aes3_sums_passed(&sums, aes3_lock_seen(&lock), &sum))
+ *         print_sum(&sum);
+ * } while (report.kind != AES3_NONE);
+ * aes3_lock_finish(&lock, &report);
+ * while (aes3_sums_before(&sums, &report, &sum))
+ *     print_sum(&sum);
+ * while (aes3_sums_end(&sums, aes3_lock_seen(&lock), &sum))
+ *     print_sum(&sum);
+ * @endcode
+ *
+ * All sums, in this order, are those that `aes3 watch --every` prints. The events come from an #aes3_watch beside it.
+ * @{
+ */
+
+/**
+ * The state of a line whose sums are given, in memory of its caller. It may be copied by assignment.
+ */
+typedef struct aes3_sums {
+    uint64_t state[24]; /**< opaque */
+} aes3_sums;
+AES3_SIZE(aes3_sums, 192);
+
+/**
+ * What is counted in a period. A block is counted where it begins. A gap of 24,576 cells is counted where its last cell is, a
+ * shorter one where the whole block after it begins. A count stops at the greatest number.
+ */
+typedef struct aes3_sum {
+    uint64_t from;           /**< place of the first cell of the period */
+    uint64_t to;             /**< place of the cell after its last one */
+    uint64_t whole;          /**< whole blocks */
+    uint64_t marked;         /**< marked blocks */
+    uint64_t fault;          /**< faults of all three causes */
+    uint64_t preamble;       /**< faults of #AES3_PREAMBLE */
+    uint64_t biphase;        /**< faults of #AES3_BIPHASE */
+    uint64_t unclosed;       /**< faults of #AES3_UNCLOSED */
+    uint64_t lost;           /**< cells in gaps that count as faults */
+    uint64_t invalid_first;  /**< validity bits of 1 of channel 1 in whole blocks */
+    uint64_t invalid_second; /**< those of channel 2 */
+    uint64_t changes;        /**< events of #AES3_EVENT_STATUS and #AES3_EVENT_VALIDITY */
+} aes3_sum;
+AES3_SIZE(aes3_sum, 96);
+
+/**
+ * Makes the state of a line for a lock that has seen no cell, with periods of `every` cells.
+ *
+ * If there are no such periods, it returns false. Then aes3_sums_before(), aes3_sums_passed() and aes3_sums_end() return false
+ * too, whatever they are given.
+ *
+ * @param[out] sums  the state
+ * @param every  how many cells a period has, 1 to 2^40
+ * @return true; false if `every` is 0 or above 2^40
+ *
+ * @code
+ * aes3_sums sums;
+ * assert(!aes3_sums_init(&sums, 0));
+ * assert(aes3_sums_init(&sums, 10 * 24576));
+ * @endcode
+ */
+bool aes3_sums_init(aes3_sums *sums, uint64_t every);
+
+/**
+ * Puts the sum of the next period that ends before a report, if any; else counts the report.
+ *
+ * A period ends before a report if the report's `at` is in a later one. Call it with the same report until it returns false:
+ * only then the report is counted. Each report of the lock goes here, in turn. That of a whole block needs its words:
+ * aes3_lock_push() and aes3_lock_finish() put them, and aes3_lock_block() puts them after the other calls. If the report is
+ * #AES3_NONE, it returns false, and nothing changes.
+ *
+ * @param[in,out] sums  the state
+ * @param report  the report
+ * @param[out] sum  the sum
+ * @return true if there is a sum; else false, and `*sum` is unchanged
+ *
+ * @code
+ * aes3_sums sums;
+ * aes3_sum sum;
+ * static aes3_report report; // a block of zeros
+ * report.kind = AES3_WHOLE;
+ * report.at = 24576;
+ * assert(aes3_sums_init(&sums, 24576));
+ * assert(aes3_sums_before(&sums, &report, &sum) && sum.from == 0 && sum.to == 24576 && sum.whole == 0);
+ * assert(!aes3_sums_before(&sums, &report, &sum)); // it is counted
+ * report.at = 2 * 24576;
+ * assert(aes3_sums_before(&sums, &report, &sum) && sum.from == 24576 && sum.whole == 1);
+ * @endcode
+ */
+bool aes3_sums_before(aes3_sums *sums, const aes3_report *report, aes3_sum *sum);
+
+/**
+ * Puts the sum of the next period that no later cell changes, if any: 24,576 cells have come after it.
+ *
+ * So the sums of a line without signal come while it has none. Without this call the same sums come later, in the same order.
+ *
+ * @param[in,out] sums  the state, by which each report of the lock was counted
+ * @param seen  how many cells the lock has seen
+ * @param[out] sum  the sum
+ * @return true if there is a sum; else false, and `*sum` is unchanged
+ *
+ * @code
+ * aes3_sums sums;
+ * aes3_sum sum;
+ * assert(aes3_sums_init(&sums, 24576));
+ * assert(!aes3_sums_passed(&sums, 2 * 24576 - 1, &sum));
+ * assert(aes3_sums_passed(&sums, 2 * 24576, &sum) && sum.from == 0 && sum.lost == 24576);
+ * assert(!aes3_sums_passed(&sums, 2 * 24576, &sum));
+ * @endcode
+ */
+bool aes3_sums_passed(aes3_sums *sums, uint64_t seen, aes3_sum *sum);
+
+/**
+ * Puts the next of all sums that are left at the end of the cells, if any. The last period can be shorter.
+ *
+ * @param[in,out] sums  the state, by which each report of the lock was counted, with that of aes3_lock_finish()
+ * @param seen  how many cells the lock has seen
+ * @param[out] sum  the sum
+ * @return true if there is a sum; else false, and `*sum` is unchanged
+ *
+ * @code
+ * aes3_sums sums;
+ * aes3_sum sum;
+ * assert(aes3_sums_init(&sums, 500));
+ * assert(aes3_sums_end(&sums, 800, &sum) && sum.from == 0 && sum.to == 500);
+ * assert(aes3_sums_end(&sums, 800, &sum) && sum.from == 500 && sum.to == 800);
+ * assert(!aes3_sums_end(&sums, 800, &sum));
+ * @endcode
+ */
+bool aes3_sums_end(aes3_sums *sums, uint64_t seen, aes3_sum *sum);
 
 /** @} */
 

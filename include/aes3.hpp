@@ -18,6 +18,7 @@ namespace aes3 {
 using report = aes3_report;
 using gap = aes3_gap;
 using event = aes3_event;
+using sum = aes3_sum;
 using words = uint32_t[AES3_BLOCK_WORDS];  // a block
 using cells = uint64_t[AES3_BLOCK_WORDS];  // its cells
 using samples = int32_t[AES3_BLOCK_WORDS]; // its samples, channel 1 and channel 2 of each frame
@@ -103,6 +104,30 @@ class watch {
     template <class Tell> void end(uint64_t seen, Tell &&tell) const {
         event put[AES3_EVENTS];
         hand(put, aes3_watch_end(&state, seen, put), tell);
+    }
+};
+
+// Tells the sums of a line by periods of `every` cells, as `aes3 watch --every` does, by tell(const sum &): those of the periods that end
+// before each report that the lock tells, those that stand whatever follows the cells that it has seen, and at the end of the cells all
+// that are left. The report of a whole block has its words. Where `every` is 0 or above 2^40, there are no sums, and ok() is false.
+class sums {
+    aes3_sums state;
+    bool made;
+
+  public:
+    explicit sums(uint64_t every) : made(aes3_sums_init(&state, every)) {}
+    bool ok() const { return made; }
+    template <class Tell> void take(const report &told, Tell &&tell) {
+        for (sum it; aes3_sums_before(&state, &told, &it);)
+            tell(it);
+    }
+    template <class Tell> void passed(uint64_t seen, Tell &&tell) {
+        for (sum it; aes3_sums_passed(&state, seen, &it);)
+            tell(it);
+    }
+    template <class Tell> void end(uint64_t seen, Tell &&tell) {
+        for (sum it; aes3_sums_end(&state, seen, &it);)
+            tell(it);
     }
 };
 

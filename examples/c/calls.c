@@ -537,6 +537,73 @@ static void watches(void) {
     WANT(aes3_watch_end(&watch, UINT64_MAX, put) <= 2);
 }
 
+/* The sum that was put: of which cells, and what is counted in it. */
+static int is_sum(const aes3_sum *sum, uint64_t from, uint64_t to, uint64_t whole, uint64_t fault, uint64_t lost) {
+    return sum->from == from && sum->to == to && sum->whole == whole && sum->fault == fault && sum->lost == lost;
+}
+
+static void sums_by_periods(void) {
+    const uint64_t block = AES3_BLOCK_CELLS, most = (uint64_t)1 << 40;
+    static aes3_report report;
+    static uint8_t status[AES3_STATUS_BYTES], bits[AES3_STATUS_BYTES];
+    aes3_sums sums, copy;
+    aes3_sum sum;
+    /* How many cells a period can have. Without periods nothing is put. */
+    WANT(aes3_sums_init(&sums, 1) && aes3_sums_init(&sums, most));
+    memset(&sum, 0x55, sizeof sum);
+    report.kind = AES3_WHOLE;
+    report.at = 9 * block;
+    WANT(!aes3_sums_init(&sums, most + 1) && !aes3_sums_init(&sums, UINT64_MAX) && !aes3_sums_init(&sums, 0));
+    WANT(!aes3_sums_before(&sums, &report, &sum) && !aes3_sums_passed(&sums, 20 * block, &sum) && !aes3_sums_end(&sums, 20 * block, &sum));
+    WANT(aes3_sums_init(&sums, block));
+    report.kind = AES3_NONE;
+    WANT(!aes3_sums_before(&sums, &report, &sum));
+    report.kind = 9;
+    WANT(!aes3_sums_before(&sums, &report, &sum));
+    WANT(!aes3_sums_passed(&sums, 2 * block - 1, &sum) && sum.to == UINT64_C(0x5555555555555555));
+    copy = sums;
+    WANT(aes3_sums_passed(&sums, 2 * block, &sum) && is_sum(&sum, 0, block, 0, 0, block));
+    WANT(!aes3_sums_passed(&sums, 2 * block, &sum) && is_sum(&sum, 0, block, 0, 0, block));
+    /* Two periods end before a report, the second one directly before it. The report is taken by the third call. */
+    report.kind = AES3_FAULT;
+    report.why = AES3_UNCLOSED;
+    report.at = 3 * block;
+    WANT(aes3_sums_before(&sums, &report, &sum) && is_sum(&sum, block, 2 * block, 0, 0, block));
+    WANT(aes3_sums_before(&sums, &report, &sum) && is_sum(&sum, 2 * block, 3 * block, 0, 0, block));
+    WANT(!aes3_sums_before(&sums, &report, &sum));
+    report.kind = AES3_MARKED;
+    WANT(!aes3_sums_before(&sums, &report, &sum));
+    report.kind = AES3_WHOLE;
+    report.at = 3 * block + 20;
+    WANT(!aes3_sums_before(&sums, &report, &sum));
+    /* What is counted: a gap before a whole block, the validity bits and the events of a change. */
+    status[0] = 4;
+    memset(bits, 0xFF, sizeof bits);
+    WANT(aes3_block_set_status(report.words, 1, status) == AES3_BLOCK_WORDS);
+    WANT(aes3_block_set_validity(report.words, 2, bits) == AES3_BLOCK_WORDS);
+    report.at += block + 7;
+    WANT(aes3_sums_before(&sums, &report, &sum) && is_sum(&sum, 3 * block, 4 * block, 1, 1, 0));
+    WANT(sum.marked == 1 && sum.preamble == 0 && sum.biphase == 0 && sum.unclosed == 1 && sum.changes == 0);
+    WANT(!aes3_sums_before(&sums, &report, &sum));
+    WANT(aes3_sums_end(&sums, 5 * block + 9, &sum) && is_sum(&sum, 4 * block, 5 * block, 1, 0, 7));
+    WANT(sum.invalid_first == 0 && sum.invalid_second == 192 && sum.changes == 2);
+    WANT(aes3_sums_end(&sums, 5 * block + 9, &sum) && is_sum(&sum, 5 * block, 5 * block + 9, 0, 0, 0));
+    WANT(!aes3_sums_end(&sums, 5 * block + 9, &sum) && sum.to == 5 * block + 9);
+    /* The copy goes on by itself. A period that ends with the cells is the last. */
+    WANT(aes3_sums_end(&copy, 2 * block, &sum) && is_sum(&sum, 0, block, 0, 0, block));
+    WANT(aes3_sums_end(&copy, 2 * block, &sum) && is_sum(&sum, block, 2 * block, 0, 0, block));
+    WANT(!aes3_sums_end(&copy, 2 * block, &sum));
+    WANT(!aes3_sums_end(&copy, 0, &sum));
+    /* Places that no lock has do no harm. */
+    WANT(aes3_sums_init(&sums, most));
+    report.at = UINT64_MAX;
+    for (int i = 0; i < 3; i++)
+        WANT(aes3_sums_before(&sums, &report, &sum) && sum.to == (uint64_t)(i + 1) << 40);
+    WANT(aes3_sums_end(&sums, UINT64_MAX, &sum) && sum.from == 3 * most);
+    memset(&sums, 0xFF, sizeof sums);
+    WANT(!aes3_sums_before(&sums, &report, &sum) && !aes3_sums_end(&sums, UINT64_MAX, &sum));
+}
+
 /* Where cells are in a capture, with marks after each piece and with much that is owed; and between marks of any numbers. */
 static void marks(void) {
     enum { CELLS = 2 * AES3_BLOCK_CELLS, SAMPLES = 4 * CELLS };
@@ -805,6 +872,7 @@ int main(void) {
     many_words();
     accounts();
     watches();
+    sums_by_periods();
     frames();
     blocks_that_fit();
     samples_that_fit();

@@ -17,6 +17,9 @@ static aes3_account account;
 static aes3_gap gap;
 static aes3_watch watch;
 static aes3_event events[AES3_EVENTS];
+static aes3_sums sums;
+static aes3_sum sum;
+static bool has_sum;
 static aes3_professional professional;
 static aes3_consumer consumer;
 static uint32_t words[AES3_BLOCK_WORDS];
@@ -50,6 +53,10 @@ static void watch_init(void) { aes3_watch_init(&watch); }
 static void watch_report(void) { aes3_watch_report(&watch, &report, events); }
 static void watch_passed(void) { aes3_watch_passed(&watch, 200000, events); }
 static void watch_end(void) { aes3_watch_end(&watch, 200000, events); }
+static void sums_init(void) { has_sum = aes3_sums_init(&sums, 3 * AES3_BLOCK_CELLS); }
+static void sums_before(void) { has_sum = aes3_sums_before(&sums, &report, &sum); }
+static void sums_passed(void) { has_sum = aes3_sums_passed(&sums, 200000, &sum); }
+static void sums_end(void) { has_sum = aes3_sums_end(&sums, 200000, &sum); }
 static void frames_between(void) { word = aes3_frames_between(5, 100000, 200000); }
 static void encode_block(void) { aes3_encode_block(words, 0, cells); }
 static void encode_blocks(void) { aes3_encode_blocks(words, AES3_BLOCK_WORDS, 0, packed, sizeof packed); }
@@ -147,6 +154,16 @@ int main(void) {
     failed |= events[0].kind != AES3_EVENT_STATUS || events[2].kind != AES3_EVENT_VALIDITY;
     failed |= tell("aes3_watch_passed", watch_passed, 4096);
     failed |= tell("aes3_watch_end", watch_end, 4096);
+    failed |= tell("aes3_sums_init", sums_init, 1024);
+    failed |= tell("aes3_sums_before, counted", sums_before, 8192);
+    failed |= has_sum;
+    report.at += 4 * AES3_BLOCK_CELLS;
+    failed |= tell("aes3_sums_before, a sum", sums_before, 4096);
+    failed |= !has_sum || sum.whole != 1;
+    failed |= tell("aes3_sums_passed", sums_passed, 4096);
+    failed |= !has_sum;
+    failed |= tell("aes3_sums_end", sums_end, 4096);
+    failed |= !has_sum;
     failed |= tell("aes3_frames_between", frames_between, 256);
     for (int i = 0; i < AES3_BLOCK_WORDS; i++)
         aes3_octets_of_word(cells[i], line_octets + 8 * i);

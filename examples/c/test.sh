@@ -61,6 +61,13 @@ for name in $inputs dead none few changes; do
     "$program" watch <$name.txt >$name.events
     echo $? >>$name.events
 done
+# The sums of each, by periods shorter and longer than a block, and of all cells in one.
+periods="5000 30011 800000 1099511627776"
+for name in $inputs dead none few changes; do
+    for every in $periods; do
+        "$program" watch --every $every <$name.txt | grep '^sum ' >$name.$every.sums
+    done
+done
 for event in locked lost back slipped status validity end; do
     judge "an event '$event' in the tests" grep -q "^$event " ./*.events
 done
@@ -144,6 +151,20 @@ events() {
     done
 }
 
+# The lines of sums.c likewise.
+sums() {
+    for name in $inputs dead none few changes; do
+        for every in $periods; do
+            for seed in '' 3; do
+                # shellcheck disable=SC2086
+                ./sums $every $seed <$name.txt >got
+                judge "sums of $every cells ${seed:+in pieces $seed }by $1 on $name" cmp -s $name.$every.sums got
+            done
+        done
+    done
+    judge "sums of no cells by $1" eval './sums 0 <few.txt 2>/dev/null; [ $? = 2 ]'
+}
+
 # A command that tells the reports of cells, on each input.
 compare() {
     for name in $inputs; do
@@ -172,7 +193,7 @@ build() { # COMPILER FLAGS..
         echo "left out: the checks of addresses and undefined behaviour by $compiler (they do not work here)"
         checks=
     }
-    for example in check gaps watch encode calls layout user samples capture stream places wav recover blocks; do
+    for example in check gaps watch sums encode calls layout user samples capture stream places wav recover blocks; do
         "$compiler" "$@" -O2 -Wall -Wextra -pedantic -Werror $checks -I"$here/../../include" \
             -o $example "$here/$example.c" -x none "$library" || {
             differs "$example.c, which $compiler does not compile,"
@@ -226,6 +247,7 @@ build() { # COMPILER FLAGS..
     compare ./check
     gaps "$compiler"
     events "$compiler"
+    sums "$compiler"
     for each in capture:0:1 wide:11:2; do
         IFS=: read -r name bit unit <<WORDS
 $each

@@ -275,6 +275,27 @@ int main() {
     watch.end(5 * AES3_BLOCK_CELLS, tell_event);
     judge("events", events == "locked at 100\nslipped at 24683\nlost at 49259\nend at 122880\n");
 
+    // Sums by periods of two blocks' cells: two that end before a block, one that no later cell changes, and the last, which is shorter.
+    aes3::sums sums(2 * AES3_BLOCK_CELLS), none(0);
+    std::uint64_t counted[4] = {}; // sums, whole blocks, lost cells, and where the last period ended
+    const auto tell_sum = [&](const aes3::sum &it) {
+        counted[0]++;
+        counted[1] += it.whole;
+        counted[2] += it.lost;
+        counted[3] = it.to;
+    };
+    judge("periods", sums.ok() && !none.ok());
+    none.end(5 * AES3_BLOCK_CELLS, tell_sum);
+    whole.at = 4 * AES3_BLOCK_CELLS + 100;
+    sums.take(whole, tell_sum);
+    judge("sums before a block", counted[0] == 2 && counted[1] == 0 && counted[2] == 4 * AES3_BLOCK_CELLS);
+    sums.passed(7 * AES3_BLOCK_CELLS - 1, tell_sum);
+    judge("sums that are not certain", counted[0] == 2);
+    sums.passed(7 * AES3_BLOCK_CELLS, tell_sum);
+    judge("sums that passed", counted[0] == 3 && counted[1] == 1 && counted[3] == 6 * AES3_BLOCK_CELLS);
+    sums.end(7 * AES3_BLOCK_CELLS, tell_sum);
+    judge("sums", counted[0] == 4 && counted[1] == 1 && counted[3] == 7 * AES3_BLOCK_CELLS);
+
     // The same once more, of samples: four of each cell, in bit 2.
     static std::uint8_t samples[4 * AES3_BLOCK_CELLS], packed[AES3_BLOCK_CELLS];
     for (int i = 0; i < 4 * AES3_BLOCK_CELLS; i++)

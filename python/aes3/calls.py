@@ -91,6 +91,15 @@ class _Event(c.Structure):
 _Events = _Event * 6
 
 
+class _Sums(c.Structure):
+    _fields_ = [("state", c.c_uint64 * 24)]
+
+
+class _Sum(c.Structure):
+    _fields_ = [(name, c.c_uint64) for name in ("start", "stop", "whole", "marked", "fault", "preamble", "biphase", "unclosed", "lost",
+                                                "invalid_first", "invalid_second", "changes")]
+
+
 class _Capture(c.Structure):
     _fields_ = [(name, c.c_uint64) for name in ("octets", *FOUND)]
 
@@ -133,6 +142,10 @@ _watch_init = _declare("aes3_watch_init", None, _at)
 _watch_report = _declare("aes3_watch_report", c.c_uint32, _at, _at, _at)
 _watch_passed = _declare("aes3_watch_passed", c.c_uint32, _at, c.c_uint64, _at)
 _watch_end = _declare("aes3_watch_end", c.c_uint32, _at, c.c_uint64, _at)
+_sums_init = _declare("aes3_sums_init", c.c_bool, _at, c.c_uint64)
+_sums_before = _declare("aes3_sums_before", c.c_bool, _at, _at, _at)
+_sums_passed = _declare("aes3_sums_passed", c.c_bool, _at, c.c_uint64, _at)
+_sums_end = _declare("aes3_sums_end", c.c_bool, _at, c.c_uint64, _at)
 _frames_between = _declare("aes3_frames_between", c.c_uint64, c.c_uint64, c.c_uint64, c.c_uint64)
 _encode_block = _declare("aes3_encode_block", c.c_uint32, _at, c.c_uint8, _at)
 _encode_blocks = _declare("aes3_encode_blocks", c.c_size_t, _at, c.c_size_t, c.c_uint8, _at, c.c_size_t)
@@ -942,3 +955,64 @@ class Watch:
         events = _Events()
         count = put(events)
         return [Event(events[i]) for i in range(count)]
+
+
+class Sum(NamedTuple):
+    """What is counted in a period of a line. Its first cell is `start`, and `stop` is the cell after its last one.
+
+    A block is counted where it begins. A gap of 24,576 cells is counted where its last cell is, a shorter one where the whole block
+    after it begins.
+    """
+
+    start: int
+    stop: int
+    whole: int  # whole blocks
+    marked: int  # marked blocks
+    fault: int  # faults of all three causes
+    preamble: int  # faults of each cause
+    biphase: int
+    unclosed: int
+    lost: int  # cells in gaps that count as faults
+    invalid_first: int  # validity bits of 1 of channel 1 in whole blocks
+    invalid_second: int  # those of channel 2
+    changes: int  # events of another status or other validity bits
+
+    def __str__(self) -> str:
+        """Its line, as `aes3 watch --every` writes it."""
+        names = "from", "to", *self._fields[2:9], "invalid1", "invalid2", "changes"
+        return " ".join(["sum", *(f"{name} {number}" for name, number in zip(names, self))])
+
+
+class Sums:
+    """Tells the sums of a line by periods of `every` cells, 1 to 2**40: its first cells, the next ones, and so on."""
+
+    def __init__(self, every: int) -> None:
+        self._sums = _Sums()
+        _sums_init(c.byref(self._sums), _number(every, "the number of cells of a period", 1, 2**40))
+
+    def report(self, report: Report) -> List[Sum]:
+        """The list of the sums of the periods that end before a report. Each report of the lock goes here once, in turn."""
+        if not isinstance(report, Report):
+            raise TypeError(f"a sum is before a Report of a lock, not before {_named(report)}")
+        told = _told_of(report)
+        if report._block is not None:
+            told.words = report._block
+        return self._told(lambda sum_: _sums_before(c.byref(self._sums), c.byref(told), sum_))
+
+    def passed(self, seen: int) -> List[Sum]:
+        """The list of the sums that stand whatever follows the `seen` cells, all of whose reports were told."""
+        seen = _number(seen, "the number of cells", 0, 2**64 - 1)
+        return self._told(lambda sum_: _sums_passed(c.byref(self._sums), seen, sum_))
+
+    def end(self, seen: int) -> List[Sum]:
+        """The list of all sums that are left at the end of the `seen` cells, all of whose reports were told."""
+        seen = _number(seen, "the number of cells", 0, 2**64 - 1)
+        return self._told(lambda sum_: _sums_end(c.byref(self._sums), seen, sum_))
+
+    @staticmethod
+    def _told(put: Callable[[Any], int]) -> List[Sum]:
+        sums: List[Sum] = []
+        told = _Sum()
+        while put(c.byref(told)):
+            sums.append(Sum(*(getattr(told, name) for name in Sum._fields)))
+        return sums

@@ -66,6 +66,10 @@ def main() -> None:
     events: List[aes3.Event] = [event for report in told for event in watch.report(report)]
     events += watch.passed(lock.seen()) + watch.end(lock.seen())
     assert [event.kind for event in events] == ["locked", "end"] and events[1].locked and events[0].status == b""
+    sums = aes3.Sums(1 << 20)
+    counted: List[aes3.Sum] = [it for report in told for it in sums.report(report)] + sums.passed(lock.seen()) + sums.end(lock.seen())
+    start, stop, whole, *others = counted[0]
+    assert len(counted) == 1 and (start, stop, whole) == (0, lock.seen(), len(reports)) and counted[0].lost == 0 and others[-1] == 0
     block = told[0].words
     assert block is not None
     changed: numpy.typing.NDArray[numpy.uint32] = aes3.with_user(aes3.with_validity(block, 1, bytes(24)), 2, bytes(24))

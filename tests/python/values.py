@@ -396,6 +396,34 @@ def check_events():
     assert str(lost) == "[Event(lost at 0)]" and lost[0] != "lost at 0"
 
 
+def check_sums():
+    samples = array.array("i", 6 * 384 * [256])
+    line = aes3.encode(samples, 48000, channels=2, form="raw")
+    other = aes3.encode(samples, 44100, channels=2, form="raw")
+    block = len(line) // 6
+    # Three blocks, eight cells too many, one block, three blocks without signal, and two blocks with another status.
+    cells = line[: 3 * block] + b"\xcc" + line[:block] + 3 * block * b"\xff" + other[: 2 * block]
+    for piece in (777, 4 * block):
+        lock, sums = aes3.Lock(), aes3.Sums(2 * 24576)
+        told = []
+        for at in range(0, len(cells), piece):
+            told += [it for report in lock.take_octets(cells[at : at + piece]) for it in sums.report(report)] + sums.passed(lock.seen())
+        told += [it for report in lock.finish() for it in sums.report(report)] + sums.end(lock.seen())
+        assert sums.end(lock.seen()) == []
+        assert [(it.start, it.stop) for it in told] == [(i * 49152, min((i + 1) * 49152, lock.seen())) for i in range(5)]
+        assert [it.whole for it in told] == [2, 2, 0, 1, 1] and sum(it.lost for it in told) == 8 + 3 * 24576
+        assert [it.changes for it in told] == [0, 0, 0, 2, 0] and {it.invalid_first + it.invalid_second for it in told} == {0}
+        assert str(told[0]) == "sum from 0 to 49152 whole 2 marked 0 fault 0 preamble 0 biphase 0 unclosed 0 lost 0 invalid1 0 invalid2 0 changes 0"
+    for every in 0, -1, 2**40 + 1:
+        try:
+            aes3.Sums(every)
+            assert False, every
+        except ValueError as error:
+            assert "from 1 to 1,099,511,627,776" in str(error)
+    long = aes3.Sums(2**40).end(2**41 + 1)
+    assert [it.stop for it in long] == [2**40, 2**41, 2**41 + 1]
+
+
 def wav_of(form, container, bits, channels, octets, before=b"", after=b"", length=None):
     """A WAV file, extensible where not all bits of a sample count."""
     frame = channels * container

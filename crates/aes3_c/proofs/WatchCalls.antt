@@ -24,14 +24,14 @@ use Rattle.aes3_watch.specs.declared.watching.Watched.{Watched}
 use Rattle.aes3_watch.specs.Signals.{change_events, signals_of}
 use Rattle.aes3_watch.specs.Watching.{behind_reports, begun_events, ended, events_from, is_locked, is_told, loss_events}
 use Rattle.aes3_watch.specs.Watching.{next, told_events, unwatched, up_to, watch_events, whole_events}
-use Rattle.aes3_watch.proofs.WatchedCells.{as_lost, last_events, loss-join, loss-told, next-join, report-join, up-join}
-use Rattle.aes3_watch.proofs.WatchedCells.{up-told}
+use Rattle.aes3_watch.proofs.WatchedCells.{as_lost, behind-push, either, events-push, last-join, last_events, later}
+use Rattle.aes3_watch.proofs.WatchedCells.{loss-join, loss-told, next-join, report-join, up-is-told, up-join, up-told}
 use Rattle.aes3_c.specs.declared.watch_calls.Aes3Event.{Aes3Event}
 use Rattle.aes3_c.specs.declared.watch_calls.Aes3Watch.{Aes3Watch}
 use Rattle.aes3_c.specs.Watches.{BeginFrom, HasBegun, HasPut, IsNext, event_numbers, uncounted, watched_in}
 
 -- what is told of a line does not depend on that number
-up-uncounted : (w : Watched) (q : ℕ) → uncounted (up_to (uncounted w) q) ≡ uncounted (up_to w q)
+pub up-uncounted : (w : Watched) (q : ℕ) → uncounted (up_to (uncounted w) q) ≡ uncounted (up_to w q)
 up-uncounted w q = go (is_told w q)
   where
     go : (b : Bool) → uncounted (cond b (uncounted w) (as_lost (uncounted w))) ≡ uncounted (cond b w (as_lost w))
@@ -44,13 +44,13 @@ up-alike v w q h = sym (up-uncounted v q) ∙ ap (λ u. uncounted (up_to u q)) h
 loss-alike : (v w : Watched) (q : ℕ) → uncounted v ≡ uncounted w → loss_events v q ≡ loss_events w q
 loss-alike v w q h = ap (λ u. loss_events u q) h
 
-next-alike : (v w : Watched) (x : Report) → uncounted v ≡ uncounted w → uncounted (next v x) ≡ uncounted (next w x)
+pub next-alike : (v w : Watched) (x : Report) → uncounted v ≡ uncounted w → uncounted (next v x) ≡ uncounted (next w x)
 next-alike v w (Whole at s b) h = refl
 next-alike v w (Marked at s wrong) h = up-alike v w at h
 next-alike v w (Fault at cell why) h = up-alike v w at h
 next-alike v w (Unfinished at cells) h = up-alike v w at h
 
-told-alike : (v w : Watched) (x : Report) → uncounted v ≡ uncounted w → told_events v x ≡ told_events w x
+pub told-alike : (v w : Watched) (x : Report) → uncounted v ≡ uncounted w → told_events v x ≡ told_events w x
 told-alike v w (Whole at s b) h =
     ap₂ (λ l u. l ++ (whole_events u at s ++ change_events at v.latest (signals_of b))) (loss-alike v w at h)
     (up-alike v w at h)
@@ -61,19 +61,6 @@ told-alike v w (Unfinished at cells) h = loss-alike v w at h
 
 last-alike : (v w : Watched) (n : ℕ) → uncounted v ≡ uncounted w → last_events v n ≡ last_events w n
 last-alike v w n h = ap₂ (λ l u. l ++ End n (is_locked u) ∷ []) (loss-alike v w n h) (up-alike v w n h)
-
--- one more report
-events-push : (w : Watched) (r : List Report) (x : Report)
-    → events_from w (r ++ x ∷ []) ≡ events_from w r ++ told_events (behind_reports w r) x
-events-push w [] x = append-nil (told_events w x)
-events-push w (y ∷ r) x =
-    ap (λ z. told_events w y ++ z) (events-push (next w y) r x)
-    ∙ sym (append_assoc (told_events w y) (events_from (next w y) r) (told_events (behind_reports (next w y) r) x))
-
-behind-push : (w : Watched) (r : List Report) (x : Report)
-    → behind_reports w (r ++ x ∷ []) ≡ next (behind_reports w r) x
-behind-push w [] x = refl
-behind-push w (y ∷ r) x = behind-push (next w y) r x
 
 -- at the first place nothing is lost
 or-true : (x : Bool) → (x || true) ≡ true
@@ -92,20 +79,11 @@ loss-first w = loss-told w 0 true (told-first w)
 
 -- where it is told up to a place, it is up to each one before it
 told-before : (w : Watched) (a b : ℕ) → a ≤ b → is_told w b ≡ true → is_told w a ≡ true
-told-before w a b h e = go w.lost (cases_lt (a - w.place) block_len) e
+told-before w a b h e = go (either (is_told w a))
   where
-    go : (l : Bool) → (a - w.place < block_len) ⊎ (block_len ≤ a - w.place) → (l || nat_lt (b - w.place) block_len) ≡ true
-        → (l || nat_lt (a - w.place) block_len) ≡ true
-    go true c e = refl
-    go false (inl c) e = lt-ltb (a - w.place) block_len c
-    go false (inr c) e = let f = le-ltb (b - w.place) block_len (omega arith) in absurd cc
-
-up-is-told : (w : Watched) (q : ℕ) → is_told (up_to w q) q ≡ true
-up-is-told w q = go (is_told w q) refl
-  where
-    go : (b : Bool) → is_told w q ≡ b → is_told (up_to w q) q ≡ true
-    go true t = ap (λ v. is_told v q) (up-told w q true t) ∙ t
-    go false t = ap (λ v. is_told v q) (up-told w q false t)
+    go : (is_told w a ≡ true) ⊎ (is_told w a ≡ false) → is_told w a ≡ true
+    go (inl t) = t
+    go (inr f) = let g = later w a b h f in absurd cc
 
 up-before : (w : Watched) (a b : ℕ) → a ≤ b → up_to (up_to w b) a ≡ up_to w b
 up-before w a b h = up-told (up_to w b) a true (told-before (up_to w b) a b h (up-is-told w b))
@@ -120,7 +98,7 @@ more-put begun told all p n e =
     ap₂ (λ a b. a ++ b) p n ∙ sym (map-append event_numbers begun told) ∙ ap (map event_numbers) e
 
 -- a report is of one of the cells
-upto-next : (m : ℕ) (a r : List Report) (x : Report) → UpTo m (a ++ x ∷ r) → place_of x ≤ m
+pub upto-next : (m : ℕ) (a r : List Report) (x : Report) → UpTo m (a ++ x ∷ r) → place_of x ≤ m
 upto-next m [] r x u = u.0
 upto-next m (y ∷ a) r x u = upto-next m a r x u.1
 
@@ -135,7 +113,7 @@ next-near {k} {c} {r} x p (rest, h) =
 first-of : {x y : Report} (r a b : List Report) → r ++ y ∷ a ≡ r ++ x ∷ b → y ≡ x
 first-of r a b h = let q = append_cancel_left r _ _ h in cc
 
-late-more : (c d : List Level) (x : Report) (rest : List Report) → reports (c ++ d) ≡ decided c ++ x ∷ rest
+pub late-more : (c d : List Level) (x : Report) (rest : List Report) → reports (c ++ d) ≡ decided c ++ x ∷ rest
     → length c ≤ place_of x + block_len
 late-more c [] x rest e = go (one-final 0 c)
   where
@@ -315,11 +293,6 @@ all-is : (c : List Level) (r : List Report) → r ≡ reports c
     → watch_events c ≡ events_from unwatched r ++ last_events (behind_reports unwatched r) (length c)
 unfolding watch_events ended
 all-is c r q = ap (λ r. events_from unwatched r ++ last_events (behind_reports unwatched r) (length c)) (sym q)
-
-last-join : (w : Watched) (a b : ℕ) → a ≤ b → last_events w b ≡ loss_events w a ++ last_events (up_to w a) b
-last-join w a b h =
-    ap₂ (λ l v. l ++ End b (is_locked v) ∷ []) (loss-join w a b h) (up-join w a b h)
-    ∙ append_assoc (loss_events w a) (loss_events (up_to w a) b) (End b (is_locked (up_to (up_to w a) b)) ∷ [])
 
 pub ended-put : {k : Aes3Watch} (c : List Level) {r : List Report} {put now : List Aes3Event} (told : List Event)
     (n : ℕ) → HasPut k c r put → r ≡ reports c → n ≡ length c → told ≡ last_events (watched_in k) n

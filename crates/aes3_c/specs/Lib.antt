@@ -17,3 +17,4 @@ pub mod Streaming
 pub mod Marks
 pub mod Setting
 pub mod Watches
+pub mod Sums

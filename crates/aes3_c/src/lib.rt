@@ -57,6 +57,8 @@ mod status_calls;
 mod streaming;
 /// The words of many blocks as other programs have them.
 mod subframes;
+/// The sums of a watched line.
+mod sum_calls;
 /// Cells of words as a lock takes them, with their number.
 mod taking;
 /// Channel status as text.

@@ -73,7 +73,8 @@ const _: () = prove!(size_of::<Aes3Event>() == 48);
 
 const _: () = prove!(align_of::<Aes3Event>() == 8);
 
-fn watched_of(kept: &Aes3Watch) -> Watched
+/// The state of a line that is kept.
+pub(crate) fn watched_of(kept: &Aes3Watch) -> Watched
     ensures { result ≡ watched_in kept.now }
 {
     let latest = if kept.known == 0 {
@@ -100,7 +101,7 @@ fn watched_of(kept: &Aes3Watch) -> Watched
 }
 
 /// Keeps the state of a line, but for the number of its losses.
-fn keep_watched(state: &Watched, kept: &mut Aes3Watch)
+pub(crate) fn keep_watched(state: &Watched, kept: &mut Aes3Watch)
     ensures { watched_in kept.new ≡ uncounted state.now }
 {
     kept.found = if state.found { 1 } else { 0 };
@@ -249,13 +250,13 @@ fn block_of(words: &[u32; 384]) -> Block
 
 /// Advances to and past a report, given its ending and the words of a whole block, and adds its
 /// events.
-fn take_ending(
+pub(crate) fn take_ending(
     state: &mut Watched,
     words: &[u32; 384],
     ending: Ending,
     told: &mut ArrayVec<Event, EVENTS>,
 )
-    requires few { state.old.losses ≡ 0 }
+    requires few { state.old.losses ≤ 1 }
     requires room { array_vec_len told.old ≡ 0 }
     ensures state { place_of (report_with (map payload_of words.now) ending) ≤ 2 ^ 43
         → state.new ≡ next state.old (report_with (map payload_of words.now) ending) }

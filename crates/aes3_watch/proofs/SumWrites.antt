@@ -14,10 +14,10 @@ use Rattle.aes3_status_text.specs.declared.style.Style.{Style}
 use Rattle.aes3_watch.specs.Watching.{IsKept, watch_counts, Watches}
 use Rattle.aes3_watch.specs.declared.summed.Summed.{Summed}
 use Rattle.aes3_watch.specs.Sums.{all_told, begun_sums, go_to, sum_lines, next_sum, notice_lines, report_told, summed, summing}
-use Rattle.aes3_watch.specs.Sums.{more, no_figures, on_to, periods, summed_by, Sums, told_to, unsummed}
+use Rattle.aes3_watch.specs.Sums.{first_period, more, on_to, periods, Sums, told_to, unsummed, with_period}
 use Rattle.aes3_lock_gaps.specs.Gaps.{behind_full, full_count}
 use Rattle.aes3_watch.specs.declared.watching.Watched.{Watched}
-use Rattle.aes3_text_lines.specs.declared.sum.Figures.{Figures}
+use Rattle.aes3_watch.specs.declared.period.Period.{Period}
 use Rattle.aes3_watch.proofs.WatchedCells.{pass-watches, take-watches}
 use Rattle.aes3_watch.proofs.Sums.{before-sums, behind-lines, ends-lines, with-sums, go-at, lines-join, next-at, notices-closed}
 use Rattle.aes3_watch.proofs.Sums.{notices-closed_with, notices-passed, notices-taken, none-before, summed-known}
@@ -102,14 +102,14 @@ start-sums : (every : ℕ) → summed every [] ≡ unsummed
 unfolding summed decided go_to behind_full full_count more block_len block_subframes
 start-sums every = ap (λ n. on_to (periods every n unsummed) 0) (none-before every)
 
-pub begins-sums : (every : ℕ) (w : Watched) (figures : Figures) (lasts : List ℕ) → 0 < every
-    → every ≤ 2 ^ 40 → figures ≡ no_figures → Watches w lasts []
-    → Sums every (summed_by w 0 0 figures) lasts []
-begins-sums every w figures lasts h l e v = record {
+pub begins-sums : (every : ℕ) (w : Watched) (p : Period) (lasts : List ℕ) → 0 < every
+    → every ≤ 2 ^ 40 → p ≡ first_period → Watches w lasts []
+    → Sums every (with_period w p) lasts []
+begins-sums every w p lasts h l e v = record {
   some = h;
   few = l;
   state_is =
-      ap₂ (λ x y. summed_by x 0 0 y)
+      ap₂ with_period
       (v.state_is ∙ sym (summed-known every [] h) ∙ ap (λ x. x.watched) (start-sums every)) e
       ∙ sym (start-sums every);
   watches = v;

@@ -2,6 +2,7 @@
 use Rattle.std.proofs.Common.{◌≡◌, ℕ, zero, suc, ◌+◌, ◌-◌, ◌*◌, ◌/◌, ◌<◌, ◌≤◌, ◌⊎◌, inl, inr, List, [], ◌∷◌, ◌++◌}
 use Rattle.std.proofs.Common.{length, drop, refl, sym, ap, ap₂, ◌∙◌, subst, arith, append-nil, append_assoc, Option}
 use Rattle.std.proofs.Math.Nat.{add-mul-div_left, div-add-mod, le-div_iff_mul-le, mod-lt, mul-div-le, zero-div}
+use Rattle.std.proofs.lemmas.Bool.{cases_lt}
 use Rattle.std.proofs.lemmas.List.{append_cancel_left, drop_at, map-append}
 use Rattle.std.proofs.lemmas.Grind.{flat_map-append}
 use Rattle.aes3_level.specs.declared.level.Level.{Level}
@@ -29,8 +30,8 @@ use Rattle.aes3_watch.specs.declared.summed.Summed.{Summed}
 use Rattle.aes3_watch.specs.Sums.{Notice, event, sum, events, begun_notices, begun_sums, behind_sums, end_told}
 use Rattle.aes3_watch.specs.Sums.{ends_before, go_to, more, next_period, next_sum, no_figures, notice_line}
 use Rattle.aes3_watch.specs.Sums.{notice_lines, notices, on_to, period_told, periods, periods_told, report_told}
-use Rattle.aes3_watch.specs.Sums.{sum_lines, summed, summing, sums_from, all_told, last_sum, take_report, told_to}
-use Rattle.aes3_watch.specs.Sums.{unsummed, with_lost}
+use Rattle.aes3_watch.specs.Sums.{sum_lines, summed, summing, sums_from, all_told, last_sum, sums_in, take_report}
+use Rattle.aes3_watch.specs.Sums.{told_to, unsummed, with_lost}
 use Rattle.aes3_lock_gaps.proofs.GapLemmas.{behind-join, count-add}
 use Rattle.aes3_lock.proofs.ReportPlaces.{split-reports, late-decided, late-reports}
 use Rattle.aes3_lock_gaps.proofs.BegunAccounts.{one-answer, one-final, decided-more, shorter}
@@ -110,7 +111,7 @@ periods-add every (suc m) k u =
     let e : suc m + k ≡ suc (m + k) = omega arith in
     ap (λ n. periods every n u) e ∙ periods-add every m k (next_period every u)
 
-periods_told-add : (every m k : ℕ) (u : Summed)
+pub periods_told-add : (every m k : ℕ) (u : Summed)
     → periods_told every (m + k) u ≡ periods_told every m u ++ periods_told every k (periods every m u)
 periods_told-add every zero k u = let e : 0 + k ≡ k = omega arith in ap (λ n. periods_told every n u) e
 periods_told-add every (suc m) k u =
@@ -406,7 +407,7 @@ told-report-join every u a x h l =
     (events (told_events (go_to every (go_to every u a) (place_of x)).watched x))
 
 -- one more report
-sums-push : (every : ℕ) (u : Summed) (r : List Report) (x : Report)
+pub sums-push : (every : ℕ) (u : Summed) (r : List Report) (x : Report)
     → sums_from every u (r ++ x ∷ []) ≡ sums_from every u r ++ report_told every (behind_sums every u r) x
 sums-push every u [] x = append-nil (report_told every u x)
 sums-push every u (y ∷ r) x =
@@ -414,7 +415,7 @@ sums-push every u (y ∷ r) x =
     ∙ sym (append_assoc (report_told every u y) (sums_from every (next_sum every u y) r)
     (report_told every (behind_sums every (next_sum every u y) r) x))
 
-behind-push : (every : ℕ) (u : Summed) (r : List Report) (x : Report)
+pub behind-push : (every : ℕ) (u : Summed) (r : List Report) (x : Report)
     → behind_sums every u (r ++ x ∷ []) ≡ next_sum every (behind_sums every u r) x
 behind-push every u [] x = refl
 behind-push every u (y ∷ r) x = behind-push every (next_sum every u y) r x
@@ -470,7 +471,7 @@ summed-is every c r w e f =
     ap (λ v. go_to every (behind_sums every unsummed v) (length c - block_len)) e
     ∙ ap (λ v. go_to every v (length c - block_len)) f
 
-begun-is : (every : ℕ) (c : List Level) (r : List Report) (w : Summed) → decided c ≡ r
+pub begun-is : (every : ℕ) (c : List Level) (r : List Report) (w : Summed) → decided c ≡ r
     → behind_sums every unsummed r ≡ w
     → begun_notices every c ≡ sums_from every unsummed r ++ told_to every w (length c - block_len)
 unfolding begun_notices
@@ -494,7 +495,7 @@ notices-taken every c d x h e =
     ∙ notices-summed every c x (told_to every (next_sum every (summed every c) x) (length (c ++ d) - block_len)) h l
 
 -- the end, where it decides no report, and where it decides one
-all-is : (every : ℕ) (c : List Level) (r : List Report) (w : Summed) → reports c ≡ r
+pub all-is : (every : ℕ) (c : List Level) (r : List Report) (w : Summed) → reports c ≡ r
     → behind_sums every unsummed r ≡ w
     → notices every c ≡ sums_from every unsummed r ++ all_told every w (length c)
 unfolding notices
@@ -643,3 +644,62 @@ next-at every u v x h e = ap (λ y. y.watched) e ∙ next-known every u x h
 
 pub go-at : (every : ℕ) (u v : Summed) (q : ℕ) → 0 < every → v ≡ go_to every u q → v.watched ≡ up_to u.watched q
 go-at every u v q h e = ap (λ y. y.watched) e ∙ go-watched every u q h
+
+-- the sums among what is told
+pub sums-append : (a b : List Notice) → sums_in (a ++ b) ≡ sums_in a ++ sums_in b
+sums-append [] b = refl
+sums-append (event e ∷ a) b = sums-append a b
+sums-append (sum s ∷ a) b = ap (λ z. s ∷ z) (sums-append a b)
+
+no-sums : (es : List Event) → sums_in (events es) ≡ []
+no-sums [] = refl
+no-sums (e ∷ es) = no-sums es
+
+pub sums-before : (a : List Notice) (es : List Event) → sums_in (a ++ events es) ≡ sums_in a
+sums-before a es =
+    sums-append a (events es) ∙ ap (λ z. sums_in a ++ z) (no-sums es) ∙ append-nil (sums_in a)
+
+pub sums-behind : (es : List Event) (a : List Notice) → sums_in (events es ++ a) ≡ sums_in a
+sums-behind es a = sums-append (events es) a ∙ ap (λ z. z ++ sums_in a) (no-sums es)
+
+-- on to a place of the period that is open behind n others
+pub ends-are : (every f n p : ℕ) → 0 < every → every * n ≤ p - f → p < f + every * n + every
+    → (p - f) / every ≡ n
+ends-are every f n p h a b = go (cases_lt ((p - f) / every) (suc n))
+  where
+    turned : every * n ≡ n * every
+    turned = grind arith
+
+    in-front : n * every ≤ p - f
+    in-front = omega (arith, turned, a)
+
+    go : ((p - f) / every < suc n) ⊎ (suc n ≤ (p - f) / every) → (p - f) / every ≡ n
+    go (inl l) = let m = (le-div_iff_mul-le h).1 in-front in omega (arith, l, m)
+    go (inr l) =
+        let m = ends-few every (suc n) (p - f) h l in
+        let t = suc-times every n in
+        absurd (omega (arith, m, t, turned, b))
+
+pub few-ends : (every f n p : ℕ) → 0 < every → p < f + every * n + every → (p - f) / every ≤ n
+few-ends every f n p h b = go (cases_lt ((p - f) / every) (suc n))
+  where
+    turned : every * n ≡ n * every
+    turned = grind arith
+
+    go : ((p - f) / every < suc n) ⊎ (suc n ≤ (p - f) / every) → (p - f) / every ≤ n
+    go (inl l) = omega (arith, l)
+    go (inr l) =
+        let m = ends-few every (suc n) (p - f) h l in
+        let t = suc-times every n in
+        absurd (omega (arith, m, t, turned, b))
+
+pub told-here : (every : ℕ) (w : Summed) (n p : ℕ) → (p - w.from) / every ≡ n
+    → told_to every w p ≡ periods_told every n w ++ events (loss_events (periods every n w).watched p)
+unfolding told_to ends_before
+told-here every w n p e =
+    ap (λ m. periods_told every m w ++ events (loss_events (periods every m w).watched p)) e
+
+pub go-here : (every : ℕ) (w : Summed) (n p : ℕ) → (p - w.from) / every ≡ n
+    → go_to every w p ≡ on_to (periods every n w) p
+unfolding go_to ends_before
+go-here every w n p e = ap (λ m. on_to (periods every m w) p) e

@@ -61,7 +61,7 @@ pub or-false : (x y : Bool) → (x || y) ≡ false → (x ≡ false) × (y ≡ f
 or-false false y e = (refl, e)
 or-false true y e = (e, cc)
 
-later : (w : Watched) (a b : ℕ) → a ≤ b → is_told w a ≡ false → is_told w b ≡ false
+pub later : (w : Watched) (a b : ℕ) → a ≤ b → is_told w a ≡ false → is_told w b ≡ false
 later w a b h e = let o = or-false w.lost (ltb (a - w.place) block_len) e in ap₂ (λ (x y : Bool). x || y) o.0
     (far w.place a b h o.1)
 
@@ -144,14 +144,14 @@ next-join w a (Fault at cell why) h = up-join w a at h
 next-join w a (Unfinished at cells) h = up-join w a at h
 
 -- one more report
-events-push : (w : Watched) (r : List Report) (x : Report)
+pub events-push : (w : Watched) (r : List Report) (x : Report)
     → events_from w (r ++ x ∷ []) ≡ events_from w r ++ told_events (behind_reports w r) x
 events-push w [] x = append-nil (told_events w x)
 events-push w (y ∷ r) x =
     ap (λ z. told_events w y ++ z) (events-push (next w y) r x)
     ∙ sym (append_assoc (told_events w y) (events_from (next w y) r) (told_events (behind_reports (next w y) r) x))
 
-behind-push : (w : Watched) (r : List Report) (x : Report)
+pub behind-push : (w : Watched) (r : List Report) (x : Report)
     → behind_reports w (r ++ x ∷ []) ≡ next (behind_reports w r) x
 behind-push w [] x = refl
 behind-push w (y ∷ r) x = behind-push (next w y) r x
@@ -248,7 +248,7 @@ ended-closed c e =
     ended-is c (decided c) (behind_reports unwatched (decided c)) (e ∙ append-nil (decided c)) refl
     ∙ up-join (behind_reports unwatched (decided c)) (length c - block_len) (length c) (before-last c)
 
-last-join : (w : Watched) (a b : ℕ) → a ≤ b → last_events w b ≡ loss_events w a ++ last_events (up_to w a) b
+pub last-join : (w : Watched) (a b : ℕ) → a ≤ b → last_events w b ≡ loss_events w a ++ last_events (up_to w a) b
 last-join w a b h =
     ap₂ (λ l v. l ++ End b (is_locked v) ∷ []) (loss-join w a b h) (up-join w a b h)
     ∙ append_assoc (loss_events w a) (loss_events (up_to w a) b) (End b (is_locked (up_to (up_to w a) b)) ∷ [])

@@ -21,6 +21,7 @@ use Rattle.aes3_text_lines.specs.SumLines.{sum_line}
 use Rattle.aes3_lock_gaps.specs.Gaps.{behind_full, full_count}
 use Rattle.aes3_watch.specs.Signals.{signals_of}
 use Rattle.aes3_watch.specs.Watching.{is_locked, loss_events, next, told_events, unwatched, up_to, Watches}
+use Rattle.aes3_watch.specs.declared.period.Period.{Period}
 use Rattle.aes3_watch.specs.declared.signals.Signals.{Signals}
 use Rattle.aes3_watch.specs.declared.watching.Watched.{Watched}
 use Rattle.aes3_watch.specs.declared.summed.Summed.{Summed}
@@ -139,6 +140,12 @@ with_fault f why = record {
 abbrev pub summed_by : Watched → ℕ → ℕ → Figures → Summed
 summed_by watched from place figures = record { watched = watched; from = from; place = place; figures = figures }
 
+abbrev pub with_period : Watched → Period → Summed
+with_period watched period = summed_by watched period.from period.place period.figures
+
+abbrev pub first_period : Period
+first_period = record { from = 0; place = 0; figures = no_figures }
+
 -- of no cell
 abbrev pub unsummed : Summed
 unsummed = record { watched = unwatched; from = 0; place = 0; figures = no_figures }
@@ -159,6 +166,12 @@ pub data Notice : Type 0 where
 
 abbrev pub events : List Event → List Notice
 events es = map event es
+
+-- the sums among them
+abbrev pub sums_in : List Notice → List Sum
+sums_in [] = []
+sums_in (event e ∷ told) = sums_in told
+sums_in (sum s ∷ told) = s ∷ sums_in told
 
 -- on to the end of the open period of so many cells, and its sum behind the events up to there
 abbrev pub next_period : ℕ → Summed → Summed

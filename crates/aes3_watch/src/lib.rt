@@ -8,6 +8,8 @@ mod accounting;
 mod gap_line;
 /// What is accounted for among all cells.
 mod ledger;
+/// A period of a line whose sums are written: what is counted in it.
+mod period;
 /// What the whole blocks of a line say of their samples, and where that changes.
 mod signals;
 /// The state of a line whose sums are written.
@@ -19,6 +21,8 @@ mod watching;
 
 pub use accounting::account;
 pub use gap_line::line_of_gap;
+pub use period::Period;
 pub use signals::{ChannelSignals, EVENTS, Signals};
-pub use summing::watch_sums;
+pub use summed::Summed;
+pub use summing::{changes_in, watch_sums};
 pub use watching::{Watched, watch};

@@ -1,102 +1,30 @@
 //! A watched line, with a sum for each period of it.
 
-ghost use Rattle.std.specs.Prelude.{◌≡◌, ℕ, ◌+◌, ◌*◌, ◌-◌, ◌<◌, ◌≤◌, ◌^◌, ◌++◌, [], List, Some, IfOk, false};
-ghost use Rattle.std.specs.Prelude.{if◌then◌else◌};
+ghost use Rattle.std.specs.Prelude.{◌≡◌, ℕ, ◌+◌, ◌<◌, ◌≤◌, ◌^◌, ◌++◌, [], List, Some, IfOk, false};
 ghost use Rattle.aes3_cell.specs.Ends.{Grew, Told};
 ghost use Rattle.aes3_cell.specs.Writes.{Wrote};
-ghost use Rattle.aes3_frame.specs.Blocks.{block_len};
 ghost use Rattle.aes3_lock.specs.Following.{report_in};
 ghost use Rattle.aes3_lock.specs.Remains.{place_of};
 ghost use Rattle.aes3_input.specs.Driving.{CellRun};
 ghost use Rattle.aes3_input.specs.Inputs.{cells_of};
 ghost use Rattle.aes3_input.specs.Running.{movement_of};
-ghost use Rattle.aes3_lock_gaps.specs.Gaps.{behind_full, full_count};
 ghost use Rattle.aes3_watch.specs.Signals.{signals_of};
+ghost use Rattle.aes3_watch.specs.declared.signals.Signals.{Signals};
 ghost use Rattle.aes3_watch.specs.Watching.{Ended, IsKept, event_lines, loss_events, up_to, watch_counts};
-ghost use Rattle.aes3_watch.specs.Sums.{Sums, begun_sums, change_of, changes_in, end_told, ends_before};
+ghost use Rattle.aes3_watch.specs.Sums.{Sums, all_told, begun_sums, change_of, changes_in, counted_report};
+ghost use Rattle.aes3_watch.specs.Sums.{ends_before, go_to, is_whole, last_sum, next_period, next_sum};
+ghost use Rattle.aes3_watch.specs.Sums.{notice_lines, on_to, period_told, periods, periods_told, place_behind};
+ghost use Rattle.aes3_watch.specs.Sums.{report_told, sum_lines, summing, told_to, with_period};
 ghost use Rattle.aes3_text_lines.specs.SumLines.{sum_line};
-ghost use Rattle.aes3_watch.specs.Sums.{go_to, last_sum, more, next_period, no_figures, next_sum, notice_lines};
-ghost use Rattle.aes3_watch.specs.Sums.{on_to, period_told, periods, periods_told, place_behind, report_told};
-ghost use Rattle.aes3_watch.specs.Sums.{sum_lines, summed_by, summing, take_report, all_told, counted_report};
-ghost use Rattle.aes3_watch.specs.Sums.{is_whole, told_to, with_fault, with_lost, with_marked, with_whole};
 
-use crate::signals::Signals;
+use crate::period::Period;
 use crate::watching::{Watcher, put_events};
 use aes3_cell::{Counts, Fault, Form, RunError, Sink, Source};
 use aes3_frame::BLOCK_CELLS;
-use aes3_lock::{Ending, Lock, Why};
+use aes3_lock::{Ending, Lock};
 use aes3_lock_runs::{Listener, run_cells};
-use aes3_text_lines::{Event, Figures, Style, Sum, line_of_sum};
+use aes3_text_lines::{Event, Style, line_of_sum};
 use arrayvec::ArrayVec;
-
-/// Counts that are all zero.
-fn no_figures() -> Figures
-    ensures { result ≡ no_figures }
-{
-    Figures {
-        whole: 0,
-        marked: 0,
-        fault: 0,
-        preamble: 0,
-        biphase: 0,
-        unclosed: 0,
-        lost: 0,
-        invalid_first: 0,
-        invalid_second: 0,
-        changes: 0,
-    }
-}
-
-/// The sum of two counts, which stops at the greatest number.
-#[tactic(auto, unfolding(crate::specs::Sums::more))]
-fn more(count: u64, new: u64) -> u64
-    ensures { result ≡ more count new }
-{
-    count.saturating_add(new)
-}
-
-/// Counts cells of gaps.
-fn with_lost(mut figures: Figures, cells: u64) -> Figures
-    ensures { result ≡ with_lost figures cells }
-{
-    figures.lost = more(figures.lost, cells);
-    figures
-}
-
-/// Counts a whole block with these signals, and the events of a change among `changes`.
-fn with_whole(mut figures: Figures, now: &Signals, changes: u64) -> Figures
-    ensures { result ≡ with_whole figures now.now.first.invalid now.now.second.invalid changes }
-{
-    figures.whole = more(figures.whole, 1);
-    figures.invalid_first = more(figures.invalid_first, now.first.invalid);
-    figures.invalid_second = more(figures.invalid_second, now.second.invalid);
-    figures.changes = more(figures.changes, changes);
-    figures
-}
-
-/// Counts a block with a wrong parity bit in a subframe.
-fn with_marked(mut figures: Figures) -> Figures
-    ensures { result ≡ with_marked figures }
-{
-    figures.marked = more(figures.marked, 1);
-    figures
-}
-
-/// Counts a fault.
-fn with_fault(mut figures: Figures, why: Why) -> Figures
-    ensures { result ≡ with_fault figures why }
-{
-    let (preamble, biphase, unclosed) = match why {
-        Why::Preamble => (1, 0, 0),
-        Why::Biphase => (0, 1, 0),
-        Why::Unclosed => (0, 0, 1),
-    };
-    figures.fault = more(figures.fault, 1);
-    figures.preamble = more(figures.preamble, preamble);
-    figures.biphase = more(figures.biphase, biphase);
-    figures.unclosed = more(figures.unclosed, unclosed);
-    figures
-}
 
 /// Whether an event reports a change of the blocks' signals, as a number.
 fn change_of(event: &Event) -> u64
@@ -113,8 +41,8 @@ fn change_of(event: &Event) -> u64
     }
 }
 
-/// How many events report such a change.
-fn changes_in(events: &[Event]) -> u64
+/// How many of these events report another status or other validity bits.
+pub fn changes_in(events: &[Event]) -> u64
     ensures { result ≡ changes_in events.now }
 {
     let mut found = 0;
@@ -143,12 +71,7 @@ struct Summer {
     watcher: Watcher,
     /// How many cells a period has.
     every: u64,
-    /// The first cell of the current period.
-    from: u64,
-    /// All cells before it are in a whole block or in a gap that is decided.
-    place: u64,
-    /// The counts of the current period.
-    figures: Figures,
+    period: Period,
 }
 
 impl Summer {
@@ -158,30 +81,14 @@ impl Summer {
         requires few { every ≤ 2 ^ 40 }
         ensures style { result.watcher.style ≡ style }
         ensures every { result.every ≡ every }
-        ensures none { Sums result.every (summed_by result.watcher.state result.from result.place
-            result.figures) result.watcher.lasts [] }
+        ensures none { Sums result.every (with_period result.watcher.state result.period)
+            result.watcher.lasts [] }
     {
         Summer {
             watcher: Watcher::new(style),
             every,
-            from: 0,
-            place: 0,
-            figures: no_figures(),
+            period: Period::new(),
         }
-    }
-
-    /// Counts the gaps of a block's length before cell `to`.
-    fn count_gaps(&mut self, to: u64)
-        ensures watcher { self.new.watcher ≡ self.old.watcher }
-        ensures every { self.new.every ≡ self.old.every }
-        ensures from { self.new.from ≡ self.old.from }
-        ensures place { self.new.place ≡ behind_full self.old.place to }
-        ensures figures { self.new.figures
-            ≡ with_lost self.old.figures (block_len * full_count self.old.place to) }
-    {
-        let cells = to.saturating_sub(self.place) / BLOCK_CELLS * BLOCK_CELLS;
-        self.figures = with_lost(self.figures, cells);
-        self.place += cells;
     }
 
     /// Advances to cell `to` of the current period. No whole block begins before it.
@@ -195,14 +102,14 @@ impl Summer {
         ensures lasts { self.new.watcher.lasts ≡ self.old.watcher.lasts }
         ensures every { self.new.every ≡ self.old.every }
         ensures few { self.new.watcher.state.losses ≤ self.old.watcher.state.losses + 1 }
-        ensures state { summed_by self.new.watcher.state self.new.from self.new.place self.new.figures
-            ≡ on_to (summed_by self.old.watcher.state self.old.from self.old.place self.old.figures) to }
+        ensures state { with_period self.new.watcher.state self.new.period
+            ≡ on_to (with_period self.old.watcher.state self.old.period) to }
         ensures wrote { Wrote T.taken T.failed sink.old sink.new
             (event_lines self.old.watcher.style (loss_events self.old.watcher.state to)) result }
     {
         let mut events = ArrayVec::new();
         self.watcher.go_on(&mut events, to);
-        self.count_gaps(to);
+        self.period.count_gaps(to);
         put_events(&self.watcher.style, &events, sink)
     }
 
@@ -214,17 +121,12 @@ impl Summer {
         requires room { T.failed sink.old + 1 < 2 ^ 64 }
         ensures { Wrote T.taken T.failed sink.old sink.new
             (sum_line self.now.watcher.style (record {
-              from = self.now.from;
+              from = self.now.period.from;
               to = to;
-              figures = self.now.figures;
+              figures = self.now.period.figures;
             })) result }
     {
-        let sum = Sum {
-            from: self.from,
-            to,
-            figures: self.figures,
-        };
-        line_of_sum(&self.watcher.style, &sum, sink)
+        line_of_sum(&self.watcher.style, &self.period.sum(to), sink)
     }
 
     /// Advances to the end of the current period, writes its sum and begins the next.
@@ -234,23 +136,22 @@ impl Summer {
     fn end_period<T: Sink>(&mut self, sink: &mut T) -> Result<(), Fault>
         requires room { T.failed sink.old + 1 < 2 ^ 64 }
         requires few { self.old.watcher.state.losses + 1 < 2 ^ 64 }
-        requires near { self.old.from + self.old.every < 2 ^ 64 }
+        requires near { self.old.period.from + self.old.every < 2 ^ 64 }
         ensures style { self.new.watcher.style ≡ self.old.watcher.style }
         ensures lasts { self.new.watcher.lasts ≡ self.old.watcher.lasts }
         ensures every { self.new.every ≡ self.old.every }
         ensures state { IfOk result (λ _.
-            summed_by self.new.watcher.state self.new.from self.new.place self.new.figures
+            with_period self.new.watcher.state self.new.period
             ≡ next_period self.old.every
-            (summed_by self.old.watcher.state self.old.from self.old.place self.old.figures)) }
+            (with_period self.old.watcher.state self.old.period)) }
         ensures wrote { Wrote T.taken T.failed sink.old sink.new
             (notice_lines self.old.watcher.style (period_told self.old.every
-            (summed_by self.old.watcher.state self.old.from self.old.place self.old.figures))) result }
+            (with_period self.old.watcher.state self.old.period))) result }
     {
-        let to = self.from + self.every;
+        let to = self.period.from + self.every;
         self.go_on(sink, to)?;
         self.tell(sink, to)?;
-        self.from = to;
-        self.figures = no_figures();
+        self.period.begin(to);
         Ok(())
     }
 
@@ -268,17 +169,16 @@ impl Summer {
         ensures few { IfOk result (λ _.
             self.new.watcher.state.losses ≤ self.old.watcher.state.losses + 1) }
         ensures state { IfOk result (λ _.
-            summed_by self.new.watcher.state self.new.from self.new.place self.new.figures
-            ≡ periods self.old.every (ends_before self.old.every (summed_by self.old.watcher.state
-            self.old.from self.old.place self.old.figures) to)
-            (summed_by self.old.watcher.state self.old.from self.old.place self.old.figures)) }
+            with_period self.new.watcher.state self.new.period
+            ≡ periods self.old.every
+            (ends_before self.old.every (with_period self.old.watcher.state self.old.period) to)
+            (with_period self.old.watcher.state self.old.period)) }
         ensures wrote { Wrote T.taken T.failed sink.old sink.new
             (notice_lines self.old.watcher.style (periods_told self.old.every
-            (ends_before self.old.every (summed_by self.old.watcher.state self.old.from
-            self.old.place self.old.figures) to)
-            (summed_by self.old.watcher.state self.old.from self.old.place self.old.figures))) result }
+            (ends_before self.old.every (with_period self.old.watcher.state self.old.period) to)
+            (with_period self.old.watcher.state self.old.period))) result }
     {
-        let ends = to.saturating_sub(self.from) / self.every;
+        let ends = to.saturating_sub(self.period.from) / self.every;
         'ending: for _told in 0..ends {
             self.end_period(sink)?;
         }
@@ -299,12 +199,11 @@ impl Summer {
         ensures few { IfOk result (λ _.
             self.new.watcher.state.losses ≤ self.old.watcher.state.losses + 2) }
         ensures state { IfOk result (λ _.
-            summed_by self.new.watcher.state self.new.from self.new.place self.new.figures
-            ≡ go_to self.old.every (summed_by self.old.watcher.state self.old.from
-            self.old.place self.old.figures) to) }
+            with_period self.new.watcher.state self.new.period
+            ≡ go_to self.old.every (with_period self.old.watcher.state self.old.period) to) }
         ensures wrote { Wrote T.taken T.failed sink.old sink.new
             (notice_lines self.old.watcher.style (told_to self.old.every
-            (summed_by self.old.watcher.state self.old.from self.old.place self.old.figures) to))
+            (with_period self.old.watcher.state self.old.period) to))
             result }
     {
         self.end_periods(sink, to)?;
@@ -319,28 +218,26 @@ impl Summer {
         requires near { place_of (report_in _lock.now ending) ≤ 2 ^ 43 }
         ensures watcher { self.new.watcher ≡ self.old.watcher }
         ensures every { self.new.every ≡ self.old.every }
-        ensures from { self.new.from ≡ self.old.from }
-        ensures place { self.new.place ≡ place_behind self.old.place (report_in _lock.now ending) }
-        ensures figures { (now : Signals) → self.old.watcher.state.latest ≡ Some now → self.new.figures
-            ≡ counted_report self.old.figures self.old.place found now changes
-            (report_in _lock.now ending) }
+        ensures from { self.new.period.from ≡ self.old.period.from }
+        ensures place { self.new.period.place
+            ≡ place_behind self.old.period.place (report_in _lock.now ending) }
+        ensures figures { (now : Signals) → self.old.watcher.state.latest ≡ Some now
+            → self.new.period.figures ≡ counted_report self.old.period.figures
+            self.old.period.place found now changes (report_in _lock.now ending) }
         ensures others { is_whole (report_in _lock.now ending) ≡ false → (now : Signals)
-            → self.new.figures ≡ counted_report self.old.figures self.old.place found now changes
-            (report_in _lock.now ending) }
+            → self.new.period.figures ≡ counted_report self.old.period.figures
+            self.old.period.place found now changes (report_in _lock.now ending) }
     {
         match ending {
             Ending::Whole { at, .. } => {
-                if found {
-                    let cells = at.saturating_sub(self.place);
-                    self.figures = with_lost(self.figures, cells);
-                }
-                if let Some(now) = &self.watcher.state.latest {
-                    self.figures = with_whole(self.figures, now, changes);
-                }
-                self.place = at + BLOCK_CELLS;
+                let (first, second) = match &self.watcher.state.latest {
+                    Some(now) => (now.first.invalid, now.second.invalid),
+                    None => (0, 0),
+                };
+                self.period.count_whole(at, found, first, second, changes);
             }
-            Ending::Marked { .. } => self.figures = with_marked(self.figures),
-            Ending::Fault { why, .. } => self.figures = with_fault(self.figures, why),
+            Ending::Marked { .. } => self.period.count_marked(),
+            Ending::Fault { why, .. } => self.period.count_fault(why),
             Ending::Unfinished { .. } => {}
         }
     }
@@ -366,12 +263,12 @@ impl Summer {
             self.new.watcher.state.losses ≤ self.old.watcher.state.losses + 4) }
         ensures kept { IfOk result (λ _. IsKept self.new.watcher.state.latest self.new.watcher.lasts) }
         ensures state { IfOk result (λ _.
-            summed_by self.new.watcher.state self.new.from self.new.place self.new.figures
-            ≡ next_sum self.old.every (summed_by self.old.watcher.state self.old.from
-            self.old.place self.old.figures) (report_in lock.now ending)) }
+            with_period self.new.watcher.state self.new.period
+            ≡ next_sum self.old.every (with_period self.old.watcher.state self.old.period)
+            (report_in lock.now ending)) }
         ensures wrote { Wrote T.taken T.failed sink.old sink.new
             (notice_lines self.old.watcher.style (report_told self.old.every
-            (summed_by self.old.watcher.state self.old.from self.old.place self.old.figures)
+            (with_period self.old.watcher.state self.old.period)
             (report_in lock.now ending))) result }
     {
         self.go_to(sink, place_in(lock, ending))?;
@@ -390,10 +287,10 @@ impl Summer {
     fn tell_last<T: Sink>(&self, sink: &mut T, seen: u64) -> Result<(), Fault>
         requires room { T.failed sink.old + 1 < 2 ^ 64 }
         ensures { Wrote T.taken T.failed sink.old sink.new
-            (notice_lines self.now.watcher.style (last_sum (summed_by self.now.watcher.state
-            self.now.from self.now.place self.now.figures) seen)) result }
+            (notice_lines self.now.watcher.style
+            (last_sum (with_period self.now.watcher.state self.now.period) seen)) result }
     {
-        if self.from >= seen {
+        if self.period.from >= seen {
             return Ok(());
         }
         self.tell(sink, seen)
@@ -411,7 +308,7 @@ impl Summer {
             self.new.watcher.state ≡ up_to self.old.watcher.state seen) }
         ensures wrote { Wrote T.taken T.failed sink.old sink.new
             (notice_lines self.old.watcher.style (all_told self.old.every
-            (summed_by self.old.watcher.state self.old.from self.old.place self.old.figures) seen))
+            (with_period self.old.watcher.state self.old.period) seen))
             result }
     {
         self.go_to(sink, seen)?;
@@ -424,7 +321,7 @@ impl Summer {
 }
 
 impl Listener for Summer {
-    ghost follows = { λ k. Sums k.every (summed_by k.watcher.state k.from k.place k.figures)
+    ghost follows = { λ k. Sums k.every (with_period k.watcher.state k.period)
         k.watcher.lasts };
 
     ghost writes = { λ k. summing k.watcher.style k.every };

@@ -153,6 +153,44 @@ pub struct aes3_event {
     pub locked: u8,
 }
 
+/// The state of a line whose sums are given, in memory of its caller.
+#[repr(C)]
+#[derive(Clone, Copy)]
+pub struct aes3_sums {
+    /// Opaque: only the calls write it.
+    pub state: [u64; 24],
+}
+
+/// What is counted in a period.
+#[repr(C)]
+#[derive(Clone, Copy, Default)]
+pub struct aes3_sum {
+    /// Place of the period's first cell.
+    pub from: u64,
+    /// Place of the cell after its last one.
+    pub to: u64,
+    /// Whole blocks.
+    pub whole: u64,
+    /// Marked blocks.
+    pub marked: u64,
+    /// Faults of all three causes.
+    pub fault: u64,
+    /// Faults by a preamble.
+    pub preamble: u64,
+    /// Faults by a time slot that does not begin with a change of level.
+    pub biphase: u64,
+    /// Faults by the cell after a block's last.
+    pub unclosed: u64,
+    /// Cells in gaps that count as faults.
+    pub lost: u64,
+    /// Validity bits of 1 of channel 1 in whole blocks.
+    pub invalid_first: u64,
+    /// Those of channel 2.
+    pub invalid_second: u64,
+    /// Events of another status or other validity bits.
+    pub changes: u64,
+}
+
 /// The fields of a status for professional use.
 #[repr(C)]
 #[derive(Clone, Copy, Debug, Default, PartialEq, Eq)]
@@ -346,6 +384,8 @@ const _: () = {
     assert!(core::mem::size_of::<aes3_gap>() == 24);
     assert!(core::mem::size_of::<aes3_watch>() == 80);
     assert!(core::mem::size_of::<aes3_event>() == 48);
+    assert!(core::mem::size_of::<aes3_sums>() == 192);
+    assert!(core::mem::size_of::<aes3_sum>() == 96);
     assert!(core::mem::size_of::<aes3_professional>() == 32);
     assert!(core::mem::size_of::<aes3_consumer>() == 33);
     assert!(core::mem::size_of::<aes3_capture>() == 80);
@@ -400,6 +440,14 @@ extern "C" {
     pub fn aes3_watch_passed(watch: *mut aes3_watch, seen: u64, events: *mut aes3_event) -> u32;
     /// Puts the events of the end of the cells; returns how many.
     pub fn aes3_watch_end(watch: *const aes3_watch, seen: u64, events: *mut aes3_event) -> u32;
+    /// Makes the state of a line for a lock that has seen no cell, with periods of 1 to 2^40 cells; false if there are none such.
+    pub fn aes3_sums_init(sums: *mut aes3_sums, every: u64) -> bool;
+    /// Puts the sum of the next period that ends before a report, if there is one; else counts the report.
+    pub fn aes3_sums_before(sums: *mut aes3_sums, report: *const aes3_report, sum: *mut aes3_sum) -> bool;
+    /// Puts the sum of the next period that no later cell changes, if there is one.
+    pub fn aes3_sums_passed(sums: *mut aes3_sums, seen: u64, sum: *mut aes3_sum) -> bool;
+    /// Puts the next sum at the end of the cells, if there is one.
+    pub fn aes3_sums_end(sums: *mut aes3_sums, seen: u64, sum: *mut aes3_sum) -> bool;
     /// Puts the cells of a block after the level `before`; returns 384, or the number of the first word that is not valid.
     pub fn aes3_encode_block(words: *const u32, before: u8, cells: *mut u64) -> u32;
     /// Puts the cells of blocks as octets; returns how many words it took, or the number of the first that is not valid.

@@ -15,7 +15,7 @@
 //! ```
 //!
 //! `Reports` gives the reports of a line that is read from a file or a pipe, [`Account`] the gaps between its whole blocks, and
-//! [`Watch`] its events.
+//! [`Watch`] its events, [`Sums`] what is counted by periods.
 //! [`Wav`] reads and writes the headers of WAV files. [`Recovery`] recovers the cells of a capture that comes in pieces, and
 //! [`encode_blocks`] and the like take many blocks at once.
 #![cfg_attr(not(feature = "std"), no_std)]
@@ -30,6 +30,7 @@ mod lock;
 #[cfg(feature = "std")]
 mod reports;
 mod status;
+mod sums;
 mod watch;
 mod wav;
 mod words;
@@ -47,6 +48,7 @@ pub use lock::{Lock, Report, Why};
 #[cfg(feature = "std")]
 pub use reports::{Form, Reports};
 pub use status::{Check, Status, STATUS_BYTES};
+pub use sums::{Sum, Sums};
 pub use watch::{Event, Validity, Watch};
 pub use wav::{Wav, WavBits, WavFault, WavHeader, WavRead};
 pub use words::{library_version, line_of_word, octets_of_word, word_of_octets, word_of_text};

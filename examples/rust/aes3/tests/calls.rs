@@ -1,7 +1,8 @@
 //! Each call, with answers that are known.
 
 use aes3::{
-    Account, Block, Channel, Check, Error, Event, Form, Gap, Lock, Report, Reports, Status, Validity, Watch, Why,
+    Account, Block, Channel, Check, Error, Event, Form, Gap, Lock, Report, Reports, Status, Sum, Sums, Validity, Watch,
+    Why,
     BLOCK_CELLS, BLOCK_WORDS,
 };
 use aes3::{Recovery, SampleForm, SubframeForm, BLOCK_OCTETS};
@@ -251,6 +252,38 @@ fn events() {
     assert_eq!(told[2].to_string(), format!("status at {at} channel 2 {}", "04".repeat(24)));
     assert_eq!(told[3].to_string(), format!("validity at {at} channel 1 set"));
     assert_eq!(told[0].to_string(), "locked at 100 before 1");
+}
+
+#[test]
+fn sums() {
+    let block_cells = BLOCK_CELLS as u64;
+    assert!(Sums::new(0).is_none() && Sums::new((1 << 40) + 1).is_none() && Sums::new(1 << 40).is_some());
+    let mut sums = Sums::new(block_cells).unwrap();
+    let mut told = Vec::new();
+    let mut block = Block::silence();
+    sums.passed(2 * block_cells - 1, |sum| panic!("{sum}"));
+    sums.report(&Report::Whole { at: 100, before: true, block }, |sum| panic!("{sum}"));
+    sums.report(&Report::Fault { at: 200, cell: 300, why: Why::Biphase }, |sum| panic!("{sum}"));
+    block.set_validity(Channel::One, &[255; 24]).unwrap();
+    let at = 3 * block_cells;
+    sums.report(&Report::Whole { at, before: true, block }, |sum| told.push(sum));
+    let first = Sum { from: 0, to: block_cells, whole: 1, fault: 1, biphase: 1, ..Sum::default() };
+    let second = Sum { from: block_cells, to: 2 * block_cells, ..Sum::default() };
+    let third = Sum { from: 2 * block_cells, to: at, lost: block_cells, ..Sum::default() };
+    assert_eq!(told, [first, second, third]);
+    let mut clone = sums.clone();
+    sums.passed(6 * block_cells, |sum| told.push(sum));
+    let fourth = Sum { lost: block_cells - 100, whole: 1, invalid: [192, 0], changes: 1, ..period_of(at, block_cells) };
+    assert_eq!(told[3..], [fourth, Sum { lost: block_cells, ..period_of(at + block_cells, block_cells) }]);
+    clone.end(at + 5, |sum| told.push(sum));
+    let line = "sum from 73728 to 73733 whole 1 marked 0 fault 0 preamble 0 biphase 0 unclosed 0 lost 24476 invalid1 192 invalid2 0";
+    assert_eq!(told[5].to_string(), format!("{line} changes 1"));
+    assert_eq!(told.len(), 6);
+}
+
+/// A period of so many cells, in which nothing is counted.
+fn period_of(from: u64, cells: u64) -> Sum {
+    Sum { from, to: from + cells, ..Sum::default() }
 }
 
 #[test]

@@ -1,7 +1,7 @@
 use Rattle.std.proofs.Common.{◌+◌, ◌/◌, refl, ap, ◌∙◌, arith, sym}
 use Rattle.std.proofs.lemmas.Result.{err_from_is_err_and}
 use Rattle.aes3_cell.proofs.Growing.{grew-is, grew-join}
-use Rattle.aes3_watch.specs.Sums.{ends_before, notice_lines, periods, periods_told, summed_by}
+use Rattle.aes3_watch.specs.Sums.{ends_before, notice_lines, periods, periods_told, with_period}
 use Rattle.aes3_watch.proofs.Sums.{ended-front, ended-lines, ends-is, loop-few, loop-near, next-is, period-is}
 use Rattle.aes3_watch.proofs.Sums.{periods-more}
 use Rattle.aes3_watch.proofs.summing.Summer.end_periods.Goals as goal
@@ -11,7 +11,7 @@ end_period-requires-clause-few g c =
     let k = c.args.self.now in
     let n = c.ending.self in
     let l = loop-few k.every c.ending._told c.saturating_sub.result
-    (summed_by k.watcher.state k.from k.place k.figures) (summed_by n.watcher.state n.from n.place n.figures)
+    (with_period k.watcher.state k.period) (with_period n.watcher.state n.period)
     c.args.to c.requires.some c.saturating_sub.ensures (omega arith) c.ending.invariant.state in
     let f = c.requires.few in
     omega arith
@@ -21,7 +21,7 @@ end_period-requires-clause-near g c =
     let k = c.args.self.now in
     let n = c.ending.self in
     let l = loop-near k.every c.ending._told c.saturating_sub.result
-    (summed_by k.watcher.state k.from k.place k.figures) (summed_by n.watcher.state n.from n.place n.figures)
+    (with_period k.watcher.state k.period) (with_period n.watcher.state n.period)
     c.args.to c.requires.some c.saturating_sub.ensures (omega arith) c.ending.invariant.state in
     let e = c.ending.invariant.every in
     let r = c.ranges.to.fits in
@@ -31,7 +31,7 @@ pub returns-in_err-end_period-clause-wrote : goal.returns-in_err-end_period-clau
 returns-in_err-end_period-clause-wrote g c =
     let k = c.args.self.now in
     let v = c.ending.invariant in
-    let u = summed_by k.watcher.state k.from k.place k.figures in
+    let u = with_period k.watcher.state k.period in
     let s = c.saturating_sub.result in
     let e = ends-is k.every u c.args.to s (s / k.every) c.saturating_sub.ensures refl in
     let p = err_from_is_err_and c.from_residual.result c.from_residual.ensures.1 in
@@ -50,7 +50,7 @@ pub ending-preserved : goal.ending-preserved
 ending-preserved g c =
     let k = c.args.self.now in
     let v = c.ending.invariant in
-    let u = summed_by k.watcher.state k.from k.place k.figures in
+    let u = with_period k.watcher.state k.period in
     let r = c.end_period.ensures in
     record {
       style = r.style ∙ v.style;
@@ -67,20 +67,20 @@ returns-clause-few g c =
     let k = c.args.self.now in
     let n = c.ending.self in
     loop-few k.every c.ending._told c.saturating_sub.result
-    (summed_by k.watcher.state k.from k.place k.figures) (summed_by n.watcher.state n.from n.place n.figures)
+    (with_period k.watcher.state k.period) (with_period n.watcher.state n.period)
     c.args.to c.requires.some c.saturating_sub.ensures (omega arith) c.ending.invariant.state
 
 pub returns-clause-state : goal.returns-clause-state
 returns-clause-state g c =
     let k = c.args.self.now in
-    let u = summed_by k.watcher.state k.from k.place k.figures in
+    let u = with_period k.watcher.state k.period in
     let e = ends-is k.every u c.args.to c.saturating_sub.result c.ending._told c.saturating_sub.ensures (omega arith) in
     c.ending.invariant.state ∙ ap (λ n. periods k.every n u) e
 
 pub returns-clause-wrote : goal.returns-clause-wrote
 returns-clause-wrote g c =
     let k = c.args.self.now in
-    let u = summed_by k.watcher.state k.from k.place k.figures in
+    let u = with_period k.watcher.state k.period in
     let e = ends-is k.every u c.args.to c.saturating_sub.result c.ending._told c.saturating_sub.ensures (omega arith) in
     record {
       grew = grew-is (ap (λ n. notice_lines k.watcher.style (periods_told k.every n u)) e) c.ending.invariant.grew;

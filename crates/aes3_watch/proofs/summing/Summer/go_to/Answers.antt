@@ -2,14 +2,14 @@ use Rattle.std.proofs.Common.{◌+◌, refl, ap, ◌∙◌}
 use Rattle.std.proofs.lemmas.Result.{err_from_is_err_and}
 use Rattle.aes3_cell.proofs.Growing.{grew-is, grew-join, front-is, front-join, front-more}
 use Rattle.aes3_watch.specs.Watching.{event_lines, loss_events}
-use Rattle.aes3_watch.specs.Sums.{ends_before, periods, summed_by}
+use Rattle.aes3_watch.specs.Sums.{ends_before, periods, with_period}
 use Rattle.aes3_watch.proofs.Sums.{go-is, go-lines}
 use Rattle.aes3_watch.proofs.summing.Summer.go_to.Goals as goal
 
 pub returns-in_err-end_periods-clause-wrote : goal.returns-in_err-end_periods-clause-wrote
 returns-in_err-end_periods-clause-wrote g c =
     let k = c.args.self.now in
-    let u = summed_by k.watcher.state k.from k.place k.figures in
+    let u = with_period k.watcher.state k.period in
     let v = periods k.every (ends_before k.every u c.args.to) u in
     let p = err_from_is_err_and c.from_residual.result c.from_residual.ensures.1 in
     let f = c.in_err-end_periods.ensures.wrote.err in
@@ -27,8 +27,8 @@ pub returns-in_err-go_on-clause-wrote : goal.returns-in_err-go_on-clause-wrote
 returns-in_err-go_on-clause-wrote g c =
     let k = c.args.self.now in
     let n = c.end_periods.new.self in
-    let u = summed_by k.watcher.state k.from k.place k.figures in
-    let v = summed_by n.watcher.state n.from n.place n.figures in
+    let u = with_period k.watcher.state k.period in
+    let v = with_period n.watcher.state n.period in
     let p = err_from_is_err_and c.from_residual-in_err-go_on.result c.from_residual-in_err-go_on.ensures.1 in
     let f = c.in_err-go_on.ensures.wrote.err in
     rw p.1 (record {
@@ -46,16 +46,16 @@ returns-clause-state g c =
     let k = c.args.self.now in
     let n = c.end_periods.new.self in
     let r = c.go_on.new.self in
-    go-is k.every (summed_by k.watcher.state k.from k.place k.figures)
-    (summed_by n.watcher.state n.from n.place n.figures) (summed_by r.watcher.state r.from r.place r.figures)
+    go-is k.every (with_period k.watcher.state k.period)
+    (with_period n.watcher.state n.period) (with_period r.watcher.state r.period)
     c.args.to c.in_ok-end_periods.ensures.state c.go_on.ensures.state
 
 pub returns-clause-wrote : goal.returns-clause-wrote
 returns-clause-wrote g c =
     let k = c.args.self.now in
     let n = c.end_periods.new.self in
-    let u = summed_by k.watcher.state k.from k.place k.figures in
-    let v = summed_by n.watcher.state n.from n.place n.figures in
+    let u = with_period k.watcher.state k.period in
+    let v = with_period n.watcher.state n.period in
     record {
       grew = grew-is (go-lines k.watcher.style k.every u v c.args.to c.in_ok-end_periods.ensures.state)
           (grew-join c.in_ok-end_periods.ensures.wrote.grew

@@ -3,7 +3,7 @@ use Rattle.std.proofs.lemmas.Result.{err_from_is_err_and}
 use Rattle.aes3_cell.proofs.Growing.{grew-is, grew-join, front-is, front-join, front-more}
 use Rattle.aes3_watch.specs.Watching.{event_lines, is_locked, loss_events, up_to}
 use Rattle.aes3_text_lines.specs.declared.event.Event.TheVariants.{End}
-use Rattle.aes3_watch.specs.Sums.{go_to, last_sum, notice_lines, summed_by}
+use Rattle.aes3_watch.specs.Sums.{go_to, last_sum, notice_lines, with_period}
 use Rattle.aes3_watch.proofs.EventWrites.{put-one}
 use Rattle.aes3_watch.proofs.Sums.{all-lines, end-known}
 use Rattle.aes3_watch.proofs.summing.Summer.go_to_end.Goals as goal
@@ -12,7 +12,7 @@ pub returns-in_err-go_to-clause-wrote : goal.returns-in_err-go_to-clause-wrote
 returns-in_err-go_to-clause-wrote g c =
     let k = c.args.self.now in
     let n = c.args.seen in
-    let u = summed_by k.watcher.state k.from k.place k.figures in
+    let u = with_period k.watcher.state k.period in
     let v = go_to k.every u n in
     let told = loss_events v.watched n ++ End n (is_locked (up_to v.watched n)) ∷ [] in
     let p = err_from_is_err_and c.from_residual.result c.from_residual.ensures.1 in
@@ -41,8 +41,8 @@ returns-in_err-tell_last-clause-wrote g c =
       no_failure = tt;
       err = (
         f.0 ∙ ap (λ m. m + 1) c.in_ok-go_to.ensures.wrote.no_failure,
-        front-is (all-lines k.watcher.style k.every (summed_by k.watcher.state k.from k.place k.figures)
-            (summed_by n.watcher.state n.from n.place n.figures) c.args.seen told c.in_ok-go_to.ensures.state refl)
+        front-is (all-lines k.watcher.style k.every (with_period k.watcher.state k.period)
+            (with_period n.watcher.state n.period) c.args.seen told c.in_ok-go_to.ensures.state refl)
             (front-join c.in_ok-go_to.ensures.wrote.grew
             (front-more (rw c.go_to.ensures.style at f.1) (event_lines k.watcher.style told))),
       );
@@ -61,8 +61,8 @@ returns-in_err-put_events-clause-wrote g c =
       no_failure = tt;
       err = (
         f.0 ∙ ap (λ m. m + 1) (c.in_ok-tell_last.ensures.no_failure ∙ c.in_ok-go_to.ensures.wrote.no_failure),
-        front-is (all-lines k.watcher.style k.every (summed_by k.watcher.state k.from k.place k.figures)
-            (summed_by n.watcher.state n.from n.place n.figures) c.args.seen _ c.in_ok-go_to.ensures.state refl)
+        front-is (all-lines k.watcher.style k.every (with_period k.watcher.state k.period)
+            (with_period n.watcher.state n.period) c.args.seen _ c.in_ok-go_to.ensures.state refl)
             (front-join c.in_ok-go_to.ensures.wrote.grew
             (front-join (rw c.go_to.ensures.style at c.in_ok-tell_last.ensures.grew)
             (front-is (ap₂ event_lines (c.go_to_end.ensures.style ∙ c.go_to.ensures.style) told) f.1))),
@@ -73,8 +73,8 @@ pub returns-clause-state : goal.returns-clause-state
 returns-clause-state g c =
     let k = c.args.self.now in
     let n = c.go_to.new.self in
-    end-known k.every (summed_by k.watcher.state k.from k.place k.figures)
-    (summed_by n.watcher.state n.from n.place n.figures) c.go_to_end.new.self.state c.args.seen c.requires.some
+    end-known k.every (with_period k.watcher.state k.period)
+    (with_period n.watcher.state n.period) c.go_to_end.new.self.state c.args.seen c.requires.some
     c.in_ok-go_to.ensures.state c.go_to_end.ensures.state
 
 pub returns-clause-wrote : goal.returns-clause-wrote
@@ -83,8 +83,8 @@ returns-clause-wrote g c =
     let n = c.go_to.new.self in
     let told = put-one _ c.deref.ensures.0 c.go_to_end.ensures.events c.new-events.ensures in
     record {
-      grew = grew-is (all-lines k.watcher.style k.every (summed_by k.watcher.state k.from k.place k.figures)
-          (summed_by n.watcher.state n.from n.place n.figures) c.args.seen _ c.in_ok-go_to.ensures.state refl)
+      grew = grew-is (all-lines k.watcher.style k.every (with_period k.watcher.state k.period)
+          (with_period n.watcher.state n.period) c.args.seen _ c.in_ok-go_to.ensures.state refl)
           (grew-join c.in_ok-go_to.ensures.wrote.grew
           (grew-join (rw c.go_to.ensures.style at c.in_ok-tell_last.ensures.grew)
           (grew-is (ap₂ event_lines (c.go_to_end.ensures.style ∙ c.go_to.ensures.style) told)

@@ -4,7 +4,7 @@ use Rattle.aes3_cell.proofs.Growing.{front-is, front-more}
 use Rattle.aes3_cell.proofs.Writing.{wrote-behind, wrote-is}
 use Rattle.aes3_lock.specs.Following.{report_in}
 use Rattle.aes3_lock_runs.proofs.Listening.{end-none, end-one}
-use Rattle.aes3_watch.specs.Sums.{all_told, next_sum, notice_lines, summed_by}
+use Rattle.aes3_watch.specs.Sums.{all_told, next_sum, notice_lines, with_period}
 use Rattle.aes3_watch.proofs.Accounts.{near-last}
 use Rattle.aes3_watch.proofs.Sums.{next-at}
 use Rattle.aes3_watch.proofs.SumWrites.{closed-lines, closed_with-lines}
@@ -59,7 +59,7 @@ go_to_end-requires-in-None-clause-some g c = c.requires.following.2.some
 pub returns-in_err-take_report-in-Some-clause-wrote : goal.returns-in_err-take_report-in-Some-clause-wrote
 returns-in_err-take_report-in-Some-clause-wrote g c =
     let k = c.args.self.now in
-    let u = summed_by k.watcher.state k.from k.place k.figures in
+    let u = with_period k.watcher.state k.period in
     let x = report_in c.args.lock.now c.in-Some.ending in
     let p = err_from_is_err_and c.from_residual.result c.from_residual.ensures.1 in
     let w = c.in_err-take_report-in-Some.ensures.wrote in
@@ -78,8 +78,8 @@ returns-in_ok-take_report-in-Some-clause-done g c =
     let k = c.args.self.now in
     let m = c.take_report.new.self in
     let r = c.go_to_end.new.self in
-    let u = summed_by k.watcher.state k.from k.place k.figures in
-    let v = summed_by m.watcher.state m.from m.place m.figures in
+    let u = with_period k.watcher.state k.period in
+    let v = with_period m.watcher.state m.period in
     let x = report_in c.args.lock.now c.in-Some.ending in
     IfOk-weaker c.go_to_end.result _ _ (λ z state d h f.
     close_with-ended m.watcher.state r.watcher.state c.seen.result d x f.watches (end-one c.in-Some.is h)
@@ -90,8 +90,8 @@ pub returns-in_ok-take_report-in-Some-clause-wrote : goal.returns-in_ok-take_rep
 returns-in_ok-take_report-in-Some-clause-wrote g c =
     let k = c.args.self.now in
     let m = c.take_report.new.self in
-    let u = summed_by k.watcher.state k.from k.place k.figures in
-    let v = summed_by m.watcher.state m.from m.place m.figures in
+    let u = with_period k.watcher.state k.period in
+    let v = with_period m.watcher.state m.period in
     let x = report_in c.args.lock.now c.in-Some.ending in
     let t = c.in_ok-take_report-in-Some.ensures in
     λ d h f.
@@ -113,6 +113,6 @@ pub returns-in-None-clause-wrote : goal.returns-in-None-clause-wrote
 returns-in-None-clause-wrote g c =
     let k = c.args.self.now in
     λ d h f.
-    wrote-is (closed-lines k.watcher.style k.every (summed_by k.watcher.state k.from k.place k.figures)
+    wrote-is (closed-lines k.watcher.style k.every (with_period k.watcher.state k.period)
     c.seen-in-None.result d f.some f.state_is (c.seen-in-None.ensures ∙ h.follows.seen) (end-none c.in-None.is h))
     c.go_to_end-in-None.ensures.wrote

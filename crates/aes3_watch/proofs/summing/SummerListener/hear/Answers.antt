@@ -4,7 +4,7 @@ use Rattle.aes3_cell.proofs.Growing.{front-is, front-more}
 use Rattle.aes3_cell.proofs.Writing.{ok-always, wrote-behind, wrote-is}
 use Rattle.aes3_lock.specs.Following.{report_in}
 use Rattle.aes3_lock_runs.proofs.Listening.{told-none, told-one}
-use Rattle.aes3_watch.specs.Sums.{go_to, next_sum, notice_lines, summed_by, summing, told_to}
+use Rattle.aes3_watch.specs.Sums.{go_to, next_sum, notice_lines, with_period, summing, told_to}
 use Rattle.aes3_watch.proofs.Accounts.{less, near-new}
 use Rattle.aes3_watch.proofs.WatchedCells.{loss-room}
 use Rattle.aes3_watch.proofs.SumWrites.{passed-lines, passed-sums, same-sums, taken-lines, taken-sums}
@@ -55,7 +55,7 @@ go_to-requires-in-None-clause-some g c = c.requires.following.3.some
 pub returns-in_err-take_report-in-Some-clause-wrote : goal.returns-in_err-take_report-in-Some-clause-wrote
 returns-in_err-take_report-in-Some-clause-wrote g c =
     let k = c.args.self.now in
-    let u = summed_by k.watcher.state k.from k.place k.figures in
+    let u = with_period k.watcher.state k.period in
     let x = report_in c.args.lock.now c.in-Some.ending in
     let p = err_from_is_err_and c.from_residual.result c.from_residual.ensures.1 in
     let w = c.in_err-take_report-in-Some.ensures.wrote in
@@ -79,8 +79,8 @@ returns-in_ok-take_report-in-Some-clause-next g c =
     let k = c.args.self.now in
     let m = c.take_report.new.self in
     let r = c.go_to.new.self in
-    let v = summed_by m.watcher.state m.from m.place m.figures in
-    let w = summed_by r.watcher.state r.from r.place r.figures in
+    let v = with_period m.watcher.state m.period in
+    let w = with_period r.watcher.state r.period in
     let x = report_in c.args.lock.now c.in-Some.ending in
     let s = c.saturating_sub.result in
     let t = c.in_ok-take_report-in-Some.ensures in
@@ -95,8 +95,8 @@ pub returns-in_ok-take_report-in-Some-clause-wrote : goal.returns-in_ok-take_rep
 returns-in_ok-take_report-in-Some-clause-wrote g c =
     let k = c.args.self.now in
     let m = c.take_report.new.self in
-    let u = summed_by k.watcher.state k.from k.place k.figures in
-    let v = summed_by m.watcher.state m.from m.place m.figures in
+    let u = with_period k.watcher.state k.period in
+    let v = with_period m.watcher.state m.period in
     let x = report_in c.args.lock.now c.in-Some.ending in
     let s = c.saturating_sub.result in
     let t = c.in_ok-take_report-in-Some.ensures in
@@ -115,7 +115,7 @@ pub returns-in-None-clause-next : goal.returns-in-None-clause-next
 returns-in-None-clause-next g c =
     let k = c.args.self.now in
     let m = c.go_to-in-None.new.self in
-    let v = summed_by m.watcher.state m.from m.place m.figures in
+    let v = with_period m.watcher.state m.period in
     let s = c.saturating_sub-in-None.result in
     IfOk-weaker c.go_to-in-None.result _ _ (λ z state d e h f.
     same-sums k.every m.every v k.watcher.lasts m.watcher.lasts (d ++ e) c.go_to-in-None.ensures.every
@@ -129,6 +129,6 @@ returns-in-None-clause-wrote g c =
     let k = c.args.self.now in
     let s = c.saturating_sub-in-None.result in
     λ d e h f.
-    wrote-is (passed-lines k.watcher.style k.every (summed_by k.watcher.state k.from k.place k.figures) s d e f.some
+    wrote-is (passed-lines k.watcher.style k.every (with_period k.watcher.state k.period) s d e f.some
     f.state_is (less s c.seen-in-None.result _ (omega arith) (c.seen-in-None.ensures ∙ h.follows.seen))
     (told-none c.in-None.is h)) c.go_to-in-None.ensures.wrote

@@ -1,7 +1,7 @@
 use Rattle.std.proofs.Common.{◌∙◌, ap, arith}
 use Rattle.aes3_watch.specs.Sums.{with_lost}
 use Rattle.aes3_watch.proofs.Sums.{gap-cells, gap-place}
-use Rattle.aes3_watch.proofs.summing.Summer.count_gaps.Goals as goal
+use Rattle.aes3_watch.proofs.period.Period.count_gaps.Goals as goal
 
 pub returns-clause-place : goal.returns-clause-place
 returns-clause-place c =
