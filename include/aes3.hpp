@@ -107,8 +107,8 @@ class watch {
     }
 };
 
-// Tells the sums of a line by periods of `every` cells, as `aes3 watch --every` does, by tell(const sum &): those of the periods that end
-// before each report that the lock tells, those that stand whatever follows the cells that it has seen, and at the end of the cells all
+// Gives the sums of a line by periods of `every` cells, as `aes3 watch --every` does, to tell(const sum &): those of the periods that end
+// before each report of the lock, those that no later cell changes, and at the end of the cells all
 // that are left. The report of a whole block has its words. Where `every` is 0 or above 2^40, there are no sums, and ok() is false.
 class sums {
     aes3_sums state;

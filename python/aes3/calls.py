@@ -984,7 +984,7 @@ class Sum(NamedTuple):
 
 
 class Sums:
-    """Tells the sums of a line by periods of `every` cells, 1 to 2**40: its first cells, the next ones, and so on."""
+    """Gives the sums of a line by periods of `every` cells, 1 to 2**40: its first cells, the next ones, and so on."""
 
     def __init__(self, every: int) -> None:
         self._sums = _Sums()
@@ -1000,12 +1000,12 @@ class Sums:
         return self._told(lambda sum_: _sums_before(c.byref(self._sums), c.byref(told), sum_))
 
     def passed(self, seen: int) -> List[Sum]:
-        """The list of the sums that stand whatever follows the `seen` cells, all of whose reports were told."""
+        """The list of the sums that no cell after the `seen` ones changes. All reports on these were given."""
         seen = _number(seen, "the number of cells", 0, 2**64 - 1)
         return self._told(lambda sum_: _sums_passed(c.byref(self._sums), seen, sum_))
 
     def end(self, seen: int) -> List[Sum]:
-        """The list of all sums that are left at the end of the `seen` cells, all of whose reports were told."""
+        """The list of all sums that are left at the end of the `seen` cells. All reports on them were given."""
         seen = _number(seen, "the number of cells", 0, 2**64 - 1)
         return self._told(lambda sum_: _sums_end(c.byref(self._sums), seen, sum_))
 

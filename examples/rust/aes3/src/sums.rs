@@ -93,7 +93,7 @@ impl Sums {
         }
     }
 
-    /// Gives `tell` the sums that stand whatever follows the `seen` cells, all of whose reports were told.
+    /// Gives `tell` the sums that no cell after the `seen` ones changes. All reports on these were given.
     pub fn passed(&mut self, seen: u64, mut tell: impl FnMut(Sum)) {
         // SAFETY: the state was made by aes3_sums_init, and the sum is another place.
         while let Some(sum) = Sum::of(|sum| unsafe { sys::aes3_sums_passed(&mut self.state, seen, sum) }) {
@@ -101,7 +101,7 @@ impl Sums {
         }
     }
 
-    /// Gives `tell` all sums that are left at the end of the `seen` cells, all of whose reports were told. The last period can be
+    /// Gives `tell` all sums that are left at the end of the `seen` cells. All reports on them were given. The last period can be
     /// shorter.
     pub fn end(&mut self, seen: u64, mut tell: impl FnMut(Sum)) {
         // SAFETY: the state was made by aes3_sums_init, and the sum is another place.
