@@ -37,8 +37,9 @@
  * - aes3_lock_push(): 5,064
  * - aes3_lock_finish(), aes3_encode_blocks(), aes3_subframes_of_blocks(), aes3_samples_of_blocks(): 4,792
  * - aes3_blocks_of_subframes(): 4,680
+ * - aes3_sums_before(): 4,176
+ * - aes3_watch_report(): 4,080
  * - aes3_lock_take_octets(): 3,976
- * - aes3_watch_report(): 3,712
  * - aes3_lock_take_cells(): 3,432
  * - aes3_lock_take_words(): 3,304
  * - aes3_block_of_samples(): 3,096
@@ -51,6 +52,7 @@
  * - aes3_recovery_init(): 1,320
  * - aes3_status_text(): 1,304
  * - aes3_watch_end(): 464
+ * - aes3_sums_passed(): 288
  * - aes3_wav_read(): 272
  * - aes3_wav_samples(): 136
  * - each other: 70 at most

@@ -240,6 +240,55 @@ static void events(void) {
     SAME(1);
 }
 
+/* A sum, octet by octet, in which each number is another. */
+static void sums_of_periods(void) {
+    static aes3_sums sums;
+    static union {
+        aes3_sum sum;
+        unsigned char bytes[sizeof(aes3_sum) + 8];
+    } put, due;
+    static const uint8_t faults[] = {AES3_PREAMBLE, AES3_BIPHASE, AES3_BIPHASE, AES3_UNCLOSED, AES3_UNCLOSED, AES3_UNCLOSED};
+    const uint64_t every = 40 * (uint64_t)AES3_BLOCK_CELLS, seen = every + 100 + 5 * (uint64_t)AES3_BLOCK_CELLS + 7;
+    const uint64_t numbers[] = {every, seen, 5, 9, 6, 1, 2, 3, 7, 20, 28, 4};
+    const uint8_t status[AES3_STATUS_BYTES] = {4}, five[AES3_STATUS_BYTES] = {0x1F}, seven[AES3_STATUS_BYTES] = {0x7F};
+    memset(&told, 0, sizeof told);
+    memset(&put, 0xAA, sizeof put);
+    memset(&due, 0xAA, sizeof due);
+    WANT(aes3_sums_init(&sums, every));
+    told.report.at = every + 100;
+    WANT(!aes3_sums_before(&sums, &told.report, &put.sum));
+    WANT(memcmp(&put, &due, sizeof put) == 0);
+    told.report.kind = AES3_MARKED;
+    WANT(aes3_sums_before(&sums, &told.report, &put.sum));
+    for (int i = 0; i < 9; i++)
+        WANT(!aes3_sums_before(&sums, &told.report, &put.sum));
+    told.report.kind = AES3_FAULT;
+    for (size_t i = 0; i < sizeof faults; i++) {
+        told.report.why = faults[i];
+        WANT(!aes3_sums_before(&sums, &told.report, &put.sum));
+    }
+    told.report.kind = AES3_WHOLE;
+    for (uint64_t i = 0; i < 5; i++) {
+        told.report.at = every + 100 + i * AES3_BLOCK_CELLS + (i < 2 ? 0 : 7);
+        if (i == 1)
+            WANT(aes3_block_set_validity(told.report.words, 1, five) + aes3_block_set_validity(told.report.words, 2, seven) ==
+                 2 * AES3_BLOCK_WORDS);
+        if (i == 2)
+            WANT(aes3_block_set_status(told.report.words, 1, status) + aes3_block_set_status(told.report.words, 2, status) ==
+                 2 * AES3_BLOCK_WORDS);
+        WANT(!aes3_sums_before(&sums, &told.report, &put.sum));
+    }
+    memset(&put, 0xAA, sizeof put);
+    WANT(aes3_sums_end(&sums, seen, &put.sum));
+    const size_t places[] = {offsetof(aes3_sum, from),          offsetof(aes3_sum, to),             offsetof(aes3_sum, whole),
+                             offsetof(aes3_sum, marked),        offsetof(aes3_sum, fault),          offsetof(aes3_sum, preamble),
+                             offsetof(aes3_sum, biphase),       offsetof(aes3_sum, unclosed),       offsetof(aes3_sum, lost),
+                             offsetof(aes3_sum, invalid_first), offsetof(aes3_sum, invalid_second), offsetof(aes3_sum, changes)};
+    for (size_t i = 0; i < sizeof places / sizeof *places; i++)
+        memcpy(due.bytes + places[i], &numbers[i], sizeof numbers[i]);
+    WANT(memcmp(&put, &due, sizeof put) == 0);
+}
+
 /* The header of a file of three channels, 20 bits of 24, whose lengths are in its chunk ds64. */
 static void wavs(void) {
     static const uint8_t octets[] =
@@ -296,12 +345,14 @@ int main(void) {
     WANT(sizeof(aes3_lock) == 3104 && sizeof(aes3_report) == 1560);
     WANT(sizeof(aes3_account) == 16 && sizeof(aes3_gap) == 24);
     WANT(sizeof(aes3_watch) == 80 && sizeof(aes3_event) == 48);
+    WANT(sizeof(aes3_sums) == 192 && sizeof(aes3_sum) == 96);
     WANT(sizeof(aes3_professional) == 32 && sizeof(aes3_consumer) == 33 && sizeof(aes3_capture) == 80);
     WANT(sizeof(aes3_wav) == 24 && sizeof(aes3_recovery) == 6504 && sizeof(aes3_mark) == 16);
     statuses();
     reports();
     gaps();
     events();
+    sums_of_periods();
     marks();
     wavs();
     if (!failed)

@@ -14,7 +14,8 @@ use Rattle.aes3_c.specs.Watches.{uncounted, watched_in}
 use Rattle.aes3_c.specs.declared.sum_calls.Aes3Sum.{Aes3Sum}
 use Rattle.aes3_c.specs.declared.sum_calls.Aes3Sums.{Aes3Sums}
 
--- the line that these numbers keep: all but how often cells were told as lost, or a block as slipped
+-- the counts that these numbers keep, the open period, and the line: all but how often cells were told as lost, or a
+-- block as slipped
 abbrev pub figures_in : Aes3Sum → Figures
 figures_in n = record {
   whole = n.whole;

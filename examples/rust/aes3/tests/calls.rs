@@ -2,8 +2,7 @@
 
 use aes3::{
     Account, Block, Channel, Check, Error, Event, Form, Gap, Lock, Report, Reports, Status, Sum, Sums, Validity, Watch,
-    Why,
-    BLOCK_CELLS, BLOCK_WORDS,
+    Why, BLOCK_CELLS, BLOCK_WORDS,
 };
 use aes3::{Recovery, SampleForm, SubframeForm, BLOCK_OCTETS};
 use aes3::{Wav, WavBits, WavFault, WavRead};

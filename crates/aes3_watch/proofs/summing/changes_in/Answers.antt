@@ -1,4 +1,4 @@
-use Rattle.std.proofs.Common.{refl, sym, ap₂, ◌∙◌, ◌+◌, arith}
+use Rattle.std.proofs.Common.{◌≡◌, ◌+◌, ◌∙◌, refl, sym, ap₂, arith, take}
 use Rattle.std.proofs.lemmas.List.Sums.{sum_by_more}
 use Rattle.aes3_watch.specs.Sums.{change_of, changes_in}
 use Rattle.aes3_watch.proofs.summing.changes_in.Goals as goal
@@ -13,8 +13,9 @@ loop-event-preserved c =
     let l = c.loop-event in
     let f = c.change_of-found.ensures.one in
     let g = l.invariant.few in
-    record {
-      sum = ap₂ (λ x y. x + y) l.invariant.sum c.change_of-found.ensures.change
-          ∙ sym (sum_by_more change_of c.args.events.now l.event-index _ (omega arith));
-      few = omega arith;
-    }
+    let events = c.args.events.now in
+    let i = l.event-index in
+    let more : l.found + c.change_of-found.result ≡ changes_in (take (i + 1) events) =
+    ap₂ (λ x y. x + y) l.invariant.sum c.change_of-found.ensures.change
+    ∙ sym (sum_by_more change_of events i _ (omega arith)) in
+    record { sum = omega (arith, more); few = omega arith }
