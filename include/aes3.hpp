@@ -38,8 +38,8 @@ template <class T> struct span {
 #endif
 };
 
-// Finds blocks in cells that come one behind the other, and calls tell(const report &) for each report. What takes cells answers
-// false where the lock has seen 2^43 of them. A copy goes on from there by itself.
+// Finds blocks in cells, which come one after the other, and calls tell(const report &) for each report. A call that takes cells
+// returns false if the lock has seen 2^43 of them. A copy goes on from there by itself.
 class lock {
     aes3_lock state;
 
@@ -49,8 +49,8 @@ class lock {
     // Takes words of 64 cells, or the first `count` cells of a word, 64 at most.
     template <class Tell> bool take(span<const uint64_t> from, Tell &&tell);
     template <class Tell> bool push(uint64_t word, uint32_t count, Tell &&tell);
-    // Takes the cells of octets, eight an octet, the first in its highest bit. What is told has no words; block() puts those of the
-    // report that was told last, until the lock takes more cells.
+    // Takes the cells of octets, eight an octet, the first in its highest bit. The reports have no words; block() puts those of
+    // the latest one, until the lock takes more cells.
     template <class Tell> bool take_octets(span<const uint8_t> from, Tell &&tell);
     void block(words &to) const { aes3_lock_block(&state, to); }
 #ifdef __cpp_lib_span
@@ -60,8 +60,8 @@ class lock {
     template <class Tell> void finish(Tell &&tell) const;
 };
 
-// Tells the gaps between whole blocks, as `aes3 check --gaps` does, by tell(const gap &): those before each report that the lock
-// tells, those that stand whatever follows the cells that it has seen, and at the end of the cells all that are left.
+// Gives the gaps between whole blocks, as `aes3 check --gaps` does, to tell(const gap &): those before each report of the lock, those
+// that no later cell changes, and at the end of the cells all that are left.
 class account {
     aes3_account state;
 
@@ -81,8 +81,8 @@ class account {
     }
 };
 
-// Tells the events of a line, as `aes3 watch` does, by tell(const event &): those of each report that the lock tells, a loss that stands
-// whatever follows the cells that it has seen, and at the end of the cells what is left. The report of a whole block has its words.
+// Gives the events of a line, as `aes3 watch` does, to tell(const event &): those of each report of the lock, a loss that no later cell
+// changes, and at the end of the cells what is left. The report of a whole block has its words.
 class watch {
     aes3_watch state;
 
@@ -108,8 +108,8 @@ class watch {
 };
 
 // Gives the sums of a line by periods of `every` cells, as `aes3 watch --every` does, to tell(const sum &): those of the periods that end
-// before each report of the lock, those that no later cell changes, and at the end of the cells all
-// that are left. The report of a whole block has its words. Where `every` is 0 or above 2^40, there are no sums, and ok() is false.
+// before each report of the lock, those that no later cell changes, and at the end of the cells all that are left. The report of a whole
+// block has its words. If `every` is 0 or above 2^40, there are no sums, and ok() is false.
 class sums {
     aes3_sums state;
     bool made;
@@ -359,7 +359,7 @@ inline uint64_t sample_between(const aes3_mark &before, const aes3_mark &after, 
     return aes3_sample_between(&before, &after, cell);
 }
 
-// The header of a WAV file, read of the file's first octets, and the samples of two channels in octets behind it: answers how many frames.
+// The header of a WAV file, read of the file's first octets, and the samples of two channels in octets after it: answers how many frames.
 // And one that is written: answers how many octets.
 inline aes3_wav_answer read_wav(span<const uint8_t> octets, aes3_wav &to, uint64_t &at) {
     return static_cast<aes3_wav_answer>(aes3_wav_read(octets.data, octets.size, &to, &at));

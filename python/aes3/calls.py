@@ -397,7 +397,7 @@ def library_version() -> str:
 
 
 def encode_block(words: Numbers, before: int = 0) -> CellWords:
-    """The 384 words of cells of a block of 384 words, behind a cell of the level 0 or 1; ValueError where a word is not valid."""
+    """The 384 words of cells of a block of 384 words, after a cell of the level 0 or 1; ValueError if a word is not valid."""
     block, before, cells = _block_in(words), _number(before, "the level before a block", 0, 1), _Cells()
     _check_valid(_encode_block(block, before, cells))
     found: CellWords = _out(cells)
@@ -784,7 +784,7 @@ class Lock:
 
 
 def _report_of(told: _Report) -> Report:
-    """The report of what a call told with the words of a whole block."""
+    """The report that a call put, with the words of a whole block."""
     return Report(told, _Words.from_buffer_copy(told.words) if told.kind == WHOLE else None)
 
 
@@ -826,32 +826,32 @@ class Gap:
 
 
 def _told_of(report: Report) -> _Report:
-    """A report as the library tells it, but for the words of a block."""
+    """A report as the library puts it, without the words of a block."""
     place, cell = (_number(it, "a place", 0, 2**64 - 1) for it in (report.at, report.cell))
     return _Report(at=place, cell=cell, wrong=report.wrong, kind=report.kind, before=report.before, why=report.why)
 
 
 class Account:
-    """Tells the gaps between the whole blocks of a lock's cells."""
+    """Gives the gaps between the whole blocks of a lock's cells."""
 
     def __init__(self) -> None:
         self._account = _Account()
         _account_init(c.byref(self._account))
 
     def before(self, report: Report) -> List[Gap]:
-        """The list of the gaps before a report. Each report of the lock goes here in turn, and is told then."""
+        """The list of the gaps before a report. Each report of the lock goes here in turn, and is counted then."""
         if not isinstance(report, Report):
             raise TypeError(f"a gap is before a Report of a lock, not before {_named(report)}")
         told = _told_of(report)
         return self._gaps(lambda gap: _before(c.byref(self._account), c.byref(told), gap))
 
     def passed(self, seen: int) -> List[Gap]:
-        """The list of the gaps that stand whatever follows the `seen` cells, all of whose reports were told."""
+        """The list of the gaps that no cell after the `seen` ones changes. All reports on these were given."""
         seen = _number(seen, "the number of cells", 0, 2**64 - 1)
         return self._gaps(lambda gap: _passed(c.byref(self._account), seen, gap))
 
     def end(self, seen: int) -> List[Gap]:
-        """The list of all gaps that are left at the end of the `seen` cells, all of whose reports were told."""
+        """The list of all gaps that are left at the end of the `seen` cells. All reports on them were given."""
         seen = _number(seen, "the number of cells", 0, 2**64 - 1)
         return self._gaps(lambda gap: _end(c.byref(self._account), seen, gap))
 
@@ -925,7 +925,7 @@ class Event:
 
 
 class Watch:
-    """Tells the events of a line: where it locks, is lost, comes back or slips, and where its status or validity bits change."""
+    """Gives the events of a line: where it locks, is lost, comes back or slips, and where its status or validity bits change."""
 
     def __init__(self) -> None:
         self._watch = _Watch()
@@ -941,12 +941,12 @@ class Watch:
         return self._events(lambda events: _watch_report(c.byref(self._watch), c.byref(told), events))
 
     def passed(self, seen: int) -> List[Event]:
-        """The list of the loss that stands whatever follows the `seen` cells, all of whose reports were told, or of none."""
+        """The list of the loss that no cell after the `seen` ones changes, or of none. All reports on these were given."""
         seen = _number(seen, "the number of cells", 0, 2**64 - 1)
         return self._events(lambda events: _watch_passed(c.byref(self._watch), seen, events))
 
     def end(self, seen: int) -> List[Event]:
-        """The list of the events of the end of the `seen` cells, all of whose reports were told. The state is unchanged."""
+        """The list of the events of the end of the `seen` cells. All reports on them were given. The state is unchanged."""
         seen = _number(seen, "the number of cells", 0, 2**64 - 1)
         return self._events(lambda events: _watch_end(c.byref(self._watch), seen, events))
 

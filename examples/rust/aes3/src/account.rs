@@ -67,7 +67,7 @@ impl Account {
         Account { state }
     }
 
-    /// Gives `tell` the gaps before a report. Each report of the lock goes here in turn, and is told then.
+    /// Gives `tell` the gaps before a report. Each report of the lock goes here in turn, and is counted then.
     pub fn before(&mut self, report: &Report, mut tell: impl FnMut(Gap)) {
         let told = report.told();
         // SAFETY: the account was made by aes3_account_init, and the report and the gap are other places.
@@ -76,7 +76,7 @@ impl Account {
         }
     }
 
-    /// Gives `tell` the gaps that stand whatever follows the `seen` cells, all of whose reports were told.
+    /// Gives `tell` the gaps that no cell after the `seen` ones changes. All reports on these were given.
     pub fn passed(&mut self, seen: u64, mut tell: impl FnMut(Gap)) {
         // SAFETY: the account was made by aes3_account_init, and the gap is another place.
         while let Some(gap) = Gap::of(|gap| unsafe { sys::aes3_account_passed(&mut self.state, seen, gap) }) {
@@ -84,7 +84,7 @@ impl Account {
         }
     }
 
-    /// Gives `tell` all gaps that are left at the end of the `seen` cells, all of whose reports were told.
+    /// Gives `tell` all gaps that are left at the end of the `seen` cells. All reports on them were given.
     pub fn end(&mut self, seen: u64, mut tell: impl FnMut(Gap)) {
         // SAFETY: the account was made by aes3_account_init, and the gap is another place.
         while let Some(gap) = Gap::of(|gap| unsafe { sys::aes3_account_end(&mut self.state, seen, gap) }) {

@@ -76,7 +76,7 @@ impl Block {
         (self.words[2 * frame + channel as usize - 1] << 4) as i32 & !0xff
     }
 
-    /// The block's cells behind a cell of the level `before`. It ends at that level, so that blocks follow one another with the same.
+    /// The block's cells after a cell of the level `before`. It ends at that level, so that blocks follow one another with the same.
     pub fn encode(&self, before: bool) -> Result<[u64; BLOCK_WORDS], Error> {
         let mut cells = [0; BLOCK_WORDS];
         // SAFETY: both point to 384 words that don't overlap.

@@ -121,7 +121,7 @@ impl Status {
         unsafe { sys::aes3_status_check_byte(self.bytes.as_ptr()) }
     }
 
-    /// How it stands to its check byte.
+    /// Whether its check byte is right, wrong or absent.
     pub fn check(&self) -> Check {
         // SAFETY: the bytes are 24.
         match unsafe { sys::aes3_status_check_state(self.bytes.as_ptr()) } {

@@ -157,13 +157,13 @@ impl Watch {
         tell_all(|events| unsafe { sys::aes3_watch_report(&mut self.state, &told, events) }, tell);
     }
 
-    /// Gives `tell` the loss that stands whatever follows the `seen` cells, all of whose reports were told, if there is one.
+    /// Gives `tell` the loss that no cell after the `seen` ones changes, if there is one. All reports on these were given.
     pub fn passed(&mut self, seen: u64, tell: impl FnMut(Event)) {
         // SAFETY: the state was made by aes3_watch_init, and the events are another place.
         tell_all(|events| unsafe { sys::aes3_watch_passed(&mut self.state, seen, events) }, tell);
     }
 
-    /// Gives `tell` the events of the end of the `seen` cells, all of whose reports were told.
+    /// Gives `tell` the events of the end of the `seen` cells. All reports on them were given.
     pub fn end(&self, seen: u64, tell: impl FnMut(Event)) {
         // SAFETY: the state was made by aes3_watch_init, and the events are another place.
         tell_all(|events| unsafe { sys::aes3_watch_end(&self.state, seen, events) }, tell);
