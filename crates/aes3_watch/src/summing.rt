@@ -47,7 +47,8 @@ pub fn changes_in(events: &[Event]) -> u64
 {
     let mut found = 0;
     for event in events {
-        found += change_of(event);
+        let change = change_of(event);
+        found += change;
     }
     found
 }

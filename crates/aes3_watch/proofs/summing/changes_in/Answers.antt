@@ -11,11 +11,11 @@ pub loop-event-preserved : goal.loop-event-preserved
 unfolding changes_in
 loop-event-preserved c =
     let l = c.loop-event in
-    let f = c.change_of-found.ensures.one in
+    let f = c.change_of-change.ensures.one in
     let g = l.invariant.few in
     let events = c.args.events.now in
     let i = l.event-index in
-    let more : l.found + c.change_of-found.result ≡ changes_in (take (i + 1) events) =
-    ap₂ (λ x y. x + y) l.invariant.sum c.change_of-found.ensures.change
+    let more : l.found + c.change_of-change.result ≡ changes_in (take (i + 1) events) =
+    ap₂ (λ x y. x + y) l.invariant.sum c.change_of-change.ensures.change
     ∙ sym (sum_by_more change_of events i _ (omega arith)) in
     record { sum = omega (arith, more); few = omega arith }
