@@ -5,7 +5,7 @@ use Rattle.std.specs.List.{list_any}
 use Rattle.std.specs.Str.{bytes_eq}
 use Rattle.aes3_cell.specs.Ends.{Grew}
 use Rattle.aes3_cli_jobs.specs.Refusals.{number_of_refusal}
-use Rattle.aes3_cli_jobs.specs.declared.job_refusal.Refusal.{Refusal}
+use Rattle.aes3_cli_jobs.specs.declared.wave_refusal.Refusal.{Refusal}
 use Rattle.aes3_cli_arguments.specs.Explained.{advice_of}
 use Rattle.aes3_cli_hints.specs.declared.hints.Terminals.{Terminals}
 use Rattle.aes3_cli_jobs.specs.Forms.{writes_packed}

@@ -1,7 +1,7 @@
 -- What an observer has heard of a run, and whether it speaks to a person at a terminal.
 use Rattle.std.specs.Prelude.{Bool, Option, Some}
 use Rattle.aes3_cli_jobs.specs.declared.job.Job.{Job}
-use Rattle.aes3_cli_jobs.specs.declared.job_refusal.Refusal.{Refusal}
+use Rattle.aes3_cli_jobs.specs.declared.wave_refusal.Refusal.{Refusal}
 
 -- the job that has begun, and what was refused
 pub record Hearing : Type 0 where

@@ -1,8 +1,8 @@
 -- The number of each refusal of a command line or its job, as the program prints it, and its place.
 use Rattle.std.specs.Prelude.{ℕ, Option, Some}
 use Rattle.aes3_cell.specs.Refusals.{number_of, place_of}
-use Rattle.aes3_cli_jobs.specs.declared.job_refusal.Refusal.{Refusal}
-use Rattle.aes3_cli_jobs.specs.declared.job_refusal.Refusal.TheVariants.{Run, Header, NoChannel}
+use Rattle.aes3_cli_jobs.specs.declared.wave_refusal.Refusal.{Refusal}
+use Rattle.aes3_cli_jobs.specs.declared.wave_refusal.Refusal.TheVariants.{Run, Header, NoChannel}
 
 -- those of a run have its numbers, and a WAV file the two after them
 abbrev pub number_of_refusal : Refusal → ℕ

@@ -3,14 +3,14 @@
 
 /// The jobs.
 mod job;
-/// Why a job is rejected: the refusals of runs, 1 to 13, and those of WAV files, 14 and 15.
-mod job_refusal;
 /// Observers of a job.
 mod observer;
+/// Why a job is rejected: the refusals of runs, 1 to 13, and those of WAV files, 14 and 15.
+mod wave_refusal;
 /// What is done with the cells that a job reads.
 mod work;
 
 pub use job::Job;
-pub use job_refusal::Refusal;
 pub use observer::{Nobody, Observer};
+pub use wave_refusal::Refusal;
 pub use work::{ReadWork, StreamWork};

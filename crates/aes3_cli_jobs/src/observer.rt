@@ -4,7 +4,7 @@ ghost use Rattle.std.specs.Prelude.{◌≡◌, List, ℕ, Option, Bool, Some, �
 ghost use Rattle.aes3_cli_jobs.specs.Hearing.{Hearing, with_job, with_refusal};
 
 use crate::job::Job;
-use crate::job_refusal::Refusal;
+use crate::wave_refusal::Refusal;
 
 /// Observes how a run proceeds. It has neither the input nor the output, and the run writes its
 /// lines to standard error itself.

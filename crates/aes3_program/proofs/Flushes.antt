@@ -10,8 +10,8 @@ use Rattle.aes3_cli_jobs.specs.declared.job.Job.{Job}
 use Rattle.aes3_cli_jobs.specs.declared.job.Job.TheVariants as job
 use Rattle.aes3_cli_jobs.specs.declared.work.ReadWork.{ReadWork}
 use Rattle.aes3_cli_jobs.specs.declared.work.StreamWork.{StreamWork}
-use Rattle.aes3_cli_jobs.specs.declared.job_refusal.Refusal.{Refusal}
-use Rattle.aes3_cli_jobs.specs.declared.job_refusal.Refusal.TheVariants.{Run}
+use Rattle.aes3_cli_jobs.specs.declared.wave_refusal.Refusal.{Refusal}
+use Rattle.aes3_cli_jobs.specs.declared.wave_refusal.Refusal.TheVariants.{Run}
 use Rattle.aes3_wave_runs.specs.FromWav.{WaveRan, promise_for}
 use Rattle.aes3_wave_runs.specs.Wave.{limit_of}
 use Rattle.aes3_wave_runs.specs.declared.wave_error.WaveError.{WaveError}

@@ -2,7 +2,7 @@
 use Rattle.std.specs.Option.{option_or}
 use Rattle.std.specs.Prelude.{ℕ, List, Option, Some, None, Result, Ok, Err, IsTrue, is_some, ◌≡◌, ◌≢◌, ◌+◌, ◌≤◌}
 use Rattle.aes3_cell.specs.declared.ends.Sink.{Ghosts as SinkMembers}
-use Rattle.aes3_cli_jobs.specs.declared.job_refusal.Refusal.{Refusal}
+use Rattle.aes3_cli_jobs.specs.declared.wave_refusal.Refusal.{Refusal}
 use Rattle.aes3_input.specs.Running.{Movement}
 use Rattle.aes3_cli_arguments.specs.declared.command_job.LineFault.{LineFault}
 use Rattle.aes3_cli_arguments.specs.declared.command_line.CommandLine.{CommandLine}

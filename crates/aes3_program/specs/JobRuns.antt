@@ -54,8 +54,8 @@ use Rattle.aes3_cli_jobs.specs.declared.work.ReadWork.{ReadWork}
 use Rattle.aes3_cli_jobs.specs.declared.work.ReadWork.TheVariants.{Decode, Check, Account, Watch, WatchSums, Info, Show}
 use Rattle.aes3_cli_jobs.specs.declared.work.ReadWork.TheVariants.{ShowChanges, Scan, ToPcm, ToExactPcm, ToFilledPcm, ToBits}
 use Rattle.aes3_cli_jobs.specs.declared.work.ReadWork.TheVariants.{ToWav, ToExactWav, ToFilledWav}
-use Rattle.aes3_cli_jobs.specs.declared.job_refusal.Refusal.{Refusal}
-use Rattle.aes3_cli_jobs.specs.declared.job_refusal.Refusal.TheVariants.{Run}
+use Rattle.aes3_cli_jobs.specs.declared.wave_refusal.Refusal.{Refusal}
+use Rattle.aes3_cli_jobs.specs.declared.wave_refusal.Refusal.TheVariants.{Run}
 use Rattle.aes3_cli_jobs.specs.declared.work.StreamWork.{StreamWork}
 use Rattle.aes3_cli_jobs.specs.declared.work.StreamWork.TheVariants.{Normal, Cut, Rewrite}
 use Rattle.aes3_program.specs.declared.outcome.Outcome.{Outcome}

@@ -10,7 +10,7 @@ use Rattle.aes3_cell_octets.specs.Told.{all_reversed, only, raw_told, reversed_t
 use Rattle.aes3_status_text.specs.declared.typed_settings.TypedSettings.{TypedSettings}
 use Rattle.aes3_cli_jobs.specs.Forms.{reads_packed, writes_packed}
 use Rattle.aes3_cli_jobs.specs.declared.job.Job.{Job}
-use Rattle.aes3_cli_jobs.specs.declared.job_refusal.Refusal.TheVariants.{Run}
+use Rattle.aes3_cli_jobs.specs.declared.wave_refusal.Refusal.TheVariants.{Run}
 use Rattle.aes3_cli_arguments.specs.declared.layout.Octets.{Octets}
 use Rattle.aes3_program.specs.JobRuns.{IsTold, JobRan, written_whole}
 use Rattle.aes3_program.specs.Streams.{Streams}

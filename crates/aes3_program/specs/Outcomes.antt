@@ -6,8 +6,8 @@ use Rattle.aes3_cell.specs.declared.counts.Counts.{Counts}
 use Rattle.aes3_cell.specs.declared.refusal.RunError.{RunError}
 use Rattle.aes3_cell.specs.Ends.{Grew}
 use Rattle.aes3_input.specs.Running.{Movement, Promise, Quiet}
-use Rattle.aes3_cli_jobs.specs.declared.job_refusal.Refusal.{Refusal}
-use Rattle.aes3_cli_jobs.specs.declared.job_refusal.Refusal.TheVariants as job_error
+use Rattle.aes3_cli_jobs.specs.declared.wave_refusal.Refusal.{Refusal}
+use Rattle.aes3_cli_jobs.specs.declared.wave_refusal.Refusal.TheVariants as job_error
 use Rattle.aes3_wave_runs.specs.FromWav.{or_status}
 use Rattle.aes3_wave_runs.specs.Status.{lacks_rate, lacks_width, status_for}
 use Rattle.aes3_wave_runs.specs.declared.wave_error.WaveError.{WaveError}

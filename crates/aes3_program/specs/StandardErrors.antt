@@ -2,7 +2,7 @@
 use Rattle.std.specs.Option.{is_some}
 use Rattle.std.specs.Prelude.{ℕ, [], Bool, true, false, Result, Ok, Err, IsFalse, not, ◌||◌, ◌≡◌, ◌≤◌}
 use Rattle.aes3_cell.specs.Ends.{Grew}
-use Rattle.aes3_cli_jobs.specs.declared.job_refusal.Refusal.{Refusal}
+use Rattle.aes3_cli_jobs.specs.declared.wave_refusal.Refusal.{Refusal}
 use Rattle.aes3_input.specs.Running.{Movement, Quiet}
 use Rattle.aes3_cli_arguments.specs.declared.command_job.LineFault.{LineFault}
 use Rattle.aes3_cli_arguments.specs.declared.command_job.LineFault.TheVariants.{Usage, Help, Refused}

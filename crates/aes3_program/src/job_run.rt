@@ -3,7 +3,7 @@
 ghost use Rattle.std.specs.Prelude.{◌≡◌, ◌≢◌, ◌<◌, ◌≤◌, ◌+◌, ◌^◌, IfOk, None, Some};
 ghost use Rattle.aes3_cell.specs.declared.refusal.RunError.TheVariants.{Write};
 ghost use Rattle.aes3_input.specs.Running.{movement_of};
-ghost use Rattle.aes3_cli_jobs.specs.declared.job_refusal.Refusal.TheVariants.{Run};
+ghost use Rattle.aes3_cli_jobs.specs.declared.wave_refusal.Refusal.TheVariants.{Run};
 ghost use Rattle.aes3_cli_jobs.specs.declared.work.ReadWork.TheVariants.{ToPcm, ToWav};
 ghost use Rattle.aes3_cli_jobs.specs.declared.work.StreamWork.TheVariants.{Rewrite};
 ghost use Rattle.aes3_program.specs.Asides.{AsideOfRun};

@@ -6,7 +6,7 @@ use Rattle.aes3_cli_arguments.specs.declared.command_job.LineFault.{LineFault}
 use Rattle.aes3_cli_arguments.specs.declared.command_line.CommandLine.{CommandLine}
 use Rattle.aes3_cli_jobs.specs.declared.job.Job.{Job}
 use Rattle.aes3_cli_jobs.specs.Refusals.{number_of_refusal}
-use Rattle.aes3_cli_jobs.specs.declared.job_refusal.Refusal.{Refusal}
+use Rattle.aes3_cli_jobs.specs.declared.wave_refusal.Refusal.{Refusal}
 use Rattle.aes3_cli_arguments.specs.Explained.{advice_of}
 use Rattle.aes3_cli_hints.specs.Sentences.{Explained, ExplainedBy}
 use Rattle.aes3_program.specs.Asides.{RefusedAt, job_of}

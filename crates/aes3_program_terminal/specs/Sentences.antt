@@ -1,6 +1,6 @@
 -- What a terminal gets of a refusal.
 use Rattle.std.specs.Prelude.{ℕ, List, Option}
-use Rattle.aes3_cli_jobs.specs.declared.job_refusal.Refusal.{Refusal}
+use Rattle.aes3_cli_jobs.specs.declared.wave_refusal.Refusal.{Refusal}
 use Rattle.aes3_input.specs.Running.{Movement}
 use Rattle.aes3_program.specs.JobRuns.{IsTold}
 use Rattle.aes3_cli_hints.specs.Sentences.{Explained}
