@@ -3,7 +3,7 @@ use Rattle.std.specs.Prelude.{ℕ, List, [], ◌∷◌, ◌≡◌, false, true}
 use Rattle.aes3_status.specs.Settings.{set_all}
 use Rattle.aes3_status.specs.TakingAll.{takes_all}
 use Rattle.aes3_status.specs.declared.setting.Settings.{Settings}
-use Rattle.aes3_status_text.specs.Settings.{AreSettingsOf}
+use Rattle.aes3_status.specs.NamedSettings.{AreSettingsOf}
 
 -- a status took what the text sets
 pub record WasSet (text old new : List ℕ) : Type 0 where

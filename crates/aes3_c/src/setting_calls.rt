@@ -2,11 +2,10 @@
 
 ghost use Rattle.std.specs.Prelude.{◌≡◌, ◌≢◌, ◌≤◌};
 ghost use Rattle.std.specs.Str.{IsUtf8};
-ghost use Rattle.aes3_status_text.specs.Settings.{IsUnknown};
+ghost use Rattle.aes3_status.specs.NamedSettings.{IsUnknown};
 ghost use Rattle.aes3_c.specs.Setting.{IsRefused, WasSet};
 
-use aes3_status::{set_fields, takes_all};
-use aes3_status_text::settings_of_texts;
+use aes3_status::{set_fields, settings_of_texts, takes_all};
 
 /// The status has the field.
 const DONE: u8 = 0;

@@ -1,9 +1,9 @@
 //! Channel status as text.
 
 ghost use Rattle.std.specs.Prelude.{◌≡◌, ◌≤◌, drop, take};
-ghost use Rattle.aes3_status_text.specs.StatusTexts.{status_text};
+ghost use Rattle.aes3_status.specs.StatusTexts.{status_text};
 
-use aes3_status_text::{Line, STATUS_LEN, put_status};
+use aes3_status::{Line, STATUS_LEN, put_status};
 
 /// Puts the use and the fields of a channel status as `aes3 show` prints them (AES3-2, IEC
 /// 60958-3), each with a space before it. Returns how many bytes it put.

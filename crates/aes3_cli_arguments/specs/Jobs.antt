@@ -28,19 +28,19 @@ use Rattle.aes3_status.specs.declared.change.Change.{Change}
 use Rattle.aes3_status.specs.declared.setting.Settings.{Settings}
 use Rattle.aes3_status.specs.Settings.{set_all}
 use Rattle.aes3_status.specs.TakingAll.{takes_all}
-use Rattle.aes3_status_text.specs.Choices.{choices}
-use Rattle.aes3_status_text.specs.Settings.{AreSettingsOf, IsSettingsFault}
-use Rattle.aes3_status_text.specs.Untaken.{texts_of}
-use Rattle.aes3_status_text.specs.declared.typed_settings.TypedSettings.{TypedSettings}
-use Rattle.aes3_status_text.specs.declared.listed.SettingsFault.{SettingsFault}
-use Rattle.aes3_status_text.specs.declared.listed.SettingsFault.TheVariants.{Unknown, TooMany}
-use Rattle.aes3_status_text.specs.declared.detail.Detail.{Detail}
-use Rattle.aes3_status_text.specs.declared.detail.Detail.TheVariants.{Plain, Place, Carried, Names}
-use Rattle.aes3_status_text.specs.declared.lines.Lines.{Lines}
-use Rattle.aes3_status_text.specs.declared.lines.Lines.TheVariants as lines
-use Rattle.aes3_status_text.specs.declared.style.Notation.{Notation}
-use Rattle.aes3_status_text.specs.declared.style.Notation.TheVariants as notation
-use Rattle.aes3_status_text.specs.declared.style.Style.{Style}
+use Rattle.aes3_status.specs.Choices.{choices}
+use Rattle.aes3_status.specs.NamedSettings.{AreSettingsOf, IsSettingsFault}
+use Rattle.aes3_status.specs.Untaken.{texts_of}
+use Rattle.aes3_status.specs.declared.typed_settings.TypedSettings.{TypedSettings}
+use Rattle.aes3_status.specs.declared.listed_settings.SettingsFault.{SettingsFault}
+use Rattle.aes3_status.specs.declared.listed_settings.SettingsFault.TheVariants.{Unknown, TooMany}
+use Rattle.aes3_status.specs.declared.detail.Detail.{Detail}
+use Rattle.aes3_status.specs.declared.detail.Detail.TheVariants.{Plain, Place, Carried, Names}
+use Rattle.aes3_status.specs.declared.lines.Lines.{Lines}
+use Rattle.aes3_status.specs.declared.lines.Lines.TheVariants as lines
+use Rattle.aes3_status.specs.declared.style.Notation.{Notation}
+use Rattle.aes3_status.specs.declared.style.Notation.TheVariants as notation
+use Rattle.aes3_status.specs.declared.style.Style.{Style}
 use Rattle.aes3_forms_samples.specs.declared.sample_format.SampleFormat.{SampleFormat}
 use Rattle.aes3_forms_samples.specs.declared.sample_format.SampleFormat.TheVariants as format
 use Rattle.aes3_wave.specs.declared.channels.Channels.{Channels}

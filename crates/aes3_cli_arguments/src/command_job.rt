@@ -28,8 +28,7 @@ use crate::words::words;
 use aes3_cell::{Form, RunError};
 use aes3_cli::help;
 use aes3_cli_jobs::{Job, ReadWork, StreamWork};
-use aes3_status::{Change, Settings, takes_all};
-use aes3_status_text::{Lines, SettingsFault, settings_of_texts};
+use aes3_status::{Change, Lines, Settings, SettingsFault, settings_of_texts, takes_all};
 use clap::ArgMatches;
 use std::alloc::{AllocError, Global};
 

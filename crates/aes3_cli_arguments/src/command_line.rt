@@ -19,7 +19,7 @@ use aes3_cell::RunError;
 use aes3_cli::wording::{own_text, usage_of};
 use aes3_cli::{command_line, file_of_options, output_of_options};
 use aes3_cli_jobs::Job;
-use aes3_status_text::TypedSettings;
+use aes3_status::TypedSettings;
 use clap::error::ErrorKind;
 use clap::{ArgMatches, Error};
 use std::alloc::Global;

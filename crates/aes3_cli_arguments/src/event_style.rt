@@ -3,7 +3,7 @@
 ghost use Rattle.std.specs.Prelude.{◌≡◌, codes};
 ghost use Rattle.aes3_cli_arguments.specs.Jobs.{MayBeFlag, MayBeRate, notation_by, options_of, rate_by, style_by};
 
-use aes3_status_text::{Notation, Style};
+use aes3_status::{Notation, Style};
 use clap::ArgMatches;
 
 /// Words or JSON objects.

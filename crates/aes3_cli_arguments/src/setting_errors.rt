@@ -4,7 +4,7 @@ ghost use Rattle.std.specs.Prelude.{◌≡◌, ◌++◌, [], IfOk, get_or, map};
 ghost use Rattle.aes3_cli_arguments.specs.Jobs.{fault_text, invalid_text, many_text, option_text, refused_text};
 ghost use Rattle.aes3_cli_arguments.specs.Jobs.{value_text};
 
-use aes3_status_text::{SettingsFault, add_choices};
+use aes3_status::{SettingsFault, add_choices};
 use std::alloc::{AllocError, Global};
 
 /// The text of this number, from 0; empty if there is none.

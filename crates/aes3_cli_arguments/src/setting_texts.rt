@@ -4,7 +4,7 @@ ghost use Rattle.std.specs.Prelude.{◌≡◌, IfOk, map};
 ghost use Rattle.aes3_cli_arguments.specs.Jobs.{AreTyped, options_of, texts_for};
 
 use crate::frequency::rate_setting;
-use aes3_status_text::TypedSettings;
+use aes3_status::TypedSettings;
 use clap::ArgMatches;
 use std::alloc::{AllocError, Global};
 

@@ -5,7 +5,7 @@ ghost use Rattle.aes3_cli_arguments.specs.Jobs.{AreTaken, AsksToRead, detail_by,
 
 use crate::value::flag;
 use aes3_cli_jobs::ReadWork;
-use aes3_status_text::Detail;
+use aes3_status::Detail;
 use clap::ArgMatches;
 
 /// What `show` does, with its options.

@@ -6,8 +6,7 @@ ghost use Rattle.aes3_cli_jobs.specs.Forms.{read_finds_faults, wave_depth};
 use aes3_forms_samples::SampleFormat;
 use aes3_forms_words::Words;
 use aes3_frame::{CarriedBits, Channel, Fill};
-use aes3_status::Change;
-use aes3_status_text::{Detail, Lines, Notation, Style};
+use aes3_status::{Change, Detail, Lines, Notation, Style};
 use aes3_wave::Depth;
 
 /// Which blocks are written as a normal stream, and how they are changed.

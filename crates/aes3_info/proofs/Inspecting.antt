@@ -16,7 +16,7 @@ use Rattle.aes3_input.specs.Driving.{counted_cells}
 use Rattle.aes3_input.proofs.CellRuns.{cells-give}
 use Rattle.aes3_input.proofs.InputRuns.{Gives}
 use Rattle.aes3_lock_runs.specs.ReportRuns.{counts_of, heard_cells}
-use Rattle.aes3_status_text.specs.declared.style.Notation.{Notation}
+use Rattle.aes3_status.specs.declared.style.Notation.{Notation}
 use Rattle.aes3_info.specs.declared.facts.Facts.{Facts}
 use Rattle.aes3_info.specs.declared.gaps.GapFacts.{GapFacts}
 use Rattle.aes3_info.specs.Facts.{both_gaps, channel_facts, facts_of, facts_with, gap_facts, report_facts, with_report}

@@ -10,7 +10,7 @@ use Rattle.aes3_lock.specs.Reports.{decided}
 use Rattle.aes3_lock_gaps.specs.Gaps.{account_from, reached_from}
 use Rattle.aes3_input.specs.Taking.{Writing}
 use Rattle.aes3_input.specs.Inputs.{cells_of}
-use Rattle.aes3_status_text.specs.declared.style.Notation.{Notation}
+use Rattle.aes3_status.specs.declared.style.Notation.{Notation}
 use Rattle.aes3_info.specs.declared.facts.Facts.{Facts}
 use Rattle.aes3_info.specs.Facts.{facts_of, facts_with, more, with_block}
 use Rattle.aes3_info.specs.Pages.{page}

@@ -6,9 +6,9 @@ use Rattle.aes3_frame.specs.declared.block.Channel.{Channel}
 use Rattle.aes3_frame.specs.declared.block.Channel.TheVariants.{First, Second}
 use Rattle.aes3_text_lines.specs.Events.{second_cells, seconds}
 use Rattle.aes3_text_lines.specs.StatusLines.{channel_digit}
-use Rattle.aes3_status_text.specs.StatusTexts.{status_text}
-use Rattle.aes3_status_text.specs.declared.style.Notation.{Notation}
-use Rattle.aes3_status_text.specs.declared.style.Notation.TheVariants.{Words, Json}
+use Rattle.aes3_status.specs.StatusTexts.{status_text}
+use Rattle.aes3_status.specs.declared.style.Notation.{Notation}
+use Rattle.aes3_status.specs.declared.style.Notation.TheVariants.{Words, Json}
 use Rattle.aes3_info.specs.declared.channel_facts.ChannelFacts.{ChannelFacts}
 use Rattle.aes3_info.specs.declared.facts.Facts.{Facts}
 use Rattle.aes3_info.specs.Facts.{square}

@@ -25,7 +25,7 @@ use aes3_cell::{Counts, Fault, Form, RunError, Sink, Source};
 use aes3_frame::BLOCK_CELLS;
 use aes3_lock::{Ending, Lock};
 use aes3_lock_runs::{Listener, run_cells};
-use aes3_status_text::Notation;
+use aes3_status::Notation;
 
 /// What is known of a recording after some cells.
 #[derive(Drop)]

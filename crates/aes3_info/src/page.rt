@@ -19,7 +19,7 @@ use crate::samples::square;
 use aes3_block::Channel;
 use aes3_cell::{Fault, Sink, write_all};
 use aes3_frame::FRAMES;
-use aes3_status_text::{LINE_LEN, Line, Notation, put_status};
+use aes3_status::{LINE_LEN, Line, Notation, put_status};
 
 /// How many bytes the name of a field has at most.
 const NAME_LEN: usize = 12;

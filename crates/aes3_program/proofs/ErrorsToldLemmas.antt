@@ -32,8 +32,8 @@ use Rattle.aes3_forms_words.specs.declared.alsa_am824.Words.TheVariants.{Own, Al
 use Rattle.aes3_engine.specs.RewritingRuns.{taken_of}
 use Rattle.aes3_engine.proofs.WordRuns.{none-left-out}
 use Rattle.std.specs.Option.{is_some, option_map_or}
-use Rattle.aes3_status_text.specs.Untaken.{texts_of, untaken_lines}
-use Rattle.aes3_status_text.specs.declared.typed_settings.TypedSettings.{TypedSettings}
+use Rattle.aes3_status.specs.Untaken.{texts_of, untaken_lines}
+use Rattle.aes3_status.specs.declared.typed_settings.TypedSettings.{TypedSettings}
 use Rattle.aes3_program.specs.Lines.{met_lines, remark_line}
 use Rattle.aes3_program.specs.Outcomes.{RemarkTold, met_by, sample_status}
 use Rattle.aes3_program.specs.JobRuns.{AnswerTold, Answered, JobRan, RanAs, encode_promise, end_status, read_promise}

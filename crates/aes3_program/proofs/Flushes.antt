@@ -23,8 +23,8 @@ use Rattle.aes3_wave.specs.declared.channels.Mono.{Mono}
 use Rattle.aes3_status.specs.declared.change.Change.{Change}
 use Rattle.aes3_forms_words.specs.declared.alsa_am824.Words.{Words}
 use Rattle.aes3_cell.specs.declared.form.Form.{Form}
-use Rattle.aes3_status_text.specs.declared.style.Style.{Style}
-use Rattle.aes3_status_text.specs.declared.typed_settings.TypedSettings.{TypedSettings}
+use Rattle.aes3_status.specs.declared.style.Style.{Style}
+use Rattle.aes3_status.specs.declared.typed_settings.TypedSettings.{TypedSettings}
 use Rattle.aes3_watch.specs.Sums.{begun_sums, sum_lines}
 use Rattle.aes3_watch.specs.Watching.{watch_counts}
 use Rattle.aes3_input.specs.Driving.{counted_cells}

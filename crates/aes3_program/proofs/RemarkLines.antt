@@ -9,7 +9,7 @@ use Rattle.aes3_cell.proofs.Growing.{grew-is}
 use Rattle.aes3_input.specs.Running.{Movement}
 use Rattle.aes3_status.specs.declared.setting.Settings.{Settings}
 use Rattle.aes3_status.specs.declared.taken.Taken.{Taken}
-use Rattle.aes3_status_text.specs.Untaken.{told_line, untaken_line, untaken_lines}
+use Rattle.aes3_status.specs.Untaken.{told_line, untaken_line, untaken_lines}
 use Rattle.aes3_program.specs.Outcomes.{RemarkTold}
 
 -- a line is its front and the rest

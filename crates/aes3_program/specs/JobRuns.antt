@@ -46,7 +46,7 @@ use Rattle.aes3_forms_words.specs.declared.alsa_am824.Words.{Words}
 use Rattle.aes3_watch.specs.Sums.{begun_sums, sum_lines}
 use Rattle.aes3_watch.specs.Watching.{begun_watch, watch_counts, watch_lines}
 use Rattle.aes3_info.specs.Infos.{info_counts, info_page, no_page}
-use Rattle.aes3_status_text.specs.declared.typed_settings.TypedSettings.{TypedSettings}
+use Rattle.aes3_status.specs.declared.typed_settings.TypedSettings.{TypedSettings}
 use Rattle.aes3_cli_jobs.specs.Forms.{finds_faults}
 use Rattle.aes3_cli_jobs.specs.declared.job.Job.{Job}
 use Rattle.aes3_cli_jobs.specs.declared.job.Job.TheVariants.{Encode, Stream, Read, FromPcm, FromWav}

@@ -5,14 +5,14 @@ use Rattle.aes3_cell.specs.declared.refusal.RunError.TheVariants as refusal
 use Rattle.aes3_cli_jobs.specs.Refusals.{number_of_refusal, place_of_refusal}
 use Rattle.aes3_cli_jobs.specs.declared.wave_refusal.Refusal.{Refusal}
 use Rattle.aes3_cli_jobs.specs.declared.wave_refusal.Refusal.TheVariants.{Run}
-use Rattle.aes3_status_text.specs.Refusals.{refusal_text}
+use Rattle.aes3_status.specs.Refusals.{refusal_text}
 use Rattle.aes3_program.specs.declared.outcome.Remark.{Remark}
 use Rattle.aes3_program.specs.declared.outcome.Remark.TheVariants.{Nothing, Filled, LeftOut, Settings, Inexact}
 use Rattle.aes3_program.specs.declared.outcome.Remark.TheVariants.{UsualRate, FilledAtUsualRate, Wave}
 use Rattle.aes3_program.specs.declared.outcome.UnsaidFormat.{UnsaidFormat}
 use Rattle.aes3_program.specs.declared.outcome.Met.{Met}
-use Rattle.aes3_status_text.specs.Untaken.{texts_of, untaken_lines}
-use Rattle.aes3_status_text.specs.declared.typed_settings.TypedSettings.{TypedSettings}
+use Rattle.aes3_status.specs.Untaken.{texts_of, untaken_lines}
+use Rattle.aes3_status.specs.declared.typed_settings.TypedSettings.{TypedSettings}
 
 -- `aes3: refused <number>`, the place and a line feed
 abbrev pub refusal_line : Refusal → List ℕ

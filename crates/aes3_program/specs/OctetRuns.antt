@@ -7,7 +7,7 @@ use Rattle.aes3_cell.specs.declared.refusal.RunError.TheVariants.{Read, Write}
 use Rattle.aes3_input.specs.Running.{Movement, Quiet, Failed}
 use Rattle.aes3_cell_octets.specs.Octets.{PacksReversed, reversed}
 use Rattle.aes3_cell_octets.specs.Told.{all_reversed, only, raw_told, reversed_told}
-use Rattle.aes3_status_text.specs.declared.typed_settings.TypedSettings.{TypedSettings}
+use Rattle.aes3_status.specs.declared.typed_settings.TypedSettings.{TypedSettings}
 use Rattle.aes3_cli_jobs.specs.Forms.{reads_packed, writes_packed}
 use Rattle.aes3_cli_jobs.specs.declared.job.Job.{Job}
 use Rattle.aes3_cli_jobs.specs.declared.wave_refusal.Refusal.TheVariants.{Run}

@@ -7,7 +7,7 @@ use Rattle.aes3_input.specs.Running.{Movement, Quiet}
 use Rattle.aes3_cli_arguments.specs.declared.command_job.LineFault.{LineFault}
 use Rattle.aes3_cli_arguments.specs.declared.command_job.LineFault.TheVariants.{Usage, Help, Refused}
 use Rattle.aes3_cli_arguments.specs.declared.command_line.CommandLine.{CommandLine}
-use Rattle.aes3_status_text.specs.declared.typed_settings.TypedSettings.{TypedSettings}
+use Rattle.aes3_status.specs.declared.typed_settings.TypedSettings.{TypedSettings}
 use Rattle.aes3_cli_jobs.specs.declared.job.Job.{Job}
 use Rattle.aes3_cli_jobs.specs.declared.job.Job.TheVariants.{Encode, Stream, Read, FromPcm, FromWav}
 use Rattle.aes3_cli_jobs.specs.declared.work.ReadWork.{ReadWork}

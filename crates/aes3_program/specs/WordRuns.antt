@@ -3,7 +3,7 @@ use Rattle.std.specs.Prelude.{ℕ, List, [], Result, Ok, Err, ◌≡◌, ◌⊎�
 use Rattle.aes3_cell.specs.Ends.{Grew}
 use Rattle.aes3_cell.specs.declared.refusal.RunError.TheVariants.{Memory, Write}
 use Rattle.aes3_input.specs.Running.{Movement, Quiet, Failed}
-use Rattle.aes3_status_text.specs.declared.typed_settings.TypedSettings.{TypedSettings}
+use Rattle.aes3_status.specs.declared.typed_settings.TypedSettings.{TypedSettings}
 use Rattle.aes3_cli_jobs.specs.declared.job.Job.{Job}
 use Rattle.aes3_cli_jobs.specs.declared.wave_refusal.Refusal.TheVariants.{Run}
 use Rattle.aes3_cli_arguments.specs.declared.command_job.LineFault.{LineFault}

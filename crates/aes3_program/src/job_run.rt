@@ -29,8 +29,7 @@ use aes3_engine::{
 };
 use aes3_forms_samples::SampleFormat;
 use aes3_info::info;
-use aes3_status::Change;
-use aes3_status_text::TypedSettings;
+use aes3_status::{Change, TypedSettings};
 use aes3_text::{check, scan, show_changes, show_detail};
 use aes3_watch::{account, watch, watch_sums};
 use aes3_wave::Depth;

@@ -14,7 +14,7 @@ mod refusal_line;
 mod remark;
 
 pub use aes3_cli::{DONE, REFUSED, USAGE, Unread};
-pub use aes3_status_text::TypedSettings;
+pub use aes3_status::TypedSettings;
 pub use job_run::{FAULTY, finish_job, run_job};
 pub use line_run::{Ran, outputs_can_be_reversed, run_line, run_octets, tell_unread};
 pub use outcome::{Met, Outcome, Remark};

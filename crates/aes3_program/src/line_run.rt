@@ -21,7 +21,7 @@ use aes3_cell_octets::{RawSource, ReversedSink, ReversedSource, first_octet};
 use aes3_cli::{DONE, USAGE, Unread, put_text};
 use aes3_cli_arguments::{CommandLine, LineFault, Octets};
 use aes3_cli_jobs::{Job, Observer, Refusal};
-use aes3_status_text::TypedSettings;
+use aes3_status::TypedSettings;
 
 /// The exit status of a run, and its source and sink.
 #[derive(Drop)]

@@ -9,7 +9,7 @@ ghost use Rattle.aes3_program.specs.Streams.{PassesOn};
 use aes3_cell::{Fault, Sink};
 use aes3_cli::REFUSED;
 use aes3_cli_jobs::{Observer, Refusal};
-use aes3_status_text::Line;
+use aes3_status::Line;
 
 /// Writes the line of an error as one buffer.
 ///

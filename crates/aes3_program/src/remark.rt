@@ -4,7 +4,7 @@ ghost use Rattle.std.specs.Prelude.{◌≡◌, ◌<◌, ◌≤◌, ◌+◌, ◌+
 ghost use Rattle.aes3_cell.specs.Writes.{Wrote};
 ghost use Rattle.aes3_program.specs.Asides.{AsideOfRun, ErrorsLeft};
 ghost use Rattle.aes3_program.specs.JobRuns.{end_status};
-ghost use Rattle.aes3_status_text.specs.Untaken.{texts_of, told_line, untaken_line, untaken_lines};
+ghost use Rattle.aes3_status.specs.Untaken.{texts_of, told_line, untaken_line, untaken_lines};
 ghost use Rattle.aes3_program.specs.Lines.{filled_line, left_out_line, met_lines, remark_line};
 ghost use Rattle.aes3_program.specs.Lines.{no_rate_line, no_width_line, unsaid_lines, unsaid_rate_line};
 ghost use Rattle.aes3_program.specs.Lines.{unsaid_width_line, usual_rate_line};
@@ -16,8 +16,7 @@ use crate::outcome::{Met, Outcome, Remark, UnsaidFormat};
 use crate::refusal_line::{put_refusal, refuse};
 use aes3_cell::{Fault, RunError, Sink, write_all};
 use aes3_cli_jobs::{Job, Observer, Refusal};
-use aes3_status::{Settings, Taken};
-use aes3_status_text::{Line, TEXTS, TypedSettings, untaken_remedy};
+use aes3_status::{Line, Settings, TEXTS, Taken, TypedSettings, untaken_remedy};
 
 /// The line of the number of filling frames.
 fn line_of_filled(frames: u64) -> Line

@@ -1,7 +1,7 @@
 -- The form of a recording whose page is asked for without an option that says it.
 use Rattle.std.specs.Prelude.{Bool, Result, Ok, Err, ◌≡◌, ◌⊎◌}
 use Rattle.aes3_cell.specs.declared.form.Form.TheVariants.{Text, Packed}
-use Rattle.aes3_status_text.specs.declared.style.Notation.{Notation}
+use Rattle.aes3_status.specs.declared.style.Notation.{Notation}
 use Rattle.aes3_cli_arguments.specs.declared.command_job.LineFault.{LineFault}
 use Rattle.aes3_cli_arguments.specs.declared.command_line.CommandLine.{CommandLine}
 use Rattle.aes3_cli_jobs.specs.declared.job.Job.TheVariants.{Read}

@@ -2,7 +2,7 @@
 use Rattle.std.specs.Prelude.{ℕ, List, [], ◌∷◌, ◌++◌, codes}
 use Rattle.aes3_cell.specs.declared.refusal.RunError.{RunError}
 use Rattle.aes3_cell.specs.Refusals.{number_of, place_of}
-use Rattle.aes3_status_text.specs.Refusals.{refusal_text}
+use Rattle.aes3_status.specs.Refusals.{refusal_text}
 
 -- `aes3-spoil: refused <number>`, the place and a line feed
 abbrev pub refusal_line : RunError → List ℕ

@@ -7,7 +7,7 @@ ghost use Rattle.aes3_spoil_runs.specs.Lines.{refusal_line};
 
 use aes3_cell::{Fault, RunError, Sink};
 use aes3_cli::REFUSED;
-use aes3_status_text::Line;
+use aes3_status::Line;
 
 /// Writes the line of an error as one buffer.
 ///

@@ -7,9 +7,16 @@ pub mod StatusKinds
 pub mod TakenKinds
 pub mod TakingAll
 pub mod FirstPlaces
-pub mod Untaken
+pub mod UntakenSettings
 pub mod Polynomials
 pub mod Weights
 pub mod ShiftRegister
 pub mod CheckBytes
 pub mod Flips
+pub mod Tables
+pub mod SettingTexts
+pub mod SettingLists
+pub mod SettingLines
+pub mod ChoiceTexts
+pub mod WideNumbers
+pub mod WideShown

@@ -1,5 +1,5 @@
 -- The bits of a channel status in order of transmission, and the numbers that they stand for.
-use Rattle.std.specs.Prelude.{ℕ, List, [], ◌∷◌, ◌++◌, Bool, length, take, drop, ◌+◌, ◌*◌, ◌%◌, ◌/◌, ◌==◌}
+use Rattle.std.specs.Prelude.{ℕ, List, [], ◌∷◌, ◌++◌, Bool, length, take, drop, ◌+◌, ◌*◌}
 use Rattle.aes3_bits.specs.Bits.{low_bits, number}
 use Rattle.aes3_status.specs.declared.field.Place.{Place}
 

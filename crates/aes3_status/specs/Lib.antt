@@ -11,3 +11,15 @@ pub mod KindPlaces
 pub mod Check
 pub mod Register
 pub mod Laws
+pub mod Refusals
+pub mod Words
+pub mod FieldTexts
+pub mod ProfessionalText
+pub mod ConsumerText
+pub mod Names
+pub mod WideTexts
+pub mod NamedSettings
+pub mod StatusTexts
+pub mod Choices
+pub mod WideShown
+pub mod Untaken

@@ -1,7 +1,8 @@
 -- Fields of channel status that get another code.
 use Rattle.std.specs.Prelude.{ℕ, List, Bool, true, not, Option, Some, None, get_or}
 use Rattle.std.specs.Prelude.{slice_set, fold, if◌then◌else◌}
-use Rattle.std.specs.Option.{option_map_or}
+use Rattle.std.specs.List.{list_any}
+use Rattle.std.specs.Option.{is_some, option_map_or}
 use Rattle.aes3_status.specs.declared.field.Place.{Place}
 use Rattle.aes3_status.specs.declared.field.ProField.{ProField}
 use Rattle.aes3_status.specs.declared.field.ProField.TheVariants as pro
@@ -17,6 +18,10 @@ use Rattle.aes3_status.specs.Statuses.{is_professional}
 use Rattle.aes3_status.specs.Professional as professional
 use Rattle.aes3_status.specs.Consumer as consumer
 use Rattle.aes3_status.specs.Wide.{set_wide}
+
+-- whether a setting has a code for some status
+abbrev pub has_any_code : Setting → Bool
+has_any_code setting = list_any is_some setting.codes
 
 -- these bits with the new ones in place of as many from place `at` on
 abbrev pub with_bits : ℕ → List Bool → List Bool → List Bool

@@ -1,19 +1,17 @@
 -- Whether statuses take all settings.
 use Rattle.std.specs.Prelude.{ℕ, List, [], ◌∷◌, Bool, false, not, ◌||◌, ◌&&◌, ◌*◌, ◌+◌, get_or, slice_get}
-use Rattle.std.specs.List.{list_all, list_any, range_with_len}
+use Rattle.std.specs.List.{list_all, range_with_len}
 use Rattle.std.specs.Option.{is_some, option_map_or}
 use Rattle.aes3_status.specs.declared.setting.Setting.{Setting}
 use Rattle.aes3_status.specs.declared.setting.Settings.{Settings}
 use Rattle.aes3_status.specs.declared.wide_field.WideSettings.{WideSettings}
 use Rattle.aes3_status.specs.declared.taken.Taken.{Taken}
+use Rattle.aes3_status.specs.Settings.{has_any_code}
 use Rattle.aes3_status.specs.Taken.{taken_by}
 
--- whether a setting has any code, whether setting `i` does, and whether a field of four bytes is given
-abbrev pub asks : Setting → Bool
-asks setting = list_any is_some setting.codes
-
+-- whether setting `i` has a code for some status, and whether a field of four bytes is given
 abbrev pub asks_at : List Setting → ℕ → Bool
-asks_at settings i = option_map_or asks (slice_get settings i) false
+asks_at settings i = option_map_or has_any_code (slice_get settings i) false
 
 abbrev pub asks_wide : WideSettings → Bool
 asks_wide wide = is_some wide.origin || is_some wide.destination || is_some wide.local || is_some wide.time

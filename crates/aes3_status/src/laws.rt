@@ -1,11 +1,15 @@
-//! Laws of the check byte and of setting fields, each the contract of a function.
+//! Laws of the check byte, of setting fields and of what is printed of them, each the contract of a
+//! function.
 
 ghost use Rattle.aes3_status.specs.Laws.{OneFlipIsFound, TwoFlipsAreFound, WeightsArePowers};
+ghost use Rattle.aes3_status.specs.NamedSettings.{LineShowsFields, OtherWordsStay};
 ghost use Rattle.aes3_status.specs.SettingLaws.{CodeIsReadBack, MeaningStays, OnlyItsBitsChange};
 ghost use Rattle.aes3_status.specs.SettingLaws.{OtherCodesStay, OtherFieldsStay, OtherMeaningsStay};
 ghost use Rattle.aes3_status.specs.SettingLaws.{SettingIsReadBack, UseStays};
+ghost use Rattle.aes3_status.specs.StatusTexts.{UseIsShown};
 ghost use Rattle.aes3_status.specs.Taken.{UntakenCanGo};
 ghost use Rattle.aes3_status.specs.Wide.{OtherBytesStay, WideIsReadBack};
+ghost use Rattle.aes3_status.specs.WideShown.{FullLabelsStay, LastTextCounts, WideIsShown, WideTextsAreFours};
 
 /// The check finds one or two inverted bits, wherever they are.
 pub fn flips_are_found()
@@ -54,4 +58,31 @@ pub fn wide_fields_are_read_back()
 /// status.
 pub fn untaken_settings_can_go()
     ensures { UntakenCanGo }
+{}
+
+/// The line of a channel status consists of what is printed for each field that can be set, in
+/// order, and for the other fields.
+pub fn line_shows_fields()
+    ensures { LineShowsFields }
+{}
+
+/// What is printed for a channel status begins with the word by which its use is set.
+pub fn use_is_shown()
+    ensures { UseIsShown }
+{}
+
+/// Setting a field by name leaves what is printed for every other field unchanged, unless the field
+/// determines what the other's codes mean.
+pub fn other_words_stay()
+    ensures { OtherWordsStay }
+{}
+
+/// A field of four bytes that a text sets is printed as that text, padded to four characters, with
+/// a `.` for each space. A number is printed as its decimal digits. Of several texts for a field
+/// the last counts.
+pub fn wide_texts_are_shown()
+    ensures four { WideTextsAreFours }
+    ensures last { LastTextCounts }
+    ensures shown { WideIsShown }
+    ensures full { FullLabelsStay }
 {}

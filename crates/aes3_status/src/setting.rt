@@ -23,11 +23,20 @@ pub struct Setting {
 }
 
 impl Setting {
+    ghost use Rattle.aes3_status.specs.Settings.{has_any_code};
+
     /// A setting that leaves every status unchanged.
     pub const NOTHING: Setting = Setting {
         field: Field::Consumer(ConField::Payload),
         codes: [None; 8],
     };
+
+    /// Whether it has a code for some status.
+    pub(crate) fn has_any_code(&self) -> bool
+        ensures { result ≡ has_any_code self.now }
+    {
+        self.codes.iter().any(Option::is_some)
+    }
 }
 
 /// The settings of a channel status: codes for fields within a byte, one after the other, and then

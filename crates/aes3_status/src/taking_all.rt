@@ -1,25 +1,12 @@
 //! Whether a status takes all settings.
 
 ghost use Rattle.std.specs.Prelude.{◌≡◌, ◌<◌};
-ghost use Rattle.aes3_status.specs.TakingAll.{asks, asks_wide, takes_all, text_taken, texts_taken};
+ghost use Rattle.aes3_status.specs.TakingAll.{asks_wide, takes_all, text_taken, texts_taken};
 
-use crate::setting::{Setting, Settings};
+use crate::listed_settings::TEXTS;
+use crate::setting::Settings;
 use crate::taken::Taken;
 use crate::wide_field::WideSettings;
-
-/// How many texts settings come from: each has two settings, one for either use.
-const TEXTS: usize = 32;
-
-/// Whether a setting has any code.
-fn asks(setting: &Setting) -> bool
-    ensures { result ≡ asks setting.now }
-{
-    let mut found = false;
-    for code in &setting.codes {
-        found |= code.is_some();
-    }
-    found
-}
 
 /// Whether a field of four bytes is set.
 fn asks_wide(wide: &WideSettings) -> bool
@@ -33,7 +20,8 @@ fn is_text_taken(settings: &Settings, taken: &Taken, text: usize) -> bool
     requires { text < 32 }
     ensures { result ≡ text_taken settings.now taken.now text }
 {
-    let either = asks(&settings.codes[2 * text]) | asks(&settings.codes[2 * text + 1]);
+    let either = settings.codes[2 * text].has_any_code()
+        | settings.codes[2 * text + 1].has_any_code();
     taken.codes[2 * text] | taken.codes[2 * text + 1] | !either
 }
 

@@ -4,7 +4,7 @@ use Rattle.aes3_level.specs.declared.level.Level.{Level}
 use Rattle.aes3_lock.specs.declared.report.Report.{Report}
 use Rattle.aes3_lock.specs.Reports.{reports, decided, wholes}
 use Rattle.aes3_lock_runs.specs.ReportRuns.{output_from, output}
-use Rattle.aes3_status_text.specs.declared.lines.Lines.{Lines}
+use Rattle.aes3_status.specs.declared.lines.Lines.{Lines}
 use Rattle.aes3_text_reports.specs.Lines.{told_line, report_lines}
 
 lines-from : (l : Lines) (n : ℕ) (r : List Report) → output_from (λ m. told_line l) n r ≡ report_lines l r

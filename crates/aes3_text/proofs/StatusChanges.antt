@@ -25,9 +25,9 @@ use Rattle.aes3_input.proofs.CellRuns.{cells-give}
 use Rattle.aes3_input.proofs.InputRuns.{Gives}
 use Rattle.aes3_lock_runs.specs.BlockRuns.{numbered}
 use Rattle.aes3_lock_runs.specs.ReportRuns.{counts_of, told_reports}
-use Rattle.aes3_status_text.specs.declared.detail.Detail.{Detail}
-use Rattle.aes3_status_text.specs.declared.detail.Detail.TheVariants.{Plain}
-use Rattle.aes3_status_text.specs.StatusTexts.{status_text}
+use Rattle.aes3_status.specs.declared.detail.Detail.{Detail}
+use Rattle.aes3_status.specs.declared.detail.Detail.TheVariants.{Plain}
+use Rattle.aes3_status.specs.StatusTexts.{status_text}
 use Rattle.aes3_text_lines.specs.StatusLines.{detail_text, head_text, status_line_with}
 use Rattle.aes3_text.specs.DetailLaws.{Behind}
 use Rattle.aes3_text.specs.Runs.{AreLast, block_changes, block_details, change_details, change_line}

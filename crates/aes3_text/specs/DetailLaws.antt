@@ -3,8 +3,8 @@ use Rattle.std.specs.Prelude.{ℕ, List, [], ◌∷◌, ◌++◌, Bool, ◌≡�
 use Rattle.aes3_frame.specs.declared.block.Channel.{Channel}
 use Rattle.aes3_lock.specs.declared.report.Report.{Report}
 use Rattle.aes3_lock.specs.Reports.{wholes}
-use Rattle.aes3_status_text.specs.declared.detail.Detail.{Detail}
-use Rattle.aes3_status_text.specs.declared.detail.Detail.TheVariants.{Plain}
+use Rattle.aes3_status.specs.declared.detail.Detail.{Detail}
+use Rattle.aes3_status.specs.declared.detail.Detail.TheVariants.{Plain}
 use Rattle.aes3_text_lines.specs.StatusLines.{detail_text}
 use Rattle.aes3_text.specs.Runs.{change_details, change_lines, channel_line, detail_line, detail_lines, status_lines}
 

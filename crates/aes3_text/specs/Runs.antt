@@ -12,7 +12,7 @@ use Rattle.aes3_lock.specs.declared.report.Report.TheVariants.{Whole, Marked, Fa
 use Rattle.aes3_lock.specs.Reports.{wholes}
 use Rattle.aes3_input.specs.Taking.{Writing}
 use Rattle.aes3_lock_runs.specs.BlockRuns.{numbered}
-use Rattle.aes3_status_text.specs.declared.detail.Detail.{Detail}
+use Rattle.aes3_status.specs.declared.detail.Detail.{Detail}
 use Rattle.aes3_text_lines.specs.StatusLines.{detail_text, status_line, status_line_with}
 
 -- the line of a channel of a block, the lines of both, and of blocks numbered from 0

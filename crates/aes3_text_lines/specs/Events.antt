@@ -4,9 +4,9 @@ use Rattle.std.specs.Prelude.{codes, decimal}
 use Rattle.hex.specs.Hex.{encode_lower}
 use Rattle.aes3_text_lines.specs.declared.event.Event.{Event}
 use Rattle.aes3_text_lines.specs.declared.event.Event.TheVariants.{Locked, Lost, Back, Slipped, Status, Validity, End}
-use Rattle.aes3_status_text.specs.declared.style.Notation.{Notation}
-use Rattle.aes3_status_text.specs.declared.style.Notation.TheVariants.{Words, Json}
-use Rattle.aes3_status_text.specs.declared.style.Style.{Style}
+use Rattle.aes3_status.specs.declared.style.Notation.{Notation}
+use Rattle.aes3_status.specs.declared.style.Notation.TheVariants.{Words, Json}
+use Rattle.aes3_status.specs.declared.style.Style.{Style}
 use Rattle.aes3_text_lines.specs.declared.event.Marking.{Marking}
 use Rattle.aes3_text_lines.specs.declared.event.Marking.TheVariants.{Clear, Set, Mixed}
 use Rattle.aes3_text_lines.specs.MarkLines.{level_digit}

@@ -3,9 +3,9 @@ use Rattle.std.specs.Prelude.{ℕ, List, [], ◌∷◌, ◌++◌, Bool, codes, d
 use Rattle.aes3_frame.specs.declared.block.Channel.{Channel}
 use Rattle.aes3_frame.specs.declared.block.Channel.TheVariants.{First, Second}
 use Rattle.aes3_frame.specs.Statuses.{status_of, user_of, validity_of}
-use Rattle.aes3_status_text.specs.declared.detail.Detail.{Detail}
-use Rattle.aes3_status_text.specs.declared.detail.Detail.TheVariants.{Plain, Place, Carried, Names}
-use Rattle.aes3_status_text.specs.StatusTexts.{names_text, status_text}
+use Rattle.aes3_status.specs.declared.detail.Detail.{Detail}
+use Rattle.aes3_status.specs.declared.detail.Detail.TheVariants.{Plain, Place, Carried, Names}
+use Rattle.aes3_status.specs.StatusTexts.{names_text, status_text}
 use Rattle.aes3_frame.specs.Ones.{ones_in}
 
 abbrev pub channel_digit : Channel → List ℕ

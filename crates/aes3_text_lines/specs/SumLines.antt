@@ -1,7 +1,7 @@
 -- The line of a sum: what was counted of the cells of a period of a line that is watched. Numbers are decimal.
 use Rattle.std.specs.Prelude.{ℕ, List, [], ◌∷◌, ◌++◌, codes, decimal}
-use Rattle.aes3_status_text.specs.declared.style.Notation.{Notation}
-use Rattle.aes3_status_text.specs.declared.style.Style.{Style}
+use Rattle.aes3_status.specs.declared.style.Notation.{Notation}
+use Rattle.aes3_status.specs.declared.style.Style.{Style}
 use Rattle.aes3_text_lines.specs.declared.sum.Figures.{Figures}
 use Rattle.aes3_text_lines.specs.declared.sum.Sum.{Sum}
 use Rattle.aes3_text_lines.specs.Events.{closing, number_field, opening, time_field}

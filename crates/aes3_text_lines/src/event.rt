@@ -14,7 +14,7 @@ use crate::status_line::channel_digit as channel_number;
 use crate::tail::digit_of;
 use aes3_cell::{Fault, Level, Sink};
 use aes3_frame::Channel;
-use aes3_status_text::{DIGITS, LINE_LEN, Line, Notation, Style};
+use aes3_status::{DIGITS, LINE_LEN, Line, Notation, Style};
 
 /// The validity bits of a channel in a block; 0 means that the sample is valid (AES3-1, IEC
 /// 60958-1).

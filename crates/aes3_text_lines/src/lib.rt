@@ -17,7 +17,7 @@ mod sum;
 /// A short line, written from its end.
 mod tail;
 
-pub use aes3_status_text::{
+pub use aes3_status::{
     Detail, Lines, Notation, SettingsFault, Style, add_choices, consumer_setting,
     professional_setting, settings_of_texts,
 };

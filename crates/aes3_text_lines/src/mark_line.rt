@@ -9,7 +9,7 @@ ghost use Rattle.aes3_text_lines.specs.MarkLines.{mark_line};
 use crate::tail::digit_of;
 use aes3_cell::{Fault, Level, Sink};
 use aes3_slot::Mark;
-use aes3_status_text::Line;
+use aes3_status::Line;
 use itoa::Buffer;
 
 /// How many bytes a preamble's line has at most.

@@ -9,7 +9,7 @@ use crate::status_names::put_names;
 use crate::tail::Tail;
 use aes3_cell::{Fault, Sink};
 use aes3_frame::{Block, Channel, ones_in};
-use aes3_status_text::{Detail, Line, put_status};
+use aes3_status::{Detail, Line, put_status};
 
 /// How many bytes the beginning of a line has at most.
 const HEAD_LEN: usize = 40;

@@ -1,13 +1,12 @@
 //! The words of codes that are numbers in a line of channel status (AES3-2, IEC 60958-3).
 
 ghost use Rattle.std.specs.Prelude.{◌≡◌, ◌≤◌, ◌+◌, ◌*◌, ◌++◌, length};
-ghost use Rattle.aes3_status_text.specs.Names.{name_of, name_text};
-ghost use Rattle.aes3_status_text.specs.Settings.{consumer_fields, professional_fields};
-ghost use Rattle.aes3_status_text.specs.StatusTexts.{names_in, names_text};
+ghost use Rattle.aes3_status.specs.Names.{name_of, name_text};
+ghost use Rattle.aes3_status.specs.NamedSettings.{consumer_fields, professional_fields};
+ghost use Rattle.aes3_status.specs.StatusTexts.{names_in, names_text};
 
 use crate::tail::{TAIL_LEN, Tail};
-use aes3_status::{Con, ConField, Field, Pro, ProField, Status};
-use aes3_status_text::{name_of, name_of_code};
+use aes3_status::{Con, ConField, Field, Pro, ProField, Status, name_of, name_of_code};
 
 /// How many bytes the name of a field whose codes have words has at most.
 const NAME_LEN: usize = 8;
@@ -54,7 +53,7 @@ fn put_consumer_names(text: &mut Tail, status: &Con)
 }
 
 /// Puts the words of a status's codes that are numbers in its line before the text.
-#[tactic(auto, unfolding(aes3_status_text::specs::StatusTexts::names_text))]
+#[tactic(auto, unfolding(aes3_status::specs::StatusTexts::names_text))]
 pub(crate) fn put_names(text: &mut Tail, status: &[u8; 24])
     requires { length text.old + 3 * FIELD_LEN ≤ TAIL_LEN }
     ensures { text.new ≡ names_text status.now ++ text.old }

@@ -7,7 +7,7 @@ ghost use Rattle.aes3_text_lines.specs.SumLines.{sum_line};
 
 use crate::event::{FIELD_LEN, put_closing, put_number, put_opening, put_time};
 use aes3_cell::{Fault, Sink};
-use aes3_status_text::{LINE_LEN, Line, Notation, Style};
+use aes3_status::{LINE_LEN, Line, Notation, Style};
 
 /// The counts of the cells of a period.
 #[derive(Clone, Copy)]

@@ -3,8 +3,8 @@ use Rattle.std.proofs.Common.{◌≡◌, Bool, List, [], refl}
 use Rattle.aes3_lock.specs.declared.report.Ending.{Ending}
 use Rattle.aes3_lock.specs.declared.report.Ending.TheVariants.{Whole, Marked, Fault, Unfinished}
 use Rattle.aes3_lock.specs.Reports.{ending_report}
-use Rattle.aes3_status_text.specs.declared.lines.Lines.{Lines}
-use Rattle.aes3_status_text.specs.declared.lines.Lines.TheVariants.{All, Faults}
+use Rattle.aes3_status.specs.declared.lines.Lines.{Lines}
+use Rattle.aes3_status.specs.declared.lines.Lines.TheVariants.{All, Faults}
 use Rattle.aes3_text_reports.specs.Lines.{told_line}
 
 -- the line of an ending has none of its block's bits

@@ -5,8 +5,8 @@ use Rattle.aes3_lock.specs.declared.report.Report.{Report}
 use Rattle.aes3_lock.specs.declared.report.Report.TheVariants.{Whole, Marked, Fault, Unfinished}
 use Rattle.aes3_lock.specs.declared.report.Why.{Why}
 use Rattle.aes3_lock.specs.declared.report.Why.TheVariants.{Preamble, Biphase, Unclosed}
-use Rattle.aes3_status_text.specs.declared.lines.Lines.{Lines}
-use Rattle.aes3_status_text.specs.declared.lines.Lines.TheVariants.{All, Faults}
+use Rattle.aes3_status.specs.declared.lines.Lines.{Lines}
+use Rattle.aes3_status.specs.declared.lines.Lines.TheVariants.{All, Faults}
 use Rattle.aes3_text_lines.specs.MarkLines.{level_digit}
 
 abbrev pub reason_word : Why → List ℕ

@@ -23,7 +23,7 @@ use Rattle.aes3_input.proofs.InputRuns.{Gives}
 use Rattle.aes3_lock_runs.specs.ReportRuns.{counts_of, heard_cells}
 use Rattle.aes3_lock.proofs.Tallies.{tallies-few, few-decided}
 use Rattle.aes3_input.proofs.Items.{before-is, before-join as end-join}
-use Rattle.aes3_status_text.specs.declared.lines.Lines.{Lines}
+use Rattle.aes3_status.specs.declared.lines.Lines.{Lines}
 use Rattle.aes3_lock.specs.Remains.{place_of}
 use Rattle.aes3_lock_gaps.specs.Gaps.{Entry, reported, full_gaps, full_count, behind_full, rest_gap, gaps, gaps_before}
 use Rattle.aes3_lock_gaps.specs.Gaps.{behind_report, account_from, reached_from, account, begun_account, accounted}

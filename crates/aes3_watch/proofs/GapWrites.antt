@@ -13,7 +13,7 @@ use Rattle.aes3_lock.specs.declared.report.Report.TheVariants.{Whole, Marked, Fa
 use Rattle.aes3_lock.specs.Outcomes.{payloads_of}
 use Rattle.aes3_lock.specs.Remains.{place_of}
 use Rattle.aes3_lock.specs.Reports.{ending_report}
-use Rattle.aes3_status_text.specs.declared.lines.Lines.{Lines}
+use Rattle.aes3_status.specs.declared.lines.Lines.{Lines}
 use Rattle.aes3_lock_gaps.specs.declared.gap.Due.{Due}
 use Rattle.aes3_lock_gaps.specs.declared.gap.Gap.{Gap}
 use Rattle.aes3_lock_gaps.specs.Gaps.{Entry, kind, full_gaps, full_count, behind_full, gaps_before}

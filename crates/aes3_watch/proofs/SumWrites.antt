@@ -10,7 +10,7 @@ use Rattle.aes3_input.specs.Driving.{counted_cells}
 use Rattle.aes3_input.proofs.CellRuns.{cells-give}
 use Rattle.aes3_input.proofs.InputRuns.{Gives}
 use Rattle.aes3_lock_runs.specs.ReportRuns.{heard_cells}
-use Rattle.aes3_status_text.specs.declared.style.Style.{Style}
+use Rattle.aes3_status.specs.declared.style.Style.{Style}
 use Rattle.aes3_watch.specs.Watching.{IsKept, watch_counts, Watches}
 use Rattle.aes3_watch.specs.declared.summed.Summed.{Summed}
 use Rattle.aes3_watch.specs.Sums.{all_told, begun_sums, go_to, sum_lines, next_sum, notice_lines, report_told, summed, summing}

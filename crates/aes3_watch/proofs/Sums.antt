@@ -18,7 +18,7 @@ use Rattle.aes3_input.specs.Taking.{behind, before_end, with_end}
 use Rattle.aes3_input.proofs.Items.{before-is, before-join}
 use Rattle.aes3_text_lines.specs.declared.event.Event.{Event}
 use Rattle.aes3_text_lines.specs.declared.event.Event.TheVariants.{End}
-use Rattle.aes3_status_text.specs.declared.style.Style.{Style}
+use Rattle.aes3_status.specs.declared.style.Style.{Style}
 use Rattle.aes3_text_lines.specs.declared.sum.Figures.{Figures}
 use Rattle.aes3_text_lines.specs.Events.{event_line}
 use Rattle.aes3_text_lines.specs.SumLines.{sum_line}

@@ -26,7 +26,7 @@ use Rattle.aes3_lock.proofs.Tallies.{few-decided}
 use Rattle.aes3_lock_runs.specs.ReportRuns.{counts_of, heard_cells}
 use Rattle.aes3_text_lines.specs.declared.event.Event.{Event}
 use Rattle.aes3_text_lines.specs.declared.event.Event.TheVariants.{Lost, End}
-use Rattle.aes3_status_text.specs.declared.style.Style.{Style}
+use Rattle.aes3_status.specs.declared.style.Style.{Style}
 use Rattle.aes3_text_lines.specs.Events.{event_line}
 use Rattle.aes3_watch.specs.Signals.{change_events, signals_of}
 use Rattle.aes3_watch.specs.declared.signals.Signals.{Signals}

@@ -8,7 +8,7 @@ use Rattle.aes3_lock.specs.Reports.{blocks, decided, reports, wholes}
 use Rattle.aes3_lock.specs.Tallies.{is_faulty, is_unfinished}
 use Rattle.aes3_input.specs.Taking.{Writing}
 use Rattle.aes3_input.specs.Inputs.{cells_of}
-use Rattle.aes3_status_text.specs.declared.lines.Lines.{Lines}
+use Rattle.aes3_status.specs.declared.lines.Lines.{Lines}
 use Rattle.aes3_watch.specs.declared.ledger.Ledger.{Ledger}
 use Rattle.aes3_lock_gaps.specs.Gaps.{account, accounted, begun_account, is_lost}
 use Rattle.aes3_watch.specs.GapLines.{account_lines}

@@ -1,7 +1,7 @@
 -- The lines of gaps and of an account. Numbers are decimal.
 use Rattle.std.specs.Prelude.{ℕ, List, [], ◌∷◌, ◌++◌, codes, decimal}
 use Rattle.std.specs.List.{flat_map}
-use Rattle.aes3_status_text.specs.declared.lines.Lines.{Lines}
+use Rattle.aes3_status.specs.declared.lines.Lines.{Lines}
 use Rattle.aes3_text_reports.specs.Lines.{told_line}
 use Rattle.aes3_lock_gaps.specs.Gaps.{Entry, reported, lost, cut}
 

@@ -13,7 +13,7 @@ use Rattle.aes3_lock.specs.Reports.{decided, reports}
 use Rattle.aes3_input.specs.Taking.{Writing}
 use Rattle.aes3_text_lines.specs.declared.event.Event.{Event}
 use Rattle.aes3_text_lines.specs.declared.event.Event.TheVariants.{Locked, Lost, Back, Slipped, Status, Validity, End}
-use Rattle.aes3_status_text.specs.declared.style.Style.{Style}
+use Rattle.aes3_status.specs.declared.style.Style.{Style}
 use Rattle.aes3_text_lines.specs.declared.sum.Figures.{Figures}
 use Rattle.aes3_text_lines.specs.declared.sum.Sum.{Sum}
 use Rattle.aes3_text_lines.specs.Events.{event_line}

@@ -17,7 +17,7 @@ use Rattle.aes3_input.specs.Taking.{Writing}
 use Rattle.aes3_lock.specs.Tallies.{is_faulty, is_unfinished}
 use Rattle.aes3_text_lines.specs.declared.event.Event.{Event}
 use Rattle.aes3_text_lines.specs.declared.event.Event.TheVariants.{Locked, Lost, Back, Slipped, End}
-use Rattle.aes3_status_text.specs.declared.style.Style.{Style}
+use Rattle.aes3_status.specs.declared.style.Style.{Style}
 use Rattle.aes3_text_lines.specs.Events.{event_line}
 use Rattle.aes3_watch.specs.Signals.{change_events, last_cells, signals_of}
 use Rattle.aes3_watch.specs.declared.signals.Signals.{Signals}

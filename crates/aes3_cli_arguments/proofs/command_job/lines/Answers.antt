@@ -1,5 +1,5 @@
 use Rattle.std.proofs.Common.{◌∙◌, sym, ap, Bool, cond, codes}
-use Rattle.aes3_status_text.specs.declared.lines.Lines.TheVariants.{All, Faults}
+use Rattle.aes3_status.specs.declared.lines.Lines.TheVariants.{All, Faults}
 use Rattle.aes3_cli_arguments.proofs.OptionReads.{flag_is}
 use Rattle.aes3_cli_arguments.proofs.command_job.lines.Goals as goal
 

@@ -1,5 +1,5 @@
 use Rattle.std.proofs.Common.{◌∙◌, sym, ap, Bool, cond, codes, rules}
-use Rattle.aes3_status_text.specs.declared.style.Notation.TheVariants.{Json, Words}
+use Rattle.aes3_status.specs.declared.style.Notation.TheVariants.{Json, Words}
 use Rattle.aes3_cli_arguments.proofs.OptionReads.{flag_is}
 use Rattle.aes3_cli_arguments.proofs.event_style.notation.Goals as goal
 

@@ -1,6 +1,6 @@
 use Rattle.std.proofs.Common.{◌∙◌, ◌++◌, Bor, List, ℕ, ap, map, sym}
 use Rattle.std.proofs.lemmas.Result.{IfOk-weaker}
-use Rattle.aes3_status_text.specs.declared.listed.SettingsFault.{SettingsFault}
+use Rattle.aes3_status.specs.declared.listed_settings.SettingsFault.{SettingsFault}
 use Rattle.aes3_cli_arguments.specs.Jobs.{fault_text, invalid_text}
 use Rattle.aes3_cli_arguments.proofs.setting_errors.add_fault.Goals as goal
 

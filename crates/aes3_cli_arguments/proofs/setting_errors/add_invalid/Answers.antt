@@ -1,6 +1,6 @@
 use Rattle.std.proofs.Common.{◌∙◌, ◌++◌, ap, append_assoc}
 use Rattle.std.proofs.lemmas.Result.{IfOk-weaker}
-use Rattle.aes3_status_text.specs.Choices.{choices}
+use Rattle.aes3_status.specs.Choices.{choices}
 use Rattle.aes3_cli_arguments.specs.Jobs.{invalid_text, option_text, value_text}
 use Rattle.aes3_cli_arguments.proofs.setting_errors.add_invalid.Goals as goal
 

@@ -3,7 +3,7 @@ use Rattle.std.proofs.Math.ListN.{get_or-map}
 use Rattle.std.proofs.lemmas.List.{length-map, take_all}
 use Rattle.std.proofs.lemmas.Result.{err_from_is_err_and}
 use Rattle.aes3_cell.proofs.Growing.{grew-none, grew-is, grew-join, front-is, front-join, front-more}
-use Rattle.aes3_status_text.specs.Untaken.{untaken_line, untaken_lines}
+use Rattle.aes3_status.specs.Untaken.{untaken_line, untaken_lines}
 use Rattle.aes3_program.proofs.RemarkLines.{lines-next, lines-rest}
 use Rattle.aes3_program.proofs.remark.put_lines.Goals as goal
 

@@ -1,6 +1,6 @@
 use Rattle.std.proofs.Common.{◌≡◌, map, take}
 use Rattle.aes3_cell.specs.Ends.{Grew}
-use Rattle.aes3_status_text.specs.Untaken.{untaken_lines}
+use Rattle.aes3_status.specs.Untaken.{untaken_lines}
 use Rattle.aes3_program.proofs.remark.put_lines.Given as goal
 
 abbrev pub invariant-lines : goal.invariant-lines

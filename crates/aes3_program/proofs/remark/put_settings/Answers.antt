@@ -2,7 +2,7 @@ use Rattle.std.proofs.Common.{◌++◌, ap, ap₂, Bor, List, ℕ, map, rules}
 use Rattle.std.proofs.lemmas.Result.{err_from_is_err_and}
 use Rattle.aes3_cell.proofs.Growing.{front-is, front-more}
 use Rattle.aes3_cell.proofs.Writing.{wrote-behind, wrote-is}
-use Rattle.aes3_status_text.specs.Untaken.{texts_of}
+use Rattle.aes3_status.specs.Untaken.{texts_of}
 use Rattle.aes3_program.specs.Lines.{met_lines}
 use Rattle.aes3_program.proofs.remark.put_settings.Goals as goal
 

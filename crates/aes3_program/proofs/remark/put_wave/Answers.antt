@@ -2,7 +2,7 @@ use Rattle.std.proofs.Common.{◌++◌}
 use Rattle.std.proofs.lemmas.Result.{err_from_is_err_and}
 use Rattle.aes3_cell.proofs.Growing.{front-more}
 use Rattle.aes3_cell.proofs.Writing.{wrote-behind}
-use Rattle.aes3_status_text.specs.Untaken.{texts_of}
+use Rattle.aes3_status.specs.Untaken.{texts_of}
 use Rattle.aes3_program.specs.Lines.{met_lines}
 use Rattle.aes3_program.proofs.remark.put_wave.Goals as goal
 

@@ -1,4 +1,4 @@
-use Rattle.aes3_status.proofs.Untaken.{untaken-go}
+use Rattle.aes3_status.proofs.UntakenSettings.{untaken-go}
 use Rattle.aes3_status.proofs.laws.untaken_settings_can_go.Goals as goal
 
 pub returns : goal.returns

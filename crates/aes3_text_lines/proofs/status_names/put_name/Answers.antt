@@ -1,5 +1,5 @@
 use Rattle.std.proofs.Common.{sym, append_assoc}
-use Rattle.aes3_status_text.specs.Fields.{field_text}
+use Rattle.aes3_status.specs.FieldTexts.{field_text}
 use Rattle.aes3_text_lines.proofs.status_names.put_name.Goals as goal
 
 pub returns-in-Some-clause-name : goal.returns-in-Some-clause-name

@@ -1,8 +1,0 @@
-use Rattle.std.proofs.Common.{◌≡◌, ◌++◌}
-use Rattle.std.specs.List.{flat_map}
-use Rattle.aes3_status_text.specs.Choices.{below}
-use Rattle.aes3_status_text.specs.Names.{name_text}
-use Rattle.aes3_status_text.proofs.choices.add_code_names.Given as goal
-
-abbrev pub invariant-loop-code : goal.invariant-loop-code
-invariant-loop-code l = l.text.bytes.items ≡ l.fn.text.bytes.items ++ flat_map (name_text l.field) (below l.code)

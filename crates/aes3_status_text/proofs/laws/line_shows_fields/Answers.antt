@@ -1,5 +1,0 @@
-use Rattle.aes3_status_text.proofs.SettingLines.{line-shows}
-use Rattle.aes3_status_text.proofs.laws.line_shows_fields.Goals as goal
-
-pub returns : goal.returns
-returns c = line-shows

@@ -1,5 +1,0 @@
-use Rattle.std.proofs.Common.{◌≡◌, ℕ, ◌<◌, None, get_or}
-use Rattle.aes3_status_text.proofs.settings.has_code.Given as goal
-
-abbrev pub invariant-loop-code : goal.invariant-loop-code
-invariant-loop-code l = (under : ℕ) → under < l.code-index → get_or l.codes under None ≡ None

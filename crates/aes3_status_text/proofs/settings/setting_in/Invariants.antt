@@ -1,6 +1,0 @@
-use Rattle.std.proofs.Common.{take}
-use Rattle.aes3_status_text.specs.Settings.{IsNoSetting}
-use Rattle.aes3_status_text.proofs.settings.setting_in.Given as goal
-
-abbrev pub invariant-loop-field : goal.invariant-loop-field
-invariant-loop-field l = IsNoSetting l.text (take l.field-index l.fields)
