@@ -6,8 +6,8 @@ use Rattle.aes3_capture_recovery.specs.Beginning.{Awaits, BeginsWith, IsLastingB
 use Rattle.aes3_capture_recovery.specs.Levels.{levels_of_samples}
 use Rattle.aes3_capture_recovery.specs.Recovering.{Setting}
 use Rattle.aes3_capture_recovery.specs.Taking.{RecoveredAll, TookAll, WritesLine}
-use Rattle.aes3_capture_recovery.specs.declared.levels.Unit.{Unit}
-use Rattle.aes3_capture_recovery.specs.declared.levels.Unit.TheVariants.{Octets, Pairs}
+use Rattle.aes3_capture_recovery.specs.declared.edges.Unit.{Unit}
+use Rattle.aes3_capture_recovery.specs.declared.edges.Unit.TheVariants.{Octets, Pairs}
 use Rattle.aes3_capture_recovery.specs.declared.recovery.Recovery.{Recovery}
 use Rattle.aes3_capture_recovery.specs.declared.recovery.State.TheVariants.{Following}
 use Rattle.aes3_c.specs.Putting.{put_into}

@@ -3,10 +3,11 @@ use Rattle.std.proofs.Common.{ℕ, suc, List, [], ◌∷◌, ◌++◌, ◌≡◌
 use Rattle.std.proofs.Common.{append_assoc, append-nil, arith, length, take, drop, get_or, set, add-one, drop-cons}
 use Rattle.std.proofs.lemmas.List.{take_all, take_more_set}
 use Rattle.std.proofs.Math.Seq.{drop-length}
-use Rattle.aes3_capture.specs.declared.bounds.Bounds.{Bounds}
+use Rattle.aes3_capture.specs.declared.follower.Bounds.{Bounds}
 use Rattle.aes3_capture.specs.declared.follower.Follower.{Follower}
 use Rattle.aes3_capture.specs.Captures.{Captures, Spreads, SpreadsLate, IsBetween, IsRun, mean_with, margin, wander}
 use Rattle.aes3_capture.specs.Following.{Follows, Counts}
+use Rattle.aes3_capture.proofs.Mirror.{mean-between}
 
 -- a follower has counted these cells of a capture, and these runs are left
 pub record Left (f : Follower) (bounds : Bounds) (done counts runs : List ℕ) : Type 0 where
@@ -87,16 +88,6 @@ captures-spread bounds spread same other displaced (n ∷ counts) (run ∷ runs)
           (mean-below other spreads.0 spread o next) s spreads.3,
     )
 
--- a mean of displacements between two bounds lies between them, but for what rounding takes
-late-mean : (mean displaced late spread : ℕ) → IsBetween late mean spread → IsBetween late displaced spread
-    → IsBetween late (mean_with mean displaced) spread
-late-mean mean displaced late spread m d =
-    let a = m.least in
-    let b = m.most in
-    let x = d.least in
-    let y = d.most in
-    record { least = omega (arith, a, b, x, y); most = omega (arith, a, b, x, y) }
-
 -- where each direction has edges within a spread, each is near the mean and the edge before
 pub captures-late : (bounds : Bounds) (spread late later same other displaced : ℕ) (counts runs : List ℕ)
     → spread < bounds.low / 2 - margin bounds
@@ -124,7 +115,7 @@ captures-late bounds spread late later same other displaced (n ∷ counts) (run 
         before_near = record { below = omega (arith, n1, b0, below); above = omega (arith, n0, b1, above) };
       },
       captures-late bounds spread later late (mean_with other spreads.0) same spreads.0 counts runs narrow below above
-          (late-mean other spreads.0 later spread o next) s spreads.4,
+          (mean-between other spreads.0 later spread o next) s spreads.4,
     )
 
 -- one turn of the loop, and its end

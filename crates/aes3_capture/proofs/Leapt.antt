@@ -1,7 +1,7 @@
 -- What a step in 32 bits comes to where its numbers are bounded: it is the follower's own.
 use Rattle.std.proofs.Common.{ℕ, List, zero, suc, length, take, drop, get_or, ◌≡◌, ◌<◌, ◌≤◌, ◌+◌, ◌-◌, ◌*◌, ◌/◌, ◌%◌, ◌^◌, refl, sym, arith}
 use Rattle.std.proofs.lemmas.List.{take_more, take_all, get_or-drop, length-drop}
-use Rattle.aes3_capture.specs.declared.bounds.Bounds.{Bounds}
+use Rattle.aes3_capture.specs.declared.follower.Bounds.{Bounds}
 use Rattle.aes3_capture.specs.declared.follower.Follower.{Follower}
 use Rattle.aes3_capture.specs.Following.{IsNear, Tracked, middle_of}
 use Rattle.aes3_capture.specs.Leaps.{IsBounded, IsStep}

@@ -2,7 +2,7 @@
 use Rattle.std.specs.Prelude.{min}
 use Rattle.std.proofs.Common.{zero, suc, List, [], ◌∷◌, length, get_or, refl, ap}
 use Rattle.std.proofs.Common.{ℕ, ◌≡◌, ◌<◌, ◌≤◌, ◌+◌, ◌-◌, ◌*◌, ◌/◌, arith}
-use Rattle.aes3_capture.specs.declared.bounds.Bounds.{Bounds}
+use Rattle.aes3_capture.specs.declared.follower.Bounds.{Bounds}
 use Rattle.aes3_capture.specs.declared.follower.Follower.{Follower}
 use Rattle.aes3_capture.specs.Captures.{AreDisplaced, IsBetween, SpreadsLate, lateness, IsPlaced, IsRun, margin, mean_with, wander}
 use Rattle.aes3_capture.specs.Directions.{IsAt, IsBehind, IsBorne, IsWider}
@@ -174,7 +174,7 @@ displaced-by-numbers bounds spread late later before (n ∷ cells) (run ∷ runs
     side-next rest (suc i) h = rw (lateness-next late later i) (rest.are.side i (omega (arith, h)))
 
 -- a mean that goes a sixteenth of the way to a displacement within its spread stays there
-mean-between : (mean displaced late spread : ℕ) → IsBetween late mean spread → IsBetween late displaced spread
+pub mean-between : (mean displaced late spread : ℕ) → IsBetween late mean spread → IsBetween late displaced spread
     → IsBetween late (mean_with mean displaced) spread
 mean-between mean displaced late spread m d =
     let a = m.least in

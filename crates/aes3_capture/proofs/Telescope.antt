@@ -1,6 +1,6 @@
 -- How far edges of a line lie apart.
 use Rattle.std.proofs.Common.{ℕ, zero, suc, List, [], ◌∷◌, ◌≡◌, ◌<◌, ◌≤◌, ◌+◌, ◌*◌, length, get_or, arith}
-use Rattle.aes3_capture.specs.declared.bounds.Bounds.{Bounds}
+use Rattle.aes3_capture.specs.declared.follower.Bounds.{Bounds}
 use Rattle.aes3_capture.specs.Captures.{AreDisplaced, sum_to}
 
 -- one more of a sum

@@ -1,6 +1,6 @@
 -- The jitter that AES3 asks a receiver to bear, in numbers.
 use Rattle.std.proofs.Common.{ℕ, ◌≡◌, ◌<◌, ◌-◌, ◌/◌, inl, inr, arith, subst}
-use Rattle.aes3_capture.specs.declared.bounds.Bounds.{Bounds}
+use Rattle.aes3_capture.specs.declared.follower.Bounds.{Bounds}
 use Rattle.aes3_capture.specs.Captures.{IsAbout, IsEnough, margin, tolerance}
 
 about-is : (bounds : Bounds) (cell part known : ℕ) → part ≡ known → IsAbout bounds cell part

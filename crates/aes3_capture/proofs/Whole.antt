@@ -59,10 +59,10 @@ passed-passes old new samples cells p = λ same other displaced run given follow
   mean_near = rw p.bounds_is follows.mean_near;
 }
 
-last-late : (a b p : ℕ) → a ≤ b → ◌≡◌ {A = ℕ} (if nat_le a b then p else 0) p
+pub last-late : (a b p : ℕ) → a ≤ b → ◌≡◌ {A = ℕ} (if nat_le a b then p else 0) p
 last-late a b p late = grind (arith, late)
 
-last-early : (a b p : ℕ) → b < a → ◌≡◌ {A = ℕ} (if nat_le a b then p else 0) 0
+pub last-early : (a b p : ℕ) → b < a → ◌≡◌ {A = ℕ} (if nat_le a b then p else 0) 0
 last-early a b p early = grind (arith, early)
 
 -- whatever line it follows, an edge ends the cells that the line has

@@ -1,6 +1,6 @@
 -- A line followed in both directions, its edges by their numbers.
 use Rattle.std.specs.Prelude.{ℕ, List, ◌<◌, ◌≤◌, ◌+◌, ◌-◌, ◌/◌, get_or}
-use Rattle.aes3_capture.specs.declared.bounds.Bounds.{Bounds}
+use Rattle.aes3_capture.specs.declared.follower.Bounds.{Bounds}
 use Rattle.aes3_capture.specs.declared.follower.Follower.{Follower}
 use Rattle.aes3_capture.specs.Captures.{IsBetween, lateness, margin, wander}
 use Rattle.aes3_capture.specs.Following.{Follows}

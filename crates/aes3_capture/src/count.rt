@@ -5,8 +5,7 @@ ghost use Rattle.aes3_capture.specs.Captures.{Captures, IsAbout, IsBetween, IsEn
 ghost use Rattle.aes3_capture.specs.Captures.{margin, tolerance, wander};
 ghost use Rattle.aes3_capture.specs.Following.{Follows};
 
-use crate::bounds::Bounds;
-use crate::follower::Follower;
+use crate::follower::{Bounds, Follower};
 
 /// Counts the cells between the edges of a capture, from the numbers of samples between them.
 ///

@@ -1,15 +1,29 @@
-//! A follower of edges, one by one or many at once.
+//! A follower of edges, one by one or many at once, and the possible length of a cell.
+
+ghost use Rattle.std.specs.Prelude.{◌≡◌, ◌+◌, ◌-◌, ◌*◌, ◌/◌, ◌%◌, ◌^◌, ◌<◌, ◌≤◌, ◌⊎◌, min, max};
+ghost use Rattle.std.specs.Prelude.{take, length, ℕ, ◌↔◌, IsTrue, IfSome, drop, get_or};
+ghost use Rattle.aes3_capture.specs.Leaps.{IsBounded, IsStep};
 
 /// The numbers of a follower.
 mod parts;
 
-ghost use Rattle.std.specs.Prelude.{◌≡◌, ◌+◌, ◌-◌, ◌*◌, ◌/◌, ◌%◌, ◌^◌, ◌<◌, ◌≤◌, ◌⊎◌, min, max, take, length};
-ghost use Rattle.std.specs.Prelude.{ℕ, ◌↔◌, IsTrue, IfSome, drop, get_or};
-ghost use Rattle.aes3_capture.specs.Leaps.{IsBounded, IsStep};
-
-use crate::bounds::{Bounds, PARTS};
 pub use parts::FollowerParts;
 use std::simd::prelude::*;
+
+/// How many parts a sample has.
+pub const PARTS: u64 = 65_536;
+
+/// The possible length of the cells of a line, in parts of a sample: at least two samples, at most
+/// 8192, and the longest at most twice the shortest.
+#[derive(Clone, Copy)]
+pub struct Bounds {
+    pub low: u64,
+    pub high: u64,
+    ghost ordered: { low ≤ high },
+    ghost slim: { high ≤ 2 * low },
+    ghost least: { 131072 ≤ low },
+    ghost most: { low ≤ 2 ^ 29 },
+}
 
 /// Follows the edges of a line: the length of a cell, and the position of its grid. Rising and
 /// falling edges have a grid each, as a line may be later in one direction; both have one period.

@@ -2,13 +2,10 @@
 //! that are proved.
 #![tactic(auto)]
 
-/// The possible length of a cell.
-mod bounds;
 /// The cells of a whole capture.
 mod count;
-/// A follower of edges.
+/// A follower of edges, and the possible length of a cell.
 mod follower;
 
-pub use bounds::{Bounds, PARTS};
 pub use count::{count_cells, count_cells_behind};
-pub use follower::{Follower, FollowerParts, TRACKED};
+pub use follower::{Bounds, Follower, FollowerParts, PARTS, TRACKED};

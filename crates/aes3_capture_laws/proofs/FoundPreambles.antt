@@ -6,7 +6,8 @@ use Rattle.std.proofs.lemmas.List.{length-take-le, get_or-take}
 use Rattle.aes3_slot.specs.declared.mark.Mark.{Mark}
 use Rattle.aes3_capture_recovery.specs.Finding.{AreOfSubframes}
 use Rattle.aes3_capture_recovery.specs.Measuring.{are_preamble, place_at, places_from, preambles_from}
-use Rattle.aes3_capture_laws.proofs.LineWindows.{AreSecond, IsWindow, first-is, none-past, place-sum, place_of, second-is, some-cells, sum-take, third-is}
+use Rattle.aes3_capture_laws.proofs.LineWindows.{AreSecond, IsWindow, first-is, none-past, place_of, second-is, some-cells, sum-take, third-is}
+use Rattle.aes3_capture_recovery.proofs.Firsts.{place-sum}
 
 -- run `i` has a cell, and lies within a subframe
 record IsWithin (place : ℕ) (cells : List ℕ) (i : ℕ) : Type 0 where

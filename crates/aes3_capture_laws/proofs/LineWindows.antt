@@ -11,6 +11,7 @@ use Rattle.aes3_slot.specs.Slots.{mark_runs, runs_of}
 use Rattle.aes3_capture_recovery.specs.Measuring.{place_at}
 use Rattle.aes3_capture_laws.proofs.LineRuns.{EachSubframe, begin_of, begins-apart, begins-even}
 use Rattle.aes3_capture_laws.proofs.LineRuns.{preamble-runs, IsInside, inside}
+use Rattle.aes3_capture_recovery.proofs.Firsts.{place-sum}
 
 -- the sums of a part of a list
 sum-none : (i : ℕ) → sum_to [] i ≡ 0
@@ -33,14 +34,6 @@ sum-take xs n zero h = refl
 sum-take xs zero (suc i) h = absurd (omega (arith, h))
 sum-take [] (suc n) (suc i) h = refl
 sum-take (x ∷ xs) (suc n) (suc i) h = ap (λ s. x + s) (sum-take xs n i (omega (arith, h)))
-
--- places count cells from the beginning of a subframe on
-pub place-sum : (place : ℕ) (xs : List ℕ) (i : ℕ) → place < 64 → place_at place xs i ≡ (place + sum_to xs i) % 64
-place-sum place xs zero h = omega (arith, h)
-place-sum place [] (suc i) h = omega (arith, h)
-place-sum place (x ∷ xs) (suc i) h =
-    let rest = place-sum ((place + x) % 64) xs i (omega arith) in
-    omega (arith, rest)
 
 -- `n` runs in a row of a line of subframes, from run `k` on
 pub record IsWindow (marks : ℕ → Mark) (slots : List (List Bool)) (k n : ℕ) (line : List ℕ) : Type 0 where

@@ -2,7 +2,7 @@
 use Rattle.std.specs.Prelude.{ℕ, List, Bool, ◌≡◌, ◌≤◌, ◌++◌, length, take, drop}
 use Rattle.std.specs.List.{flat_map, All}
 use Rattle.aes3_frame.specs.Blocks.{block_runs, IsBlock}
-use Rattle.aes3_capture.specs.declared.bounds.Bounds.{Bounds}
+use Rattle.aes3_capture.specs.declared.follower.Bounds.{Bounds}
 use Rattle.aes3_capture.specs.Captures.{IsBetween, SpreadsLate}
 use Rattle.aes3_capture_recovery.specs.Finding.{AreOfManySubframes, IsFindable}
 

@@ -2,7 +2,7 @@
 #![tactic(auto)]
 
 ghost use Rattle.std.specs.Prelude.{ℕ, List, Bool, ◌≡◌, IsSomeAnd, take};
-ghost use Rattle.aes3_capture.specs.declared.bounds.Bounds.{Bounds};
+ghost use Rattle.aes3_capture.specs.declared.follower.Bounds.{Bounds};
 ghost use Rattle.aes3_capture_recovery.specs.Finding.{CountsLine};
 ghost use Rattle.aes3_capture_laws.specs.RunLaws.{AreOfBlocks, RunsAreOfSubframes};
 

@@ -15,6 +15,7 @@ use Rattle.aes3_capture_recovery.specs.Recovering.{IsInOrder, first_level, runs_
 use Rattle.aes3_capture_recovery.specs.declared.recovery.Recovery.{Recovery}
 use Rattle.aes3_capture_recovery.specs.declared.recovery.State.{State}
 use Rattle.aes3_capture_recovery.specs.declared.recovery.State.TheVariants.{Still, Measuring, Following}
+use Rattle.aes3_capture_recovery.proofs.Telling.{measuring-or}
 
 -- each sample lies in a run
 pub samples-runs : (s : Level) (n : ℕ) (levels : List Level) → samples_of (runs_to_end s n levels) ≡ n + length levels
@@ -47,11 +48,6 @@ length-packed words =
     let n = length-words words ∙ ap (λ k. length words * k) word_len_64 in
     let needed : octets_needed (length cells) ≡ 8 * length words = omega (arith, n) in
     length-first_octets (octets_needed (length cells)) cells ∙ needed
-
-measuring-or : (s : State) → (s ≡ Measuring) ⊎ (s ≡ Measuring → ⊥)
-measuring-or Still = inr (λ e. cc)
-measuring-or Measuring = inl refl
-measuring-or Following = inr (λ e. cc)
 
 -- what was told of the run behind those that were told is not more than its samples
 pub told-of-next : (past : ℕ) (now : Recovery) (behind : ℕ) (more : List Level) (s : Level) → IsInOrder past now

@@ -9,7 +9,7 @@ use Rattle.aes3_level.specs.Cells.{line, other, after}
 use Rattle.aes3_level.proofs.Runs.{other-other}
 use Rattle.aes3_level.specs.Words.{level_of, low_cells}
 use Rattle.aes3_level.proofs.WordCells.{length-low_cells}
-use Rattle.aes3_capture.specs.declared.bounds.Bounds.{Bounds}
+use Rattle.aes3_capture.specs.declared.follower.Bounds.{Bounds}
 use Rattle.aes3_capture.specs.declared.follower.Follower.{Follower}
 use Rattle.aes3_capture_recovery.specs.Beginning.{AreFindable, AreShort, Awaits, BeginsWith, Begun, EndsWith, FollowsFrom, IsKeptSince, IsLastingLine, IsWaiting}
 use Rattle.aes3_capture_recovery.specs.Endings.{level_if}
@@ -20,7 +20,7 @@ use Rattle.aes3_capture_recovery.specs.Queues.{Queued, waiting}
 use Rattle.aes3_capture_recovery.specs.RecoverySteps.{Gave, KeepsTold}
 use Rattle.aes3_capture_recovery.specs.declared.line_follower.LineFollower.{LineFollower}
 use Rattle.aes3_capture_recovery.specs.Runs.{EdgeCame, NoEdgeCame, levels_in, runs_behind}
-use Rattle.aes3_capture_recovery.specs.declared.levels.Piece.{Piece}
+use Rattle.aes3_capture_recovery.specs.declared.edges.Piece.{Piece}
 use Rattle.aes3_capture_recovery.specs.declared.recovery.Recovery.{Recovery}
 use Rattle.aes3_capture_recovery.specs.declared.recovery.State.TheVariants.{Following, Measuring, Still}
 use Rattle.aes3_capture_recovery.proofs.Beginning.{before-last, begun-edge, behind-to-end, follows-on, none-measured}

@@ -16,8 +16,8 @@ use Rattle.aes3_capture_recovery.specs.Recovering.{AreTold, Holds, IsUnfound, Re
 use Rattle.aes3_capture_recovery.specs.Recovering.{runs_to_end, runs_waiting, samples_of}
 use Rattle.aes3_capture_recovery.specs.RecoverySteps.{Gave, KeepsTold, RunsTold}
 use Rattle.aes3_capture_recovery.specs.Runs.{EdgeCame, levels_in, runs_behind}
-use Rattle.aes3_capture_recovery.specs.declared.levels.Edges.{Edges}
-use Rattle.aes3_capture_recovery.specs.declared.levels.Piece.{Piece}
+use Rattle.aes3_capture_recovery.specs.declared.edges.Edges.{Edges}
+use Rattle.aes3_capture_recovery.specs.declared.edges.Piece.{Piece}
 use Rattle.aes3_capture_recovery.specs.declared.recovery.Recovery.{Recovery}
 use Rattle.aes3_capture_recovery.proofs.Recovering.{holds-keeps, waits-keep}
 use Rattle.aes3_capture_recovery.proofs.RunsToEnd.{after-as-many, after-more, end-edge, end-none, end-one, end-same}

@@ -2,7 +2,7 @@
 use Rattle.std.proofs.Common.{ℕ, List, ◌≡◌, ◌<◌, ◌≤◌, ◌+◌, ◌-◌, ◌*◌, ◌/◌, ◌%◌, ◌^◌, ◌⊎◌, inl, inr, length, get_or, refl, ap, arith}
 use Rattle.std.specs.Prelude.{if◌then◌else◌, min, nat_eq}
 use Rattle.std.proofs.lemmas.Bool.{cases_lt}
-use Rattle.aes3_capture.specs.declared.bounds.Bounds.{Bounds}
+use Rattle.aes3_capture.specs.declared.follower.Bounds.{Bounds}
 use Rattle.aes3_capture.specs.Captures.{AreDisplaced, lateness, sum_to}
 use Rattle.aes3_capture.proofs.Telescope.{apart, sum-next}
 use Rattle.aes3_capture_recovery.specs.Finding.{AreCapturedRuns, IsFindable, IsSix, pair_at}

@@ -2,7 +2,7 @@
 use Rattle.std.proofs.Common.{ℕ, zero, suc, List, [], ◌∷◌, ◌≡◌, ◌<◌, ◌≤◌, ◌+◌, ◌-◌, ◌*◌, ◌/◌, ◌%◌, length, get_or, refl, ap, ◌∙◌, sym, set, arith}
 use Rattle.std.proofs.lemmas.List.{get_or-set_other, get_or-set_same}
 use Rattle.std.proofs.lemmas.Nat.{div_below, le-div}
-use Rattle.aes3_capture.specs.declared.bounds.Bounds.{Bounds}
+use Rattle.aes3_capture.specs.declared.follower.Bounds.{Bounds}
 use Rattle.aes3_capture.specs.Captures.{sum_to}
 use Rattle.aes3_capture.proofs.Telescope.{sum-next}
 use Rattle.aes3_capture_recovery.specs.declared.period.Anchor.{Anchor}

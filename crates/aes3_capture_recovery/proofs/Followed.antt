@@ -17,7 +17,7 @@ use Rattle.aes3_capture_recovery.specs.Endings.{level_if}
 use Rattle.aes3_capture_recovery.specs.Queues.{Queued, Puts, waiting}
 use Rattle.aes3_capture_recovery.specs.Runs.{AreCaptured, EdgeCame, NoEdgeCame, levels_in, runs_behind}
 use Rattle.aes3_capture_recovery.specs.LineFollowing.{Followed, Gives, RunTold, SomeTold}
-use Rattle.aes3_capture_recovery.specs.declared.levels.Piece.{Piece}
+use Rattle.aes3_capture_recovery.specs.declared.edges.Piece.{Piece}
 use Rattle.aes3_capture_recovery.specs.declared.line_follower.LineFollower.{LineFollower}
 use Rattle.aes3_capture_recovery.proofs.RunsBehind.{behind-same, behind-edge, cells-told, cells-run}
 use Rattle.aes3_capture_recovery.proofs.SameLevels.{level-not}

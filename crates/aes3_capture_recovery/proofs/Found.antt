@@ -1,7 +1,7 @@
 -- What was found in the first runs of a capture counts the cells of all.
 use Rattle.std.proofs.Common.{ℕ, zero, suc, List, [], ◌∷◌, ◌≡◌, ◌≤◌, ◌*◌, Option, Some, None, get_or, length, take, arith}
 use Rattle.std.specs.Prelude.{IsSomeAnd}
-use Rattle.aes3_capture.specs.declared.bounds.Bounds.{Bounds}
+use Rattle.aes3_capture.specs.declared.follower.Bounds.{Bounds}
 use Rattle.aes3_capture.specs.declared.follower.Follower.{Follower}
 use Rattle.aes3_capture.specs.Captures.{IsBetween, SpreadsLate}
 use Rattle.aes3_capture.specs.Directions.{IsWider}

@@ -5,7 +5,7 @@ use Rattle.aes3_level.specs.declared.level.Level.{Level}
 use Rattle.aes3_level.specs.declared.level.Level.TheVariants.{Low, High}
 use Rattle.aes3_level.specs.Cells.{line, other}
 use Rattle.aes3_level.proofs.Runs.{other-other}
-use Rattle.aes3_capture.specs.declared.bounds.Bounds.{Bounds}
+use Rattle.aes3_capture.specs.declared.follower.Bounds.{Bounds}
 use Rattle.aes3_capture.specs.Captures.{Captures, SpreadsLate}
 use Rattle.aes3_capture.specs.Following.{Follows}
 use Rattle.aes3_capture.proofs.Counts.{captures-late}

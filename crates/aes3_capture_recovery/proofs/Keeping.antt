@@ -3,15 +3,15 @@ use Rattle.std.proofs.Common.{ℕ, List, [], ◌∷◌, ◌≡◌, ◌<◌, ◌�
 use Rattle.std.specs.Prelude.{nat_le, if◌then◌else◌}
 use Rattle.std.proofs.Math.Nat.{mul-le-mul_left, mul-le-mul_right}
 use Rattle.std.proofs.lemmas.Bool.{cases_lt}
-use Rattle.aes3_capture.specs.declared.bounds.Bounds.{Bounds}
+use Rattle.aes3_capture.specs.declared.follower.Bounds.{Bounds}
 use Rattle.aes3_capture.specs.declared.follower.Follower.{Follower}
 use Rattle.aes3_capture.specs.Captures.{IsBetween, IsPlaced, IsRun, SpreadsLate, mean_with, wander}
 use Rattle.aes3_capture.specs.Directions.{IsBorne, IsWider}
 use Rattle.aes3_capture.specs.Following.{Counted, Follows, last_cell, middle_of}
 use Rattle.aes3_capture.proofs.Edges.{decided}
-use Rattle.aes3_capture.proofs.Mirror.{placed-wider}
+use Rattle.aes3_capture.proofs.Mirror.{placed-wider, mean-between}
 use Rattle.aes3_capture.proofs.Steps.{longest-cells, other-near, place-moves, place-near, steps-near}
-use Rattle.aes3_capture.proofs.Whole.{counted-counts, passed-passes}
+use Rattle.aes3_capture.proofs.Whole.{counted-counts, passed-passes, last-late, last-early}
 use Rattle.aes3_capture_recovery.specs.Keeping.{AreNear, IsCalm, IsKeepable, IsKept, drift, off_middle}
 use Rattle.aes3_capture_recovery.specs.RecoverySteps.{apart_of, distance_of}
 
@@ -89,12 +89,6 @@ goes-near f g narrow drift same other before run given cells displaced told near
       same_place = rw (bounds, grid_is) (record { below = nearer.0; above = nearer.1 });
       other_place = rw bounds (record { below = omega (arith, drifted.0); above = omega (arith, drifted.1) });
     }
-
-last-late : (a b p : ℕ) → a ≤ b → ◌≡◌ {A = ℕ} (if nat_le a b then p else 0) p
-last-late a b p late = grind (arith, late)
-
-last-early : (a b p : ℕ) → b < a → ◌≡◌ {A = ℕ} (if nat_le a b then p else 0) 0
-last-early a b p early = grind (arith, early)
 
 -- the same of a run that is counted
 counted-near : (old new : Follower) (narrow : Bounds) (drift same other before run n cells displaced near far : ℕ)
@@ -188,15 +182,6 @@ keepable-borne bounds narrow spread late later most k =
       above = omega (arith, a, n, ordered);
       below = omega (arith, b, n, ordered);
     }
-
-mean-between : (mean displaced late spread : ℕ) → IsBetween late mean spread → IsBetween late displaced spread
-    → IsBetween late (mean_with mean displaced) spread
-mean-between mean displaced late spread m d =
-    let a = m.least in
-    let b = m.most in
-    let x = d.least in
-    let y = d.most in
-    record { least = omega (arith, a, b, x, y); most = omega (arith, a, b, x, y) }
 
 -- what the watch over a line asks of its latest edge
 pub record IsUnsuspected (f : Follower) (distance : ℕ) : Type 0 where

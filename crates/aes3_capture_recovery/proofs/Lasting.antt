@@ -4,7 +4,7 @@ use Rattle.std.proofs.Common.{refl, sym, ap, ◌∙◌, subst, append_assoc, tak
 use Rattle.std.proofs.Math.Nat.{mul-le-mul_left, mul-le-mul_right, pow-succ'}
 use Rattle.std.proofs.lemmas.List.{take_at}
 use Rattle.aes3_level.specs.declared.level.Level.{Level}
-use Rattle.aes3_capture.specs.declared.bounds.Bounds.{Bounds}
+use Rattle.aes3_capture.specs.declared.follower.Bounds.{Bounds}
 use Rattle.aes3_capture.specs.declared.follower.Follower.{Follower}
 use Rattle.aes3_capture.specs.Captures.{IsAbout, IsBetween, SpreadsLate, mean_with, wander}
 use Rattle.aes3_capture.specs.Directions.{IsBorne, IsWider}

@@ -3,7 +3,7 @@ mod StillWords
 mod SameParts
 pub mod SampleLevels
 pub mod Taking
-mod Reading
+pub mod Reading
 mod Writing
 pub mod Beginning
 pub mod Awaiting
@@ -36,7 +36,7 @@ pub mod States
 pub mod Unfailing
 pub mod Periods
 mod Captured
-mod Firsts
+pub mod Firsts
 mod LongPairs
 mod NearPeriods
 mod TwoPeriods

@@ -6,7 +6,7 @@ use Rattle.std.proofs.lemmas.List.{get_or-set_other, get_or-set_same}
 use Rattle.std.specs.Option.{unwrap_or}
 use Rattle.std.specs.Prelude.{Bool, IsTrue, nat_le}
 use Rattle.aes3_capture_recovery.specs.declared.period.Anchor.{Anchor}
-use Rattle.aes3_capture.specs.declared.bounds.Bounds.{Bounds}
+use Rattle.aes3_capture.specs.declared.follower.Bounds.{Bounds}
 use Rattle.aes3_capture.specs.declared.follower.Follower.{Follower}
 use Rattle.aes3_capture.specs.Captures.{IsAbout}
 use Rattle.aes3_capture_recovery.specs.Finding.{IsFound, IsPeriodOf, IsStarted}

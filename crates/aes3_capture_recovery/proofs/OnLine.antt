@@ -5,7 +5,7 @@ use Rattle.std.proofs.Common.{Result, IfOk}
 use Rattle.aes3_level.specs.declared.level.Level.{Level}
 use Rattle.aes3_level.specs.declared.level.Level.TheVariants.{Low, High}
 use Rattle.aes3_level.specs.Cells.{other}
-use Rattle.aes3_capture.specs.declared.bounds.Bounds.{Bounds}
+use Rattle.aes3_capture.specs.declared.follower.Bounds.{Bounds}
 use Rattle.aes3_capture.specs.declared.follower.Follower.{Follower}
 use Rattle.aes3_capture.specs.Following.{Counted, Tracked, middle_of}
 use Rattle.aes3_capture_recovery.specs.Distances.{distance_at, spread_after}
@@ -14,7 +14,7 @@ use Rattle.aes3_capture_recovery.specs.Keeping.{IsKept, IsOnLine, StaysKept, Sta
 use Rattle.aes3_capture_recovery.specs.Recovering.{runs_to_end}
 use Rattle.aes3_capture_recovery.specs.RecoverySteps.{Noted, distance_of}
 use Rattle.aes3_capture_recovery.specs.Runs.{EdgeCame, NoEdgeCame, levels_in}
-use Rattle.aes3_capture_recovery.specs.declared.levels.Piece.{Piece}
+use Rattle.aes3_capture_recovery.specs.declared.edges.Piece.{Piece}
 use Rattle.aes3_capture_recovery.specs.declared.recovery.Recovery.{Recovery}
 use Rattle.aes3_capture_recovery.specs.declared.recovery.State.TheVariants.{Following}
 use Rattle.aes3_capture_recovery.proofs.Keeping.{kept-next, kept-short}

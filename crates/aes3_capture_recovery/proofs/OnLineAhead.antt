@@ -4,7 +4,7 @@ use Rattle.std.proofs.Common.{refl, sym, ap, ap₂, ◌∙◌, subst, arith, app
 use Rattle.std.proofs.lemmas.List.{drop-take, take-append-drop}
 use Rattle.aes3_level.specs.declared.level.Level.{Level}
 use Rattle.aes3_level.specs.Cells.{after, other}
-use Rattle.aes3_capture.specs.declared.bounds.Bounds.{Bounds}
+use Rattle.aes3_capture.specs.declared.follower.Bounds.{Bounds}
 use Rattle.aes3_capture.specs.Following.{Tracked, middle_of}
 use Rattle.aes3_capture_recovery.specs.Distances.{distance_at, spread_after}
 use Rattle.aes3_capture_recovery.specs.Endings.{level_if}
@@ -80,15 +80,6 @@ stays-tracked old new narrow spread middle at count n all runs cells places each
       kept = subst (λ d. IsKept new.line.follower d narrow spread (drop (at + n) (take count all) ++ more))
           (sym (distance ∙ ap (spread_after old.spread) each_is)) next.0;
     }
-
--- none of them
-pub stays-untracked : (old : Recovery) (narrow : Bounds) (spread at : ℕ) (all more : List ℕ) → old.state ≡ Following
-    → IsKept old.line.follower old.spread narrow spread (drop at all ++ more)
-    → StaysKept narrow spread (drop (at + 0) all ++ more) old old
-stays-untracked old narrow spread at all more is k =
-    stays-none old narrow spread (drop (at + 0) all ++ more) is
-    (subst (λ n. IsKept old.line.follower old.spread narrow spread (drop n all ++ more))
-    (let e : at ≡ at + 0 = omega arith in e) k)
 
 -- one edge by itself
 pub stays-single : (old mid new : Recovery) (narrow : Bounds) (spread at count run : ℕ) (all more : List ℕ)

@@ -10,8 +10,8 @@ use Rattle.aes3_cell.proofs.Growing.{grew-is, grew-join, grew-none}
 use Rattle.aes3_capture_recovery.specs.Levels.{AreWhole, bit_of_line, bits_of_sample, level_in, levels_of_samples, samples_in}
 use Rattle.aes3_capture_recovery.specs.Reading.{ReadSamples, SamplesRan}
 use Rattle.aes3_capture_recovery.specs.Taking.{Took, TookAll}
-use Rattle.aes3_capture_recovery.specs.declared.levels.Unit.{Unit}
-use Rattle.aes3_capture_recovery.specs.declared.levels.Unit.TheVariants.{Octets, Pairs}
+use Rattle.aes3_capture_recovery.specs.declared.edges.Unit.{Unit}
+use Rattle.aes3_capture_recovery.specs.declared.edges.Unit.TheVariants.{Octets, Pairs}
 use Rattle.aes3_capture_recovery.specs.declared.recovery.Recovery.{Recovery}
 use Rattle.aes3_capture_recovery.specs.declared.recovery_run.Progress.{Progress}
 use Rattle.aes3_capture_recovery.specs.declared.recovery_run.Progress.TheVariants.{Ended, Paused}
@@ -59,7 +59,7 @@ none-whole : (unit : Unit) → AreWhole unit 0
 none-whole (Octets bit) = omega arith
 none-whole (Pairs bit) = omega arith
 
-sum-whole : (unit : Unit) (n m : ℕ) → AreWhole unit n → AreWhole unit m → AreWhole unit (n + m)
+pub sum-whole : (unit : Unit) (n m : ℕ) → AreWhole unit n → AreWhole unit m → AreWhole unit (n + m)
 sum-whole (Octets bit) n m a b = omega arith
 sum-whole (Pairs bit) n m a b = omega (arith, a, b)
 

@@ -18,7 +18,7 @@ use Rattle.aes3_capture_recovery.specs.Recovering.{Recounted, Recovered, Setting
 use Rattle.aes3_capture_recovery.specs.Recovering.{runs_to_end, runs_waiting}
 use Rattle.aes3_capture_recovery.specs.RecoverySteps.{Gave, KeepsTold}
 use Rattle.aes3_capture_recovery.specs.Measuring.{IsAskedFor}
-use Rattle.aes3_capture_recovery.specs.declared.levels.Piece.{Piece}
+use Rattle.aes3_capture_recovery.specs.declared.edges.Piece.{Piece}
 use Rattle.aes3_capture_recovery.specs.declared.recovery.Recovery.{Recovery}
 use Rattle.aes3_capture_recovery.specs.declared.recovery.State.TheVariants.{Following, Measuring, Still}
 use Rattle.aes3_capture_recovery.proofs.RunsToEnd.{end-same, end-edge, end-none}
@@ -26,7 +26,7 @@ use Rattle.aes3_capture_recovery.proofs.Telling.{none-given, told-gave, told-kee
 use Rattle.aes3_capture_recovery.proofs.Followed.{queued-none}
 use Rattle.aes3_capture_recovery.proofs.SameLevels.{level-not}
 use Rattle.aes3_level.proofs.WordCells.{length-low_cells}
-use Rattle.aes3_capture_recovery.specs.declared.levels.Edges.{Edges}
+use Rattle.aes3_capture_recovery.specs.declared.edges.Edges.{Edges}
 use Rattle.aes3_capture.proofs.Whole.{passed-none}
 
 -- the same holds, whatever changed besides

@@ -10,15 +10,8 @@ use Rattle.aes3_level.specs.declared.level.Level.{Level}
 use Rattle.aes3_level.specs.declared.level.Level.TheVariants.{Low, High}
 use Rattle.aes3_level.specs.Cells.{other}
 use Rattle.aes3_level.specs.Words.{level_of, low_cells}
-use Rattle.aes3_level.proofs.WordCells.{low_cells-add}
+use Rattle.aes3_level.proofs.WordCells.{low_cells-add, below-trailing}
 use Rattle.aes3_capture_recovery.specs.Endings.{level_if}
-
-below-lowest : (m i : ℕ) → m < 2 ^ 64 → i < trailing_zeros w64 m → bit_at m i ≡ 0
-below-lowest m i few g = go (cases_eq m 0)
-  where
-    go : (m ≡ 0) ⊎ (m ≡ 0 → ⊥) → bit_at m i ≡ 0
-    go (inl z) = ap (λ x. bit_at x i) z ∙ bit_at-zero i
-    go (inr s) = (bit_at-trailing_zeros w64 m (omega (arith, s)) few).2 i g
 
 lowest : (m : ℕ) → m < 2 ^ 64 → trailing_zeros w64 m < 64 → bit_at m (trailing_zeros w64 m) ≡ 1
 lowest m few h = go (cases_eq m 0)
@@ -35,14 +28,14 @@ most-zeros m few = go (cases_eq m 0)
     go (inr s) = let t = (bit_at-trailing_zeros w64 m (omega (arith, s)) few).0 in omega (arith, t)
 
 -- a word whose lowest bits stand for one level
-all-level : (n w : ℕ) (s : Level) → ((i : ℕ) → i < n → level_of (bit_at w i) ≡ s) → low_cells n w ≡ replicate n s
+pub all-level : (n w : ℕ) (s : Level) → ((i : ℕ) → i < n → level_of (bit_at w i) ≡ s) → low_cells n w ≡ replicate n s
 all-level zero w s h = refl
 all-level (suc n) w s h =
     ap₂ (λ a c. a ∷ c) (ap level_of (sym (bit_at_lowest w)) ∙ h 0 (omega arith))
     (all-level n (w / 2) s (λ i g. ap level_of (sym (bit_at-suc w i)) ∙ h (suc i) (omega (arith, g))))
 
 pub low-same : (w n : ℕ) → w < 2 ^ 64 → n ≤ trailing_zeros w64 w → low_cells n w ≡ replicate n Low
-low-same w n few h = all-level n w Low (λ i g. ap level_of (below-lowest w i few (omega (arith, g, h))))
+low-same w n few h = all-level n w Low (λ i g. ap level_of (below-trailing w i few (omega (arith, g, h))))
 
 pub low-next : (w : ℕ) → w < 2 ^ 64 → trailing_zeros w64 w < 64 → level_of (bit_at w (trailing_zeros w64 w)) ≡ High
 low-next w few h = ap level_of (lowest w few h)
@@ -66,7 +59,7 @@ high-same w n few h =
     let long : trailing_zeros w64 (bit_not w64 w) ≤ 64 = most-zeros (bit_not w64 w) small in
     all-level n w High
     (λ i g. ap level_of (one-inverted w i few (omega (arith, g, h, long))
-    (below-lowest (bit_not w64 w) i small (omega (arith, g, h)))))
+    (below-trailing (bit_not w64 w) i small (omega (arith, g, h)))))
 
 pub high-next : (w : ℕ) → w < 2 ^ 64 → trailing_zeros w64 (bit_not w64 w) < 64
     → level_of (bit_at w (trailing_zeros w64 (bit_not w64 w))) ≡ Low

@@ -14,8 +14,8 @@ use Rattle.aes3_level.specs.Words.{level_of, low_cells, word_cells, word_len}
 use Rattle.aes3_level.proofs.WordCells.{length-low_cells, low_cells-at}
 use Rattle.aes3_capture_recovery.specs.Levels.{AreLevels, AreWhole, AreWords, bit_of_line, bits_of_sample, level_in}
 use Rattle.aes3_capture_recovery.specs.Levels.{levels_of_samples, sample_of, samples_in}
-use Rattle.aes3_capture_recovery.specs.declared.levels.Unit.{Unit}
-use Rattle.aes3_capture_recovery.specs.declared.levels.Unit.TheVariants.{Octets, Pairs}
+use Rattle.aes3_capture_recovery.specs.declared.edges.Unit.{Unit}
+use Rattle.aes3_capture_recovery.specs.declared.edges.Unit.TheVariants.{Octets, Pairs}
 use Rattle.aes3_capture_recovery.proofs.Turning.{words-more}
 
 -- levels that are the same at each place, and those of more places

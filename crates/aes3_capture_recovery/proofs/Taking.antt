@@ -3,7 +3,7 @@ use Rattle.std.proofs.Common.{◌≡◌, ◌≤◌, ◌<◌, ◌+◌, ◌^◌, �
 use Rattle.std.proofs.Common.{Ok, Err, IfOk, ◌∷◌, ap, ap₂, sym, subst, refl, arith, append_assoc, append-nil, if◌then◌else◌, ◌∙◌}
 use Rattle.aes3_level.specs.declared.level.Level.{Level}
 use Rattle.aes3_level.specs.Cells.{line, other}
-use Rattle.aes3_capture.specs.declared.bounds.Bounds.{Bounds}
+use Rattle.aes3_capture.specs.declared.follower.Bounds.{Bounds}
 use Rattle.aes3_capture.specs.declared.follower.Follower.{Follower}
 use Rattle.aes3_capture_recovery.specs.Beginning.{Awaits, GivesLine, IsLastingBehind, IsLineBehind}
 use Rattle.aes3_capture_recovery.specs.Endings.{finished}

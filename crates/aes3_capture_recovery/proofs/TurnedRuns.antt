@@ -14,17 +14,12 @@ use Rattle.aes3_level.proofs.WordCells.{low_cells-add, low_cells-same}
 use Rattle.aes3_capture_recovery.specs.Endings.{level_if}
 use Rattle.aes3_capture_recovery.proofs.WordBits.{low_cells-low-bits}
 use Rattle.aes3_capture_recovery.proofs.RunsToEnd.{after-more}
+use Rattle.aes3_capture_recovery.proofs.SameLevels.{all-level}
 
 -- The lowest bits of a word are the cells of some runs, and each bit behind them is of the level that the next run has.
 pub record AreTurned (word len : ℕ) (before : Level) (runs : List ℕ) : Type 0 where
   pub cells : low_cells len word ≡ line before runs
   pub behind : (k : ℕ) → len ≤ k → k < 64 → level_of (bit_at word k) ≡ other (after before runs)
-
--- a word whose bits are all of one level
-low_cells-alike : (n w : ℕ) (s : Level) → ((k : ℕ) → k < n → level_of (bit_at w k) ≡ s) → low_cells n w ≡ replicate n s
-low_cells-alike zero w s alike = refl
-low_cells-alike (suc n) w s alike = ap₂ (λ a b. a ∷ b) (ap level_of (sym (bit_at_lowest w)) ∙ alike 0 (omega arith))
-    (low_cells-alike n (w / 2) s (λ k h. ap level_of (sym (bit_at-suc w k)) ∙ alike (suc k) (omega (arith, h))))
 
 -- the other level
 turned-bit : (b : ℕ) → b < 2 → level_of ((b + 1) % 2) ≡ other (level_of b)
@@ -51,7 +46,7 @@ turned-so : (word len run : ℕ) (before : Level) (runs : List ℕ) → len + ru
 turned-so word len run before runs room turned = record {
   cells = low_cells-same (len + run) (bit_xor word (2 ^ 64 - 2 ^ (len + run))) word (λ k h. kept word (len + run) k h)
       ∙ low_cells-add len run word
-      ∙ ap₂ (λ a b. a ++ b) turned.cells (low_cells-alike run (word / 2 ^ len) (other (after before runs))
+      ∙ ap₂ (λ a b. a ++ b) turned.cells (all-level run (word / 2 ^ len) (other (after before runs))
       (λ k h. ap level_of (bit_at-shr word len k) ∙ turned.behind (len + k) (omega arith) (omega (arith, h, room))))
       ∙ ap (λ x. line before runs ++ x) (sym (append-nil (replicate run (other (after before runs)))))
       ∙ sym (line-append before runs (run ∷ []));

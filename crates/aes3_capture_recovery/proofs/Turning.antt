@@ -22,6 +22,7 @@ use Rattle.aes3_level.proofs.Runs.{other-other}
 use Rattle.aes3_capture_recovery.specs.Recovering.{runs_to_end}
 use Rattle.aes3_capture_recovery.specs.Turns.{gaps, last_place, set_bits, turns}
 use Rattle.aes3_capture_recovery.proofs.RunsToEnd.{end-one, end-edge}
+use Rattle.aes3_level.proofs.CellsIn.{length-front_words}
 
 -- one level more, of the level that was and of the other
 turns-same : (s : Level) (place : ℕ) (levels : List Level) → turns s place (s ∷ levels) ≡ turns s (suc place) levels
@@ -274,14 +275,6 @@ words-more words i within =
     ∙ flat_map-append word_cells (take i words) (get_or words i 0 ∷ [])
     ∙ ap (λ x. flat_map word_cells (take i words) ++ x) (append-nil (word_cells (get_or words i 0)))
 
-length-front : (words : List ℕ) (i : ℕ) → i ≤ length words → length (flat_map word_cells (take i words)) ≡ 64 * i
-length-front words i within =
-    let all = length-words (take i words) in
-    let some = length-take-le i words within in
-    let each = word_len_64 in
-    let product = ap (λ n. length (take i words) * n) each in
-    omega (arith, all, some, product)
-
 -- the places at which words turn, and those of one word more
 pub places-more : (first : ℕ) (s : Level) (words places : List ℕ) (i before : ℕ) → i < length words
     → before < 2 → level_of before ≡ level_behind s (flat_map word_cells (take i words))
@@ -293,7 +286,7 @@ places-more first s words places i before within few level are =
     let word = get_or words i 0 in
     let cells = flat_map word_cells (take i words) in
     let long : 128 + 64 * i ≡ 128 + length cells
-    = let l = length-front words i (omega (arith, within)) in omega (arith, l) in
+    = let l = length-front_words words i (omega (arith, within)) in omega (arith, l) in
     ap₂ (λ a b. a ++ b) are
     (word-turns (128 + 64 * i) before word few
     ∙ ap₂ (λ t n. turns t n (word_cells word)) level long)

@@ -3,7 +3,7 @@ use Rattle.std.proofs.Common.{ℕ, zero, suc, List, ◌≡◌, ◌<◌, ◌≤�
 use Rattle.std.specs.Prelude.{max, min}
 use Rattle.std.specs.Option.{unwrap_or}
 use Rattle.std.proofs.lemmas.List.{take_all}
-use Rattle.aes3_capture.specs.declared.bounds.Bounds.{Bounds}
+use Rattle.aes3_capture.specs.declared.follower.Bounds.{Bounds}
 use Rattle.aes3_capture.specs.Captures.{AreDisplaced, IsAbout, sum_to}
 use Rattle.aes3_capture.proofs.Telescope.{apart}
 use Rattle.aes3_capture_recovery.specs.declared.period.Anchor.{Anchor}

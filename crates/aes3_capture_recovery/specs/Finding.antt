@@ -1,6 +1,6 @@
 -- The runs of samples of a line, from which it is found.
 use Rattle.std.specs.Prelude.{ℕ, zero, suc, List, Option, Some, None, ◌≡◌, ◌<◌, ◌≤◌, ◌+◌, ◌-◌, ◌*◌, ◌/◌, ◌%◌, ◌^◌, min, nat_le, if◌then◌else◌, get_or, length, take}
-use Rattle.aes3_capture.specs.declared.bounds.Bounds.{Bounds}
+use Rattle.aes3_capture.specs.declared.follower.Bounds.{Bounds}
 use Rattle.aes3_capture.specs.declared.follower.Follower.{Follower}
 use Rattle.aes3_capture.specs.Captures.{AreDisplaced, IsAbout, IsBetween, SpreadsLate, sum_to}
 use Rattle.aes3_capture.specs.Directions.{IsAt, IsBorne, IsWider}

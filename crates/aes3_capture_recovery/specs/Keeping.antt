@@ -1,7 +1,7 @@
 -- How a line that is followed stays followed.
 use Rattle.std.specs.Prelude.{ℕ, List, [], ◌∷◌, ◌++◌, ◌≡◌, ◌<◌, ◌≤◌, ◌+◌, ◌-◌, ◌*◌, ◌/◌, max}
 use Rattle.aes3_level.specs.declared.level.Level.{Level}
-use Rattle.aes3_capture.specs.declared.bounds.Bounds.{Bounds}
+use Rattle.aes3_capture.specs.declared.follower.Bounds.{Bounds}
 use Rattle.aes3_capture.specs.declared.follower.Follower.{Follower}
 use Rattle.aes3_capture.specs.Captures.{IsBetween, SpreadsLate}
 use Rattle.aes3_capture.specs.Directions.{IsWider}

@@ -3,7 +3,7 @@ use Rattle.std.specs.Prelude.{ℕ, List, Option, Result, Ok, Err, Bool, IsTrue, 
 use Rattle.aes3_cell.specs.Ends.{Grew}
 use Rattle.aes3_capture_recovery.specs.Levels.{AreWhole, bit_of_line, bits_of_sample, levels_of_samples}
 use Rattle.aes3_capture_recovery.specs.Taking.{Took, TookAll}
-use Rattle.aes3_capture_recovery.specs.declared.levels.Unit.{Unit}
+use Rattle.aes3_capture_recovery.specs.declared.edges.Unit.{Unit}
 use Rattle.aes3_capture_recovery.specs.declared.recovery.Recovery.{Recovery}
 use Rattle.aes3_capture_recovery.specs.declared.recovery_run.Progress.{Progress}
 use Rattle.aes3_capture_recovery.specs.declared.recovery_run.Progress.TheVariants.{Ended, Paused}

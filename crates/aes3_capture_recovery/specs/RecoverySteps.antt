@@ -9,7 +9,7 @@ use Rattle.aes3_capture_recovery.specs.Distances.{spread_after}
 use Rattle.aes3_capture_recovery.specs.Recovering.{samples_of}
 use Rattle.aes3_capture_recovery.specs.Queues.{Queued, waiting}
 use Rattle.aes3_capture_recovery.specs.declared.line_follower.LineFollower.{LineFollower}
-use Rattle.aes3_capture_recovery.specs.declared.edge_places.Distances.{Distances}
+use Rattle.aes3_capture_recovery.specs.declared.edges.Distances.{Distances}
 use Rattle.aes3_capture_recovery.specs.declared.recovery.Recovery.{Recovery}
 use Rattle.aes3_capture_recovery.specs.declared.recovery.State.TheVariants.{Measuring}
 

@@ -5,8 +5,8 @@ use Rattle.aes3_level.specs.declared.level.Level.TheVariants.{Low, High}
 use Rattle.aes3_level.specs.Cells.{line, other}
 use Rattle.aes3_level.specs.Words.{low_cells}
 use Rattle.aes3_capture_recovery.specs.Endings.{level_if}
-use Rattle.aes3_capture_recovery.specs.declared.levels.Edges.{Edges}
-use Rattle.aes3_capture_recovery.specs.declared.levels.Piece.{Piece}
+use Rattle.aes3_capture_recovery.specs.declared.edges.Edges.{Edges}
+use Rattle.aes3_capture_recovery.specs.declared.edges.Piece.{Piece}
 
 -- how many samples lie in each run of one level that an edge ends, where `run` samples of a level came before these
 abbrev pub runs_behind : Level → ℕ → List Level → List ℕ

@@ -2,11 +2,8 @@
 //! from samples to cells.
 #![tactic(auto)]
 
-/// The places of edges among the levels of many samples, found before the edges are followed, and how
-/// far they are from their expected positions.
-mod edge_places;
 /// The levels of a line among samples of several lines, and the edges among them.
-mod levels;
+mod edges;
 /// A line followed from an edge on, from the levels of its samples to its cells.
 mod line_follower;
 /// The length of a cell and the position of a line's grid, measured from the samples between edges.
@@ -18,7 +15,7 @@ mod recovery;
 /// The run from samples to cells.
 mod recovery_run;
 
-pub use levels::{Edges, Piece, Unit, levels_of};
+pub use edges::{Edges, Piece, Unit, levels_of};
 pub use line_follower::{LineFollower, LineParts};
 pub use period::{LONGEST_PERIOD, SHORTEST_PERIOD, follower_of_runs};
 pub use queue::{CellQueue, QueueParts, bits_of_cells, put_last};

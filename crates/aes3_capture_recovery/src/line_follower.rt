@@ -14,7 +14,7 @@ ghost use Rattle.aes3_capture.specs.Following.{Follows};
 ghost use Rattle.aes3_capture_recovery.specs.Endings.{level_if};
 ghost use Rattle.aes3_capture_recovery.specs.Runs.{AreCaptured, levels_in};
 
-use crate::levels::{Edges, Piece};
+use crate::edges::{Edges, Piece};
 use crate::queue::{CellQueue, bits_of_runs};
 use aes3_capture::{Follower, PARTS};
 use aes3_cell::{Fault, Form, Sink};

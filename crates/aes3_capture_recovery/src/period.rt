@@ -2,7 +2,7 @@
 
 ghost use Rattle.std.specs.Prelude.{ℕ, ◌^◌, ◌+◌, ◌<◌, ◌≤◌, ◌≡◌, ◌&&◌, if◌then◌else◌, nat_eq, nat_le, nat_lt, get_or, length, take};
 ghost use Rattle.std.specs.Prelude.{IsTrue, IfSome, IsSomeAnd, List, ◌-◌, ◌*◌, ◌/◌, ◌%◌, max};
-ghost use Rattle.aes3_capture.specs.declared.bounds.Bounds.{Bounds};
+ghost use Rattle.aes3_capture.specs.declared.follower.Bounds.{Bounds};
 ghost use Rattle.aes3_capture.specs.Captures.{AreDisplaced, IsAbout, sum_to};
 ghost use Rattle.aes3_capture.specs.Directions.{IsAt};
 ghost use Rattle.aes3_capture_recovery.specs.Finding.{CountsLine, IsACapture};

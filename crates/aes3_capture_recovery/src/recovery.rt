@@ -12,7 +12,7 @@ ghost use Rattle.aes3_level.specs.Cells.{after, other};
 ghost use Rattle.aes3_capture_recovery.specs.Endings.{level_if};
 ghost use Rattle.aes3_capture_recovery.specs.Measuring.{IsAskedFor};
 
-use crate::levels::{Edges, Piece};
+use crate::edges::{Edges, Piece};
 use crate::line_follower::LineFollower;
 use crate::period::{RUNS, bounds_around, follower_of_runs};
 use aes3_capture::{Bounds, Follower, PARTS};
@@ -107,7 +107,7 @@ fn any_follower() -> Follower {
 
 impl Recovery {
     ghost use Rattle.aes3_level.specs.Words.{level_of, low_cells};
-    ghost use Rattle.aes3_capture.specs.declared.bounds.Bounds.{Bounds};
+    ghost use Rattle.aes3_capture.specs.declared.follower.Bounds.{Bounds};
     ghost use Rattle.aes3_capture.specs.declared.follower.Follower.{Follower};
     ghost use Rattle.aes3_capture.specs.Captures.{Captures, IsBetween, SpreadsLate, margin, wander};
     ghost use Rattle.aes3_capture.specs.Following.{Follows};

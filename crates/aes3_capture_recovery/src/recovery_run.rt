@@ -18,8 +18,7 @@ ghost use Rattle.aes3_capture_recovery.specs.declared.recovery_run.Progress.TheV
 ghost use Rattle.aes3_capture_recovery.specs.declared.recovery_run.Refusal.TheVariants.{Write};
 ghost use Rattle.aes3_cell.specs.Ends.{Grew};
 
-use crate::edge_places::Places;
-use crate::levels::{BLOCK, Unit, levels_of, words_of};
+use crate::edges::{BLOCK, Places, Unit, levels_of, words_of};
 use crate::recovery::{Figures, Recovery};
 use aes3_cell::{Fault, Form, Sink, Source};
 

@@ -9,7 +9,7 @@ use Rattle.aes3_capture_recovery.specs.Beginning.{Awaits, IsLastingBehind}
 use Rattle.aes3_capture_recovery.specs.Levels.{bit_of_line, bits_of_sample, levels_of_samples}
 use Rattle.aes3_capture_recovery.specs.Reading.{FailedAt, SamplesRan}
 use Rattle.aes3_capture_recovery.specs.Recovering.{Recovered}
-use Rattle.aes3_capture_recovery.specs.declared.levels.Unit.{Unit}
+use Rattle.aes3_capture_recovery.specs.declared.edges.Unit.{Unit}
 use Rattle.aes3_capture_recovery.specs.declared.recovery.Recovery.{Recovery}
 use Rattle.aes3_capture_recovery.specs.declared.recovery_run.Progress.{Progress}
 use Rattle.aes3_capture_recovery.specs.declared.recovery_run.Progress.TheVariants.{Ended, Paused}
@@ -129,9 +129,3 @@ module _ (job : Job) (found : Option ℕ) (told told_now told_next : Option (Lis
       ])
     ];
   }
-
--- a text that is said alone
-pub said-alone : {told told_now : Option (List ℕ)} {failed failed_now : ℕ} (text : List ℕ)
-    → (failed_now ≡ failed → Grew told told_now text)
-    → IsSaid IsNothing (record { old = told; new = told_now; failed_old = failed; failed_new = failed_now }) text
-said-alone text grew = λ quiet. record { front = []; is_before = refl; grew = grew quiet }

@@ -13,8 +13,8 @@ use Rattle.aes3_capture_recovery.specs.Beginning.{IsLastingBehind, IsLineBehind}
 use Rattle.aes3_capture_recovery.specs.Levels.{AreWhole, levels_of_samples}
 use Rattle.aes3_capture_recovery.specs.Reading.{ReadSamples, SamplesRan}
 use Rattle.aes3_capture_recovery.specs.Taking.{RecoveredAll, Took, TookAll, WritesLine}
-use Rattle.aes3_capture_recovery.specs.declared.levels.Unit.{Unit}
-use Rattle.aes3_capture_recovery.specs.declared.levels.Unit.TheVariants.{Octets, Pairs}
+use Rattle.aes3_capture_recovery.specs.declared.edges.Unit.{Unit}
+use Rattle.aes3_capture_recovery.specs.declared.edges.Unit.TheVariants.{Octets, Pairs}
 use Rattle.aes3_capture_recovery.specs.declared.recovery.Figures.{Figures}
 use Rattle.aes3_capture_recovery.specs.declared.recovery.Recovery.{Recovery}
 use Rattle.aes3_capture_recovery.specs.declared.recovery_run.Progress.{Progress}
@@ -25,6 +25,7 @@ use Rattle.aes3_capture_recovery.proofs.SampleLevels.{levels-join, levels-nothin
 use Rattle.aes3_capture_recovery.proofs.Taking.{took-is, took-join, took-none}
 use Rattle.aes3_capture_runs.specs.Lines.{IsFiguresLine}
 use Rattle.aes3_capture_runs.specs.Runs.{IsToldLine, LinesTold}
+use Rattle.aes3_capture_recovery.proofs.Reading.{sum-whole}
 
 -- samples, and then others up to the end
 took-then-all : {A : Type 0} {taken : A → Option (List ℕ)} {old mid new : Recovery} {before between after : A}
@@ -54,10 +55,6 @@ paused-apart is = cc
 none-whole : (unit : Unit) → AreWhole unit 0
 none-whole (Octets bit) = omega arith
 none-whole (Pairs bit) = omega arith
-
-sum-whole : (unit : Unit) (n m : ℕ) → AreWhole unit n → AreWhole unit m → AreWhole unit (n + m)
-sum-whole (Octets bit) n m a b = omega arith
-sum-whole (Pairs bit) n m a b = omega (arith, a, b)
 
 -- nothing was read
 pub ran-none : {A : Type 0} (unit : Unit) (told : Option (List ℕ)) (ended : Bool) (taken : A → Option (List ℕ))

@@ -1,7 +1,7 @@
 -- How samples lie, and the bit of them that is the line.
 use Rattle.std.specs.Prelude.{ℕ, Option, Some, None, ◌%◌, ◌==◌, if◌then◌else◌}
-use Rattle.aes3_capture_recovery.specs.declared.levels.Unit.{Unit}
-use Rattle.aes3_capture_recovery.specs.declared.levels.Unit.TheVariants.{Octets, Pairs}
+use Rattle.aes3_capture_recovery.specs.declared.edges.Unit.{Unit}
+use Rattle.aes3_capture_recovery.specs.declared.edges.Unit.TheVariants.{Octets, Pairs}
 use Rattle.aes3_capture_runs.specs.declared.capture_job.Job.{Job}
 
 -- samples of one octet, or of two with the lower first, and the line in this bit; of one past the last the remainder counts

@@ -1,7 +1,7 @@
 -- The line of a refusal, and what is said of words that can't be read.
 use Rattle.std.specs.Prelude.{ℕ, List, [], ◌∷◌, ◌++◌, codes}
-use Rattle.aes3_cell.specs.declared.refusal.RunError.{RunError}
-use Rattle.aes3_cell.specs.Refusals.{number_of, place_of}
+use Rattle.aes3_refusals.specs.declared.run_error.RunError.{RunError}
+use Rattle.aes3_refusals.specs.Refusals.{number_of, place_of}
 use Rattle.aes3_status.specs.Refusals.{refusal_text}
 
 -- `aes3-spoil: refused <number>`, the place and a line feed

@@ -5,8 +5,8 @@ use Rattle.aes3_cli.specs.declared.fault.LineFault.TheVariants as fault
 use Rattle.aes3_cell.specs.Ends.{Grew}
 use Rattle.aes3_cell.specs.Written.{bytes_of}
 use Rattle.aes3_cell.specs.declared.counts.Counts.{Counts}
-use Rattle.aes3_cell.specs.declared.refusal.RunError.{RunError}
-use Rattle.aes3_cell.specs.declared.refusal.RunError.TheVariants as refusal
+use Rattle.aes3_refusals.specs.declared.run_error.RunError.{RunError}
+use Rattle.aes3_refusals.specs.declared.run_error.RunError.TheVariants as refusal
 use Rattle.aes3_input.specs.Driving.{CellPromise, CellRun}
 use Rattle.aes3_input.specs.Inputs.{IsInput}
 use Rattle.aes3_input.specs.Running.{Failed, Movement, Quiet}

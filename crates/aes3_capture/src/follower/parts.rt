@@ -2,8 +2,7 @@
 
 ghost use Rattle.std.specs.Prelude.{◌≡◌};
 
-use crate::bounds::Bounds;
-use crate::follower::Follower;
+use crate::follower::{Bounds, Follower};
 
 /// The numbers of a follower, for a caller that keeps it in a form of its own: [`Follower::parts`] gives them, and
 /// [`Follower::of_parts`] makes the same follower of them.

@@ -3,7 +3,7 @@
 ghost use Rattle.std.specs.Prelude.{◌≡◌};
 ghost use Rattle.aes3_capture_recovery.specs.Flags.{flag, is_set};
 
-use crate::levels::Edges;
+use crate::edges::Edges;
 use crate::line_follower::LineFollower;
 use crate::queue::{CellQueue, QueueParts};
 use aes3_capture::{Follower, FollowerParts};

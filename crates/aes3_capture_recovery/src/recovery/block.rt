@@ -7,8 +7,7 @@ ghost use Rattle.aes3_level.specs.declared.level.Level.{Level};
 ghost use Rattle.aes3_level.specs.Cells.{after, other};
 ghost use Rattle.aes3_capture_recovery.specs.Endings.{level_if};
 
-use crate::edge_places::{BEGIN, Distances, Places, distances_of, spread_behind};
-use crate::levels::are_same;
+use crate::edges::{BEGIN, Distances, Places, are_all_equal, distances_of, spread_behind};
 use crate::recovery::{DEAD, Recovery, State};
 use aes3_capture::{PARTS, TRACKED};
 use aes3_cell::{Fault, Sink};
@@ -43,7 +42,7 @@ fn level_behind(high: bool, count: usize) -> bool
 impl Recovery {
     ghost use Rattle.std.specs.List.{flat_map};
     ghost use Rattle.aes3_level.specs.Words.{word_cells};
-    ghost use Rattle.aes3_capture.specs.declared.bounds.Bounds.{Bounds};
+    ghost use Rattle.aes3_capture.specs.declared.follower.Bounds.{Bounds};
     ghost use Rattle.aes3_capture.specs.declared.follower.Follower.{Follower};
     ghost use Rattle.aes3_capture.specs.Captures.{Captures, IsBetween, SpreadsLate, margin, wander};
     ghost use Rattle.aes3_capture.specs.Following.{Follows};
@@ -188,7 +187,7 @@ impl Recovery {
         ensures measured { IfOk result (λ _. self.new.figures.measured ≡ self.old.figures.measured) }
         ensures samples { IfOk result (λ _. 1 ≤ self.new.figures.samples) }
     {
-        if !are_same(words, self.line.is_high()) {
+        if !are_all_equal(words, self.line.is_high()) {
             return Ok(false);
         }
         let all = 64 * words.len() as u32;

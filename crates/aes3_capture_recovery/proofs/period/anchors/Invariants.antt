@@ -1,5 +1,5 @@
 use Rattle.std.proofs.Common.{ℕ, List, ◌<◌, ◌≤◌, ◌≡◌, ◌-◌, ◌*◌, get_or, length}
-use Rattle.aes3_capture.specs.declared.bounds.Bounds.{Bounds}
+use Rattle.aes3_capture.specs.declared.follower.Bounds.{Bounds}
 use Rattle.aes3_capture_recovery.specs.Finding.{AreCapturedRuns, IsSix}
 use Rattle.aes3_capture_recovery.specs.declared.period.Anchor.{Anchor}
 use Rattle.aes3_capture_recovery.specs.declared.period.Side.TheVariants.{Of}

@@ -1,5 +1,5 @@
 use Rattle.std.proofs.Common.{◌≡◌, ◌+◌, ◌-◌, ℕ, List, get_or}
-use Rattle.aes3_capture.specs.declared.bounds.Bounds.{Bounds}
+use Rattle.aes3_capture.specs.declared.follower.Bounds.{Bounds}
 use Rattle.aes3_capture.specs.Directions.{IsBehind}
 use Rattle.aes3_capture_recovery.specs.Finding.{AreOfALine}
 use Rattle.aes3_capture_recovery.proofs.period.at_first.Given as goal

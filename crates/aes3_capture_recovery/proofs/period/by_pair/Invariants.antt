@@ -1,5 +1,5 @@
 use Rattle.std.proofs.Common.{ℕ, List, ◌≡◌}
-use Rattle.aes3_capture.specs.declared.bounds.Bounds.{Bounds}
+use Rattle.aes3_capture.specs.declared.follower.Bounds.{Bounds}
 use Rattle.aes3_capture_recovery.specs.Finding.{AllowsCells, AreCapturedRuns, IsSix}
 use Rattle.aes3_capture_recovery.specs.declared.period.Side.TheVariants.{Of}
 use Rattle.aes3_capture_recovery.proofs.period.by_pair.Given as goal

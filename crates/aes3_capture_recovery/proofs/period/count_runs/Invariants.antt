@@ -1,5 +1,5 @@
 use Rattle.std.proofs.Common.{◌≡◌, ◌≤◌, ℕ, List, take}
-use Rattle.aes3_capture.specs.declared.bounds.Bounds.{Bounds}
+use Rattle.aes3_capture.specs.declared.follower.Bounds.{Bounds}
 use Rattle.aes3_capture.specs.Directions.{IsAt}
 use Rattle.aes3_capture.specs.Following.{CountedAll}
 use Rattle.aes3_capture_recovery.specs.Finding.{AreOfALine}

@@ -1,6 +1,6 @@
 use Rattle.std.proofs.Common.{◌≡◌, Ok, Err, arith, refl, rules, subst}
 use Rattle.aes3_input.specs.Running.{movement_of}
-use Rattle.aes3_capture_recovery.specs.declared.levels.Unit.{Unit}
+use Rattle.aes3_capture_recovery.specs.declared.edges.Unit.{Unit}
 use Rattle.aes3_capture_runs.specs.Runs.{AnswerRan, refusal_text, setting_of}
 use Rattle.aes3_capture_runs.proofs.Said.{IsNew, SaidUpTo, bit-and-lines, done, end-joined, grew-said, refused}
 use Rattle.aes3_capture_runs.proofs.job_run.run_job.Goals as goal

@@ -17,7 +17,7 @@ returns-clause-recovered g c = λ setting seen w.
     subst (λ (l : List Level). Recovered (g.T.Sink.taken c.wait_on-2.new.sink) setting l [] c.wait_on-2.new.self)
     (levels-two (level_if c.args.self.now.line.edges.high) (level_if c.wait_on.new.self.line.edges.high) seen
     (flat_map word_cells c.args.words.now) _ _ (64 * length c.args.words.now) (ap level_if c.wait_on.ensures.high)
-    (omega (arith, most)) (search (rules, c.are_same.ensures, c.if-not-are_same.false, c.is_high.ensures)))
+    (omega (arith, most)) (search (rules, c.are_all_equal.ensures, c.if-not-are_all_equal.false, c.is_high.ensures)))
     (c.in_ok-wait_on-2.ensures.recovered (omega (arith, some, samples)) setting _
     (c.in_ok-wait_on.ensures.recovered some setting seen w))
 
@@ -31,6 +31,6 @@ returns-clause-awaits g c = λ setting seen a.
     subst (λ (l : List Level). Awaits (g.T.Sink.taken c.wait_on-2.new.sink) setting l [] c.wait_on-2.new.self)
     (levels-two (level_if c.args.self.now.line.edges.high) (level_if c.wait_on.new.self.line.edges.high) seen
     (flat_map word_cells c.args.words.now) _ _ (64 * length c.args.words.now) (ap level_if c.wait_on.ensures.high)
-    (omega (arith, most)) (search (rules, c.are_same.ensures, c.if-not-are_same.false, c.is_high.ensures)))
+    (omega (arith, most)) (search (rules, c.are_all_equal.ensures, c.if-not-are_all_equal.false, c.is_high.ensures)))
     (c.in_ok-wait_on-2.ensures.awaits (omega (arith, some, samples)) (c.wait_on.ensures.still c.requires.still none) setting _
     (c.in_ok-wait_on.ensures.awaits some c.requires.still setting seen a))

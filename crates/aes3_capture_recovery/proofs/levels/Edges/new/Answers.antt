@@ -1,5 +1,0 @@
-use Rattle.std.proofs.Common.{rules}
-use Rattle.aes3_capture_recovery.proofs.levels.Edges.new.Goals as goal
-
-pub returns-clause-none : goal.returns-clause-none
-returns-clause-none c = search rules
