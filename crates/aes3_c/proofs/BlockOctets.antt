@@ -27,14 +27,7 @@ use Rattle.aes3_c.specs.declared.block_form.BlockForm.{BlockForm}
 use Rattle.aes3_c.specs.declared.block_form.BlockForm.TheVariants.{Cells}
 use Rattle.aes3_c.specs.Blocks.{AreBlocks, AreSampled, block_at, form_len, octets_in, piece_at}
 use Rattle.aes3_c.proofs.BlockPieces.{piece-before, piece-here}
-
--- a word has eight octets
-length-octets : (w : ℕ) → length (octets_of (word_cells w)) ≡ 8
-unfolding octets_of
-length-octets w =
-    let n = length-word_cells w in
-    let k = word_len_64 in
-    length-first_octets (octets_needed (length (word_cells w))) (word_cells w) ∙ omega (arith, n, k)
+use Rattle.aes3_cell.proofs.ManyWords.{length-octets}
 
 -- the octets of one more word
 pub octets-more : (words octets ys : List ℕ) (i k : ℕ) → i < length words → 8 * i ≤ length octets

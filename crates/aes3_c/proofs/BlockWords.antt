@@ -17,13 +17,7 @@ use Rattle.aes3_frame.proofs.FileLaws.{words-of-word}
 use Rattle.aes3_frame.proofs.SampleBlocks.{words-join}
 use Rattle.aes3_frame.proofs.Words.{length-words}
 use Rattle.aes3_c.specs.Blocks.{piece_at, word_read}
-
--- the words of the octets of words
-words-again : (ws : List ℕ) → ((i : ℕ) → i < length ws → get_or ws i 0 < 2 ^ 32) → words_of (flat_map word_bytes ws) ≡ ws
-words-again [] h = refl
-words-again (w ∷ ws) h =
-    words-of-word w (flat_map word_bytes ws) (h 0 (omega arith))
-    ∙ ap (λ xs. w ∷ xs) (words-again ws (λ i l. h (suc i) (omega (arith, l))))
+use Rattle.aes3_block.proofs.BlockReads.{words-again}
 
 -- what is read of a block's octets
 pub read-is : (form w : Words) (own octets : List ℕ) (i n : ℕ)

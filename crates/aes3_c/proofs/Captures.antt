@@ -12,7 +12,7 @@ use Rattle.aes3_capture_recovery.specs.Levels.{bit_of_line, bits_of_sample, leve
 use Rattle.aes3_capture_recovery.specs.Queues.{Queued, Writes, waiting}
 use Rattle.aes3_capture_recovery.specs.Recovering.{AreRecovered, Recovered, Setting}
 use Rattle.aes3_capture_recovery.specs.Taking.{Took}
-use Rattle.aes3_capture_recovery.specs.declared.levels.Unit.TheVariants.{Octets, Pairs}
+use Rattle.aes3_capture_recovery.specs.declared.edges.Unit.TheVariants.{Octets, Pairs}
 use Rattle.aes3_capture_recovery.specs.declared.recovery.Recovery.{Recovery}
 use Rattle.aes3_capture_recovery.specs.declared.recovery.State.TheVariants.{Following}
 use Rattle.aes3_capture_recovery.proofs.Awaiting.{awaits-finds}
@@ -22,6 +22,7 @@ use Rattle.aes3_c.specs.Putting.{put_into}
 use Rattle.aes3_c.specs.Room.{lent_to, taken_in}
 use Rattle.aes3_c.specs.declared.capture.Aes3Capture.{Aes3Capture}
 use Rattle.aes3_c.specs.declared.room.RoomSink.{RoomSink}
+use Rattle.aes3_capture_recovery.proofs.Unfailing.{ok-unless}
 
 -- the bit is one that a sample has
 has-bit : (b : Bool) (bit : ℕ) → bit_of_line (cond b (Pairs (bit % 16)) (Octets (bit % 8)))
@@ -55,11 +56,6 @@ ran-over {A} {R} {E} {taken} {first} {start} {levels} (Ok v) old new before afte
           omega (arith, some, up);
     }
 ran-over (Err e) old new before after p samples recovered up begun writes kept = tt
-
--- a call that would have told a fault, had there been one
-pub ok-unless : {R E : Type 0} {P : Type 0} (result : Result R E) → OnErr result (0 ≡ 0 + 1) → IfOk result (λ x. P) → P
-ok-unless (Ok v) none is = is
-ok-unless (Err e) none is = absurd (omega (arith, none))
 
 -- what stands behind the same front is the same
 same-behind : (front xs ys : List ℕ) → front ++ xs ≡ front ++ ys → xs ≡ ys

@@ -17,11 +17,6 @@ length-put memory octets =
     let rest = length-drop (length octets) memory in
     omega (arith, all, front, rest)
 
--- nothing is put
-pub put-none : (memory : List ℕ) → put_into memory [] ≡ memory
-put-none [] = refl
-put-none (x ∷ memory) = refl
-
 -- as long as there is room
 put-room : (was given more memory part : List ℕ) (n : ℕ) → memory ≡ put_into was given → length given ≤ length was
     → n ≡ min (length more) (length was - length given) → part ≡ take n more

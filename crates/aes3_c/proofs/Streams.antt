@@ -9,7 +9,7 @@ use Rattle.aes3_capture_recovery.specs.Levels.{levels_of_samples}
 use Rattle.aes3_capture_recovery.specs.Taking.{Took}
 use Rattle.aes3_capture_recovery.specs.declared.recovery.Recovery.{Recovery}
 use Rattle.aes3_capture_recovery.specs.declared.recovery.parts.RecoveryParts.{RecoveryParts}
-use Rattle.aes3_capture_recovery.specs.declared.levels.Unit.{Unit}
+use Rattle.aes3_capture_recovery.specs.declared.edges.Unit.{Unit}
 use Rattle.aes3_capture_recovery.proofs.Taking.{took-all, took-join}
 use Rattle.aes3_c.specs.Capturing.{AreCellsOf, RanOver, packed_by, period_of}
 use Rattle.aes3_c.specs.Owed.{owed_in}

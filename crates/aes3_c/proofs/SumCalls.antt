@@ -32,7 +32,8 @@ use Rattle.aes3_c.specs.declared.sum_calls.Aes3Sums.{Aes3Sums}
 use Rattle.aes3_c.specs.Sums.{HasBegunSums, HasSummed, period_in, period_sum, sum_numbers, summed_in}
 use Rattle.aes3_c.specs.Sums.{uncounted_sum}
 use Rattle.aes3_c.specs.Watches.{IsNext, uncounted}
-use Rattle.aes3_c.proofs.WatchCalls.{late-more, next-alike, told-alike, up-uncounted, upto-next}
+use Rattle.aes3_c.proofs.WatchCalls.{late-more, next-alike, told-alike, up-uncounted}
+use Rattle.aes3_lock_gaps.proofs.Telling.{upto-next}
 
 -- what is told of a line does not depend on the number of its losses
 next-uncounted : (every : ℕ) (u : Summed)

@@ -29,6 +29,7 @@ use Rattle.aes3_watch.proofs.WatchedCells.{loss-join, loss-told, next-join, repo
 use Rattle.aes3_c.specs.declared.watch_calls.Aes3Event.{Aes3Event}
 use Rattle.aes3_c.specs.declared.watch_calls.Aes3Watch.{Aes3Watch}
 use Rattle.aes3_c.specs.Watches.{BeginFrom, HasBegun, HasPut, IsNext, event_numbers, uncounted, watched_in}
+use Rattle.aes3_lock_gaps.proofs.Telling.{upto-next}
 
 -- what is told of a line does not depend on that number
 pub up-uncounted : (w : Watched) (q : ℕ) → uncounted (up_to (uncounted w) q) ≡ uncounted (up_to w q)
@@ -96,11 +97,6 @@ more-put : {put now : List Aes3Event} (begun told all : List Event) → put ≡ 
     → now ≡ map event_numbers told → begun ++ told ≡ all → put ++ now ≡ map event_numbers all
 more-put begun told all p n e =
     ap₂ (λ a b. a ++ b) p n ∙ sym (map-append event_numbers begun told) ∙ ap (map event_numbers) e
-
--- a report is of one of the cells
-pub upto-next : (m : ℕ) (a r : List Report) (x : Report) → UpTo m (a ++ x ∷ r) → place_of x ≤ m
-upto-next m [] r x u = u.0
-upto-next m (y ∷ a) r x u = upto-next m a r x u.1
 
 pub next-near : {k : Aes3Watch} {c : List Level} {r : List Report} {put : List Aes3Event} (x : Report)
     → HasPut k c r put → IsNext c r x → place_of x ≤ 2 ^ 43

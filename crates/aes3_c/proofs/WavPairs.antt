@@ -8,10 +8,7 @@ use Rattle.aes3_wave.specs.declared.wave_format.WaveFormat.{WaveFormat}
 use Rattle.aes3_wave.specs.declared.channels.Channels.{Channels}
 use Rattle.aes3_wave.specs.Samples.{two_samples}
 use Rattle.aes3_c.specs.Wav.{ArePairs, frame_at, pair_at}
-
--- what is in memory before a part that was put, and in it
-put-before : (a k : ℕ) (xs ys : List ℕ) (j : ℕ) → j < a → a ≤ length xs → get_or (put_mid a k xs ys) j 0 ≡ get_or xs j 0
-put-before a k xs ys j h l = search (rules, places)
+use Rattle.aes3_c.proofs.BlockPieces.{number-before}
 
 put-in : (a k : ℕ) (xs ys : List ℕ) (j : ℕ) → j < length ys → a ≤ length xs
     → get_or (put_mid a k xs ys) (a + j) 0 ≡ get_or ys j 0
@@ -33,5 +30,5 @@ pairs-more f channels b xs ws i k l two e before j h = go (cases_eq j i)
         ∙ ap (λ n. two_samples f channels (frame_at f n b)) (sym q)
     go (inr q) =
         ap₂ (λ x y. word_bytes x ++ word_bytes y)
-        (put-before (2 * i) k xs ws (2 * j) (omega (arith, q)) l) (put-before (2 * i) k xs ws (2 * j + 1) (omega (arith, q)) l)
+        (number-before (2 * i) k xs ws (2 * j) (omega (arith, q)) l) (number-before (2 * i) k xs ws (2 * j + 1) (omega (arith, q)) l)
         ∙ before j (omega (arith, q))

@@ -17,7 +17,7 @@ use Rattle.aes3_cell.specs.Packed.{cells_of_octets, first_octets, octets_needed,
 use Rattle.aes3_cell.proofs.Octets.{octet_of-octet_cells}
 use Rattle.aes3_cell.proofs.PackedCells.{first_octets-cells_of_octets, length-cells_of_octets}
 use Rattle.aes3_cell.proofs.PackedCells.{cells_of_octets-first_octets}
-use Rattle.aes3_cell.proofs.TurnedOctets.{low_cells-turned, octet_cells-turned}
+use Rattle.aes3_cell.proofs.TurnedOctets.{low_cells-turned, octet_cells-turned, weight-le}
 use Rattle.aes3_level.proofs.WordCells.{low_cells-add, low_cells-mod}
 use Rattle.aes3_cell_octets.specs.Octets.{PacksReversed, reversed, reversed_cells, reversed_octet}
 
@@ -25,12 +25,6 @@ use Rattle.aes3_cell_octets.specs.Octets.{PacksReversed, reversed, reversed_cell
 pub octets-reversed : (v : List ℕ) → cells_of_octets (map reversed v) ≡ flat_map reversed_cells v
 octets-reversed [] = refl
 octets-reversed (x ∷ v) = ap₂ ◌++◌ (octet_cells-turned x) (octets-reversed v)
-
--- a reversed octet is an octet, and reversed again it is as it was
-weight-le : (w : ℕ) (c : List Level) → weight w c ≤ 2 * w - 1
-weight-le w [] = omega arith
-weight-le w (Low ∷ c) = let r = weight-le (w / 2) c in omega arith
-weight-le w (High ∷ c) = let r = weight-le (w / 2) c in omega arith
 
 pub reversed-lt : (x : ℕ) → reversed x < 256
 reversed-lt x = omega (arith, weight-le 128 (low_cells 8 x))

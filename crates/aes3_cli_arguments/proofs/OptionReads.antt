@@ -16,6 +16,7 @@ use Rattle.aes3_cli.specs.CommandLine.{greatest, most_frames}
 use Rattle.aes3_cli_arguments.specs.Jobs.{IsNumber, MayBeFlag, MayBeWithin, Options, is_set, number_by, number_in}
 use Rattle.aes3_cli_arguments.specs.Jobs.{options_of, texts_by}
 use Rattle.aes3_cli_arguments.proofs.OptionRows.{some_inj}
+use Rattle.aes3_cli.proofs.OptionReads.{texts_are, texts_in}
 
 -- `get_flag` tells whether the flag stands
 pub flag_is : (m : ArgMatches) (name : Text) (answer : Bool) → MayBeFlag (options_of m) name
@@ -72,15 +73,6 @@ pub text_is : (m : ArgMatches) (name : Text) (answer is : Option (Bor Text))
     → text_in answer ≡ first_value (found_of m) name
     → answer ≡ is → first_of name (options_of m) ≡ text_in is
 text_is m name answer is read same = sym (first_value-rows (found_of m) name) ∙ (sym read ∙ ap text_in same)
-
--- `get_strs` reads all the texts
-abbrev pub texts_in : Option (Bor (List (Bor Text))) → Option (List Text)
-texts_in = option_map (λ (s : Bor (List (Bor Text))). map (λ (v : Bor Text). v.now) s.now)
-
-pub texts_are : (m : ArgMatches) (name : Text) (answer is : Option (Bor (List (Bor Text))))
-    → texts_in answer ≡ option_map raw_values (matched_of (found_of m) name)
-    → answer ≡ is → all_of name (options_of m) ≡ texts_in is
-texts_are m name answer is read same = sym (raw_values-rows (found_of m) name) ∙ (sym read ∙ ap texts_in same)
 
 -- where none are given, nothing stands in their place
 or_nothing : (o : Option (Bor (List (Bor Text)))) (none : Bor (List (Bor Text))) → none.now ≡ []

@@ -10,7 +10,7 @@ use Rattle.aes3_frame.specs.Blocks.{IsBlock, block_subframes}
 use Rattle.aes3_frame.specs.Files.{payload_of}
 use Rattle.aes3_frame.specs.Statuses.{bits_of_bytes, bytes_in, status_len, status_of, status_place, with_bits, with_status}
 use Rattle.aes3_frame.proofs.Each.{all-payloads}
-use Rattle.aes3_frame.proofs.Runs.{Each27}
+use Rattle.aes3_frame.proofs.Runs.{Each27, each27-payloads}
 use Rattle.aes3_frame.proofs.StatusBits.{length-bits_of_bytes}
 use Rattle.aes3_bits.proofs.Bits.{length-low_bits}
 use Rattle.aes3_slot.specs.Slots.{payload_len}
@@ -25,17 +25,11 @@ use Rattle.aes3_engine.specs.Rewriting.{IsStatus, changed, checked, mended, mend
 use Rattle.aes3_engine.specs.Rewriting.{with_bits_given, with_status_changed}
 use Rattle.aes3_engine.proofs.BitsAt.{channel-apart}
 
--- the words of a block make one
-each-word : (words : List ℕ) → Each27 (map payload_of words)
-unfolding payload_len
-each-word [] = tt
-each-word (w ∷ words) = (length-low_bits 27 (w / 16), each-word words)
-
 pub block-of-words : (words : List ℕ) (b : List (List Bool)) → length words ≡ block_subframes → map payload_of words ≡ b
     → IsBlock b
 block-of-words words b l e = record {
   count = ap length (sym e) ∙ length-map words payload_of ∙ l;
-  payloads = all-payloads b (subst Each27 e (each-word words));
+  payloads = all-payloads b (subst Each27 e (each27-payloads words));
 }
 
 -- what is set twice is as it is set the second time

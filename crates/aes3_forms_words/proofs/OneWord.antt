@@ -49,9 +49,6 @@ pub turned : (s t u : ℕ) → s < 256 → t < 256
     → (u % 16 * 16 + s / 16) % 16 * 16 + (s % 16 * 16 + t / 16) / 16 ≡ s
 turned s t u hs ht = omega arith
 
-pub turned-lt : (s t : ℕ) → s < 256 → t < 256 → s % 16 * 16 + t / 16 < 256
-turned-lt s t hs ht = omega arith
-
 pub am824-back : (p a b c d : ℕ) → a < 256 → b < 256 → c < 256 → d < 256
     → (let e = with_code (code Am824 p) a in
     unwritten_word Am824 p (e % 16 * 16 + d / 16) (d % 16 * 16 + c / 16) (c % 16 * 16 + b / 16) (b % 16 * 16 + e / 16))

@@ -1,13 +1,14 @@
 -- Cells in words, by their bits.
 use Rattle.std.proofs.Common.{◌≡◌, ℕ, zero, suc, ◌+◌, ◌*◌, ◌/◌, ◌%◌, ◌^◌, ◌<◌, [], ◌∷◌, ◌++◌, length, take, drop, min}
-use Rattle.std.proofs.Common.{get_or, refl, sym, ap, ap₂, ◌∙◌, arith, add-one, w64}
+use Rattle.std.proofs.Common.{◌⊎◌, inl, inr, get_or, refl, sym, ap, ap₂, ◌∙◌, arith, add-one, w64}
 use Rattle.std.specs.Prelude.{bit_or}
-use Rattle.std.specs.Int.{bit_at}
+use Rattle.std.specs.Int.{bit_at, trailing_zeros}
 use Rattle.std.specs.Int.Bits.{or_shifted_r}
+use Rattle.std.proofs.lemmas.Bool.{cases_eq}
 use Rattle.std.proofs.lemmas.List.{drop_at, take_at}
 use Rattle.std.proofs.lemmas.Nat.{one_shl, shr-shr, and_mask}
 use Rattle.std.proofs.lemmas.Nat.Bits.{bit_at_lowest, bit_at-suc, bit_at_above, bit_at_set_same, bit_at_set_other}
-use Rattle.std.proofs.lemmas.Nat.Bits.{bit_at_and, bit_at_ones, bit_at-lt}
+use Rattle.std.proofs.lemmas.Nat.Bits.{bit_at_and, bit_at_ones, bit_at-lt, bit_at-trailing_zeros, bit_at-zero}
 use Rattle.std.proofs.Math.Nat.{pow-succ'}
 use Rattle.aes3_level.specs.declared.level.Level.TheVariants.{Low, High}
 use Rattle.aes3_level.specs.Words.{level_of, low_cells, word_len, word_cells}
@@ -95,3 +96,11 @@ with_bit-lt n w h lt =
   where
     one-times : 2 ^ n ≡ 1 * 2 ^ n
     one-times = omega arith
+
+-- the bits below the lowest one are zeros
+pub below-trailing : (m i : ℕ) → m < 2 ^ 64 → i < trailing_zeros w64 m → bit_at m i ≡ 0
+below-trailing m i few g = go (cases_eq m 0)
+  where
+    go : (m ≡ 0) ⊎ (m ≡ 0 → ⊥) → bit_at m i ≡ 0
+    go (inl z) = ap (λ x. bit_at x i) z ∙ bit_at-zero i
+    go (inr s) = (bit_at-trailing_zeros w64 m (omega (arith, s)) few).2 i g

@@ -55,7 +55,7 @@ mark-third X u = refl
 mark-third Y u = refl
 mark-third Z u = refl
 
-mark-fourth : (m : Mark) (u : Level) → shape m 3 u ≡ u
+pub mark-fourth : (m : Mark) (u : Level) → shape m 3 u ≡ u
 mark-fourth X Low = refl
 mark-fourth X High = refl
 mark-fourth Y Low = refl

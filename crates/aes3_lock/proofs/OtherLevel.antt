@@ -19,7 +19,7 @@ use Rattle.aes3_lock.proofs.Distances.{block-kept, block-level, part-cell, part-
 use Rattle.aes3_frame.proofs.BlockLemmas.{block_subframes_384}
 
 -- cell k of a preamble after the other level is the other one
-shape-other : (m : Mark) (k : ℕ) (s : Level) → k < 8 → shape m k (other s) ≡ other (shape m k s)
+pub shape-other : (m : Mark) (k : ℕ) (s : Level) → k < 8 → shape m k (other s) ≡ other (shape m k s)
 shape-other X zero s h = refl
 shape-other X (suc zero) s h = refl
 shape-other X (suc (suc zero)) s h = refl

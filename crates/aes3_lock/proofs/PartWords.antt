@@ -10,7 +10,7 @@ use Rattle.std.proofs.lemmas.List.{drop-append-le}
 use Rattle.std.proofs.lemmas.Nat.{shr_le, and_le_r, one_shl, pow_pos}
 use Rattle.aes3_level.specs.declared.level.Level.{Level}
 use Rattle.aes3_level.specs.Words.{level_of, low_cells, word_cells}
-use Rattle.aes3_level.proofs.WordCells.{length-low_cells, low_cells-add}
+use Rattle.aes3_level.proofs.WordCells.{length-low_cells, low_cells-add, below-trailing}
 use Rattle.aes3_level.proofs.Moves.{bit_at-shr}
 use Rattle.aes3_slot.specs.declared.mark.Mark.{Mark}
 use Rattle.aes3_slot.specs.ReadWords.{read_words}
@@ -35,7 +35,7 @@ use Rattle.aes3_lock.proofs.Fronts.{front-is, keeps-append}
 use Rattle.aes3_lock.proofs.LastEight.{last_eight-more, length-last_eight}
 use Rattle.aes3_lock.proofs.PushedWords.{parts as part-cells}
 use Rattle.aes3_lock.proofs.SubframeWords.{take-low, take-word, cells-first}
-use Rattle.aes3_lock.proofs.QuietWords.{below-trailing, lowest-one}
+use Rattle.aes3_lock.proofs.QuietWords.{lowest-one}
 use Rattle.aes3_lock.proofs.WordSteps.{more-cells, made-whole, start, start-length, start-last, keeps-part}
 use Rattle.aes3_lock.proofs.Following.{hand, hand-open, offset, tested, goes-on, push-last}
 use Rattle.aes3_lock.proofs.TakenWords.{all-64}

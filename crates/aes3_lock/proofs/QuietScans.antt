@@ -12,7 +12,7 @@ use Rattle.std.proofs.Math.Seq.{take-add}
 use Rattle.aes3_level.specs.declared.level.Level.{Level}
 use Rattle.aes3_level.specs.Words.{low_cells, level_of, word_cells}
 use Rattle.aes3_level.proofs.Moves.{bit_at-shr}
-use Rattle.aes3_level.proofs.WordCells.{length-low_cells}
+use Rattle.aes3_level.proofs.WordCells.{length-low_cells, below-trailing}
 use Rattle.aes3_slot.specs.declared.mark.Mark.{Mark}
 use Rattle.aes3_slot.specs.declared.mark.Mark.TheVariants.{X, Y, Z}
 use Rattle.aes3_slot.specs.Preambles.{entry, begins_with, begins_with_any}
@@ -20,7 +20,7 @@ use Rattle.aes3_slot.proofs.Beginnings.{any-append}
 use Rattle.aes3_lock.specs.Preambles.{first_mark, placed, marks}
 use Rattle.aes3_lock.specs.Steps.{last_eight, ended_mark}
 use Rattle.aes3_lock.proofs.SubframeWords.{take-low}
-use Rattle.aes3_lock.proofs.QuietWords.{says-no, says-yes, below-trailing, ends-at, quiet-at, with-last}
+use Rattle.aes3_lock.proofs.QuietWords.{says-no, says-yes, ends-at, quiet-at, with-last}
 use Rattle.aes3_lock.proofs.Scanning.{ended-short, ended-long, marks-last}
 
 -- whether a preamble begins

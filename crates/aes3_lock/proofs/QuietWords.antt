@@ -11,7 +11,7 @@ use Rattle.std.proofs.lemmas.Bool.{cases_eq}
 use Rattle.std.proofs.lemmas.Nat.Bits.{bit_at-trailing_zeros, bit_at-zero}
 use Rattle.aes3_level.specs.declared.level.Level.{Level}
 use Rattle.aes3_level.specs.Words.{level_of, low_cells, word_cells}
-use Rattle.aes3_level.proofs.WordCells.{length-low_cells, drop-low_cells, low_cells-suc}
+use Rattle.aes3_level.proofs.WordCells.{length-low_cells, drop-low_cells, low_cells-suc, below-trailing}
 use Rattle.aes3_slot.specs.declared.mark.Mark.TheVariants.{Z}
 use Rattle.aes3_slot.specs.Preambles.{with_seven}
 use Rattle.aes3_slot.proofs.ReadSubframes.{length-word}
@@ -95,14 +95,6 @@ says-no false q = refl
 pub says-yes : (b : Bool) → ◌≡◌ {A = ℕ} (if b then 1 else 0) 1 → b ≡ true
 says-yes true q = refl
 says-yes false q = absurd (omega arith)
-
--- the bits below the lowest one, and that
-pub below-trailing : (m i : ℕ) → m < 2 ^ 64 → i < trailing_zeros w64 m → bit_at m i ≡ 0
-below-trailing m i few g = go (cases_eq m 0)
-  where
-    go : (m ≡ 0) ⊎ (m ≡ 0 → ⊥) → bit_at m i ≡ 0
-    go (inl z) = ap (λ x. bit_at x i) z ∙ bit_at-zero i
-    go (inr s) = (bit_at-trailing_zeros w64 m (omega (arith, s)) few).2 i g
 
 pub lowest-one : (m n : ℕ) → m < 2 ^ 64 → n ≡ trailing_zeros w64 m → n < 64 → bit_at m n ≡ 1
 lowest-one m n few e h = go (cases_eq m 0)

@@ -85,7 +85,7 @@ kind-behind : (counts : Bool) (p q : ℕ) → p ≤ q → behind_entry p (kind c
 kind-behind true p q h = omega arith
 kind-behind false p q h = omega arith
 
-kind-quiet : (counts : Bool) (p n : ℕ) → reports_in (kind counts p n ∷ []) ≡ []
+pub kind-quiet : (counts : Bool) (p n : ℕ) → reports_in (kind counts p n ∷ []) ≡ []
 kind-quiet true p n = refl
 kind-quiet false p n = refl
 

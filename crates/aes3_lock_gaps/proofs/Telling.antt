@@ -20,7 +20,7 @@ use Rattle.aes3_lock_gaps.specs.Gaps.{account_from, reached_from}
 use Rattle.aes3_lock_gaps.specs.Told.{ComesNext, HasBegun, Tells, behind_entries, behind_entry, due_before, due_gaps}
 use Rattle.aes3_lock_gaps.specs.Told.{gap_entry, reports_in}
 use Rattle.aes3_lock_gaps.proofs.BegunAccounts.{account-stands}
-use Rattle.aes3_lock_gaps.proofs.NextGaps.{due-next, full-none}
+use Rattle.aes3_lock_gaps.proofs.NextGaps.{due-next, full-none, kind-quiet}
 use Rattle.aes3_lock_gaps.proofs.ToldFronts.{Left, left_from, left-behind, in-append, behind-append, compare}
 
 -- the gaps that are due at the end, and those of cells that any can follow
@@ -46,11 +46,6 @@ left-of {k} {c} {e} t = left-behind 0 0 (reports c) (at_end c) e t.more (sym (ac
 
 count-is : (e : List Entry) → 0 + length (wholes (reports_in e)) ≡ length (wholes (reports_in e))
 count-is e = omega arith
-
--- an entry more
-kind-quiet : (b : Bool) (p n : ℕ) → reports_in (kind b p n ∷ []) ≡ []
-kind-quiet true p n = refl
-kind-quiet false p n = refl
 
 more-begins : (a e more rest : List Entry) (y : Entry) → a ≡ e ++ more → more ≡ y ∷ rest → a ≡ (e ++ y ∷ []) ++ rest
 more-begins a e more rest y h g = h ∙ ap (λ z. e ++ z) g ∙ sym (append_assoc e (y ∷ []) rest)
@@ -106,7 +101,7 @@ gap-before {k} k' {c} {e} x d g i h p f t next =
     tells-gap k' t g (due_gaps k'.place d ++ reported x ∷ b.rest)
     (b.is ∙ ap (λ z. z ++ reported x ∷ b.rest) (ap (due_gaps k.place) (sym i) ∙ h)) p f
 
-upto-next : (m : ℕ) (a r : List Report) (x : Report) → UpTo m (a ++ x ∷ r) → place_of x ≤ m
+pub upto-next : (m : ℕ) (a r : List Report) (x : Report) → UpTo m (a ++ x ∷ r) → place_of x ≤ m
 upto-next m [] r x u = u.0
 upto-next m (y ∷ a) r x u = upto-next m a r x u.1
 

@@ -1,11 +1,11 @@
 -- A run that is flushed: what is told of it where it was refused, or where that failed.
 use Rattle.std.proofs.Common.{◌≡◌, ◌≢◌, ℕ, ◌+◌, inl, inr, Bool, List, Option, Some, Result, Ok, Err, refl, sym, ap, subst, ◌∙◌}
 use Rattle.std.proofs.Common.{arith}
-use Rattle.aes3_cell.specs.declared.refusal.RunError.{RunError}
-use Rattle.aes3_cell.specs.declared.refusal.RunError.TheVariants.{Read, Write}
+use Rattle.aes3_refusals.specs.declared.run_error.RunError.{RunError}
+use Rattle.aes3_refusals.specs.declared.run_error.RunError.TheVariants.{Read, Write}
 use Rattle.aes3_cell.specs.declared.counts.Counts.{Counts}
 use Rattle.aes3_input.specs.Running.{Failed, InputRan, InputRun, Movement, Promise, Quiet}
-use Rattle.aes3_input.proofs.InputRuns.{Gives, run-err, run-ok, run-write, run-sink_quiet}
+use Rattle.aes3_input.proofs.InputRuns.{Gives, run-err, run-ok, run-write, run-sink_quiet, quiet-sink}
 use Rattle.aes3_cli_jobs.specs.declared.job.Job.{Job}
 use Rattle.aes3_cli_jobs.specs.declared.job.Job.TheVariants as job
 use Rattle.aes3_cli_jobs.specs.declared.work.ReadWork.{ReadWork}
@@ -98,20 +98,13 @@ pub answered-of : {j job' : Job} (ended : Bool) (source sink : Movement) (o : Re
     → Answered job' ended source sink o → Answered j ended source sink o
 answered-of ended source sink o e run = subst (λ (x : Job). Answered x ended source sink o) (sym e) run
 
--- a refusal moves the sink where it can't be written, and then once
-quiet-run : {A : Type 0} (p : Promise A) (max : ℕ) (b : List ℕ) (ended : Bool) (source sink : Movement) (e : RunError)
-    → InputRan p max b ended source sink (Err e) → e ≢ Write → Quiet sink
-quiet-run p max b ended source sink Write r n = absurd (n refl)
-quiet-run p max b ended source sink Read r n = r.2
-quiet-run p max b ended source sink e r n = r.2
-
 wave-quiet : (options : WaveOptions) (b : List ℕ) (ended : Bool) (source sink : Movement) (e : WaveError)
     → WaveRan options most b ended source sink (Err e) → e ≢ wave_error.Run Write → Quiet sink
 wave-quiet options b ended source sink (wave_error.Header e) (refused, short, quiet, unwritten) n = unwritten.0
 wave-quiet options b ended source sink (wave_error.NoChannel k) (lacks, quiet, unwritten) n = unwritten.0
 wave-quiet options b ended source sink (wave_error.Run e) ran n = elim ran [
   | inl (read, unwritten) ↦ unwritten.0
-  | inr (header, ran) ↦ quiet-run (promise_for options header) (limit_of header most) b ended source sink e ran.ran
+  | inr (header, ran) ↦ quiet-sink (promise_for options header) (limit_of header most) b ended source sink e ran.ran
       (λ q. n (ap wave_error.Run q))
 ]
 

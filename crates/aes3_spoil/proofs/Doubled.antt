@@ -20,7 +20,7 @@ use Rattle.aes3_lock.specs.Remains.{after_insertion}
 use Rattle.aes3_lock.specs.Reports.{blocks}
 use Rattle.aes3_lock.proofs.Apart.{differs-true, differs-false}
 use Rattle.aes3_lock.proofs.Inserted.{blocks-inserted}
-use Rattle.aes3_lock.proofs.InsertedCells.{first-run}
+use Rattle.aes3_lock.proofs.InsertedCells.{first-run, mark-fourth}
 use Rattle.aes3_lock.proofs.LawfulPieces.{stream-length, stream_marks, stream-stands}
 use Rattle.aes3_lock.proofs.PieceBounds.{second-false}
 use Rattle.aes3_spoil.specs.declared.errors.Errors.{Errors}
@@ -46,15 +46,6 @@ given-same f g p i j (b ∷ bs) a h =
     head (inl o) =
         second-false i p (p + block_len) j (f p b) [] o ∙ sym (second-false i p (p + block_len) j (g p b) [] o)
     head (inr o) = ap (λ t. cond (leb i p && leb (p + block_len) j) t []) (h p b a o)
-
--- the fourth cell of a preamble
-fourth : (m : Mark) (s : Level) → shape m 3 s ≡ s
-fourth X Low = refl
-fourth X High = refl
-fourth Y Low = refl
-fourth Y High = refl
-fourth Z Low = refl
-fourth Z High = refl
 
 module _ (s : Level) (bs : List (List (List Bool))) (h : EachBlock bs) (k : ℕ) (inside : k < length (stream s bs)) where
   -- the cells of a preamble
@@ -91,7 +82,7 @@ module _ (s : Level) (bs : List (List (List Bool))) (h : EachBlock bs) (k : ℕ)
           let i = inside in
           differs-false s (at (stream s bs) k)
           (sym (ap (at (stream s bs)) e ∙ cell q 3 a (omega (arith, e, i)) (lit< tt)
-          ∙ fourth (stream_marks (q / 64)) s))
+          ∙ mark-fourth (stream_marks (q / 64)) s))
 
       held : (t : Bool) → cond (t && false) [] (b ∷ []) ≡ b ∷ []
       held true = refl

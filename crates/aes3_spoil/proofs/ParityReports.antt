@@ -47,6 +47,7 @@ use Rattle.aes3_spoil.specs.Subframes.{parity_cell}
 use Rattle.aes3_spoil.proofs.Damaged.{inverted-one}
 use Rattle.aes3_spoil.proofs.Parity.{at-other, at-turned, drop-turned, length-turned, take-turned}
 use Rattle.aes3_spoil.proofs.Parity.{turned_from, wrong-outcome}
+use Rattle.aes3_lock.proofs.OtherLevel.{shape-other}
 
 -- cells before the one from which on they are turned, and behind it
 at-early : (x : ℕ) (d : List Level) (y : ℕ) → y < x → at (turned_from x d) y ≡ at d y
@@ -75,12 +76,6 @@ drop-late y zero d l = drop-map other y d
 drop-late zero (suc x) d l = absurd (omega arith)
 drop-late (suc y) (suc x) [] l = refl
 drop-late (suc y) (suc x) (a ∷ d) l = drop-late y x d (omega arith)
-
--- the rule of subframes, of cells turned behind one of them
-shape-other : (m : Mark) (k : ℕ) (t : Level) → k < 8 → shape m k (other t) ≡ other (shape m k t)
-shape-other m k t l =
-    ap (λ c. at c k) (sym (line-other t (mark_runs m)))
-    ∙ at-other (line t (mark_runs m)) k (let n = length-mark t m in omega (arith, n, l))
 
 kept-turned : (marks : ℕ → Mark) (s : Level) (d : List Level) (x : ℕ) → AllKept marks s d → x % 64 ≡ 63
     → AllKept marks s (turned_from x d)

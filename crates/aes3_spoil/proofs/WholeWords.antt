@@ -16,6 +16,7 @@ use Rattle.aes3_cell.proofs.WrittenForms.{bytes-append, bytes-nothing}
 use Rattle.aes3_capture_recovery.specs.Endings.{ending_of, finished}
 use Rattle.aes3_capture_recovery.proofs.EndBytes.{finished-joined}
 use Rattle.aes3_spoil.specs.Spoiling.{bytes_added, whole_words}
+use Rattle.aes3_cell.proofs.LineSteps.{begun_cells-append}
 
 pub length-whole : (c : List Level) → length (whole_words c) ≡ length c / word_len * word_len
 unfolding whole_words word_len
@@ -47,13 +48,6 @@ unfolding whole_words
 whole-behind n a x h =
     ap (λ k. take k (a ++ x)) (moved n 0 a x h) ∙ take-append-add a x (word_len * (length x / word_len))
 
-pub begun-behind : (n : ℕ) (a x : List Level) → length a ≡ n * word_len → begun_cells (a ++ x) ≡ begun_cells x
-unfolding begun_cells
-begun-behind n a x h =
-    let m = word_len * (length x / word_len) in
-    ap (λ k. drop k (a ++ x)) (moved n 0 a x h) ∙ sym (drop-drop m (length a) (a ++ x))
-    ∙ ap (drop m) (drop_at a x (length a) refl)
-
 -- fewer than a word
 pub whole-few : (c : List Level) → length c < 64 → whole_words c ≡ []
 unfolding whole_words word_len
@@ -71,7 +65,7 @@ whole-word w c h =
 
 pub begun-word : (w : ℕ) (c : List Level) → length c < 64 → begun_cells (word_cells w ++ c) ≡ c
 begun-word w c h =
-    begun-behind 1 (word_cells w) c (let l = length-word_cells w in omega (arith, l)) ∙ begun-few c h
+    begun_cells-append 1 (word_cells w) c (let l = length-word_cells w in omega (arith, l)) ∙ begun-few c h
 
 -- more cells
 behind-parts : (c d : List Level) → c ++ d ≡ whole_words c ++ (begun_cells c ++ d)
@@ -80,7 +74,7 @@ behind-parts c d = ap (λ x. x ++ d) (sym (parts c)) ∙ append_assoc (whole_wor
 pub begun-more : (c d : List Level) → begun_cells (c ++ d) ≡ begun_cells (begun_cells c ++ d)
 begun-more c d =
     ap begun_cells (behind-parts c d)
-    ∙ begun-behind (length c / word_len) (whole_words c) (begun_cells c ++ d) (length-whole c)
+    ∙ begun_cells-append (length c / word_len) (whole_words c) (begun_cells c ++ d) (length-whole c)
 
 pub bytes-more : (form : Form) (c d : List Level)
     → bytes_of form (whole_words (c ++ d)) ≡ bytes_of form (whole_words c) ++ bytes_added form (begun_cells c) d

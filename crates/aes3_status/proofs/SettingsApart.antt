@@ -22,6 +22,7 @@ use Rattle.aes3_status.specs.Statuses.{is_professional}
 use Rattle.aes3_status.specs.Settings.{place_of, is_for, set_by, told_by, under, with_code, with_field}
 use Rattle.aes3_status.specs.SettingLaws.{first_bit, share_bits, OtherCodesStay, OtherMeaningsStay}
 use Rattle.aes3_status.proofs.SettingLemmas.{behind-use, field-is, others-stay}
+use Rattle.aes3_status.proofs.Tables.{test-get_or}
 
 -- one ends before the other begins
 abbrev apart : Place → Place → Bool
@@ -45,14 +46,6 @@ same-or-apart number place share f g = eqb (number f) (number g) || (share f g |
 abbrev pairs-apart : {F : Type 0} → (F → ℕ) → (F → Place) → (F → F → Bool) → List F → Bool
 pairs-apart number place share fields = list_all (λ f. list_all (same-or-apart number place share f) fields) fields
 
-pub passes : {F : Type 0} (p : F → Bool) (xs : List F) (i : ℕ) (d : F) → i < length xs → list_all p xs ≡ true
-    → p (get_or xs i d) ≡ true
-passes p xs i d l h = go (p (get_or xs i d)) refl
-  where
-    go : (b : Bool) → p (get_or xs i d) ≡ b → p (get_or xs i d) ≡ true
-    go true e = e
-    go false e = let g = sym h ∙ list_all_at p xs i d l e in cc
-
 -- where the two have no bits in common
 unshared : (b c : Bool) → (b || c) ≡ true → b ≡ false → c ≡ true
 unshared true c h none = cc
@@ -67,11 +60,11 @@ pair-apart number place share fields within back h f g other none = go (eqb (num
     first : list_all (same-or-apart number place share f) fields ≡ true
     first =
         subst (λ x. list_all (same-or-apart number place share x) fields ≡ true) (back f)
-        (passes (λ x. list_all (same-or-apart number place share x) fields) fields (number f) f (within f) h)
+        (test-get_or (λ x. list_all (same-or-apart number place share x) fields) fields (number f) f (within f) h)
 
     second : same-or-apart number place share f g ≡ true
     second = subst (λ x. same-or-apart number place share f x ≡ true) (back g)
-        (passes (same-or-apart number place share f) fields (number g) g (within g) first)
+        (test-get_or (same-or-apart number place share f) fields (number g) g (within g) first)
 
     go : (b : Bool) → eqb (number f) (number g) ≡ b → (b || (share f g || apart (place f) (place g))) ≡ true
         → Apart (place f) (place g)

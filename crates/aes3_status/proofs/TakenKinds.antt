@@ -23,7 +23,7 @@ use Rattle.aes3_status.specs.Bits.{byte_bits}
 use Rattle.aes3_status.specs.Settings.{code_for, set_by, set_in_turn}
 use Rattle.aes3_status.specs.Taken.{example_of, has_code, kind_of, nothing_taken, taken_by, takes, takes_wide, telling_bits}
 use Rattle.aes3_status.proofs.StatusKinds.{takes-same, wide-same}
-use Rattle.aes3_status.proofs.SettingsApart.{passes}
+use Rattle.aes3_status.proofs.Tables.{test-get_or}
 
 -- ---- an example of each kind
 examples-tried : list_all (λ kind. eqb (kind_of (example_of kind)) kind) (range_with_len 0 64) ≡ true
@@ -33,7 +33,7 @@ examples-tried = refl
 pub example-kind : (kind : ℕ) → kind < 64 → kind_of (example_of kind) ≡ kind
 example-kind kind h =
     let e : get_or (range_with_len 0 64) kind 0 ≡ kind = get_or-range_with_len 0 64 kind 0 h ∙ omega arith in
-    let p = passes (λ k. eqb (kind_of (example_of k)) k) (range_with_len 0 64) kind 0 h examples-tried in
+    let p = test-get_or (λ k. eqb (kind_of (example_of k)) k) (range_with_len 0 64) kind 0 h examples-tried in
     eqb-true (kind_of (example_of kind)) kind (rw e at p)
 
 pub length-example : (kind : ℕ) → length (example_of kind) ≡ 24
@@ -191,7 +191,7 @@ examples-without met kind e =
     sym (append-nil (examples met kind))
     ∙ ap (λ b. examples met kind ++ cond b (example_of kind ∷ []) []) (sym e) ∙ ap (examples met) (sym (add-one kind))
 
--- one of them passes a test where one of the statuses does
+-- one of them test-get_or a test where one of the statuses does
 record Passing (p : List ℕ → Bool) (met : List Bool) (n : ℕ) : Type 0 where
   kind : ℕ
   below : kind < n

@@ -6,8 +6,8 @@ use Rattle.std.proofs.lemmas.Bool.{and_parts, ltb-true}
 use Rattle.std.proofs.lemmas.List.{length-append, take_all}
 use Rattle.aes3_cell.specs.Ends.{Grew, Told}
 use Rattle.aes3_cell.specs.declared.counts.Counts.{Counts}
-use Rattle.aes3_cell.specs.declared.refusal.RunError.{RunError}
-use Rattle.aes3_cell.specs.declared.refusal.RunError.TheVariants.{BadLength, BadSample, Read, SoundHeader, TooLong, Write}
+use Rattle.aes3_refusals.specs.declared.run_error.RunError.{RunError}
+use Rattle.aes3_refusals.specs.declared.run_error.RunError.TheVariants.{BadLength, BadSample, Read, SoundHeader, TooLong, Write}
 use Rattle.aes3_cell.proofs.Growing.{grew-join, told-is}
 use Rattle.aes3_input.specs.Running.{InputRan, InputRun, Movement, Promise, Quiet}
 use Rattle.aes3_input.proofs.InputRuns.{run-owed}
@@ -33,12 +33,6 @@ has-second : (f : WaveFormat) (second : Option ℕ) → has_second f second ≡ 
 has-second f None h = λ n e. cc
 has-second f (Some second) h = λ n e.
     let q : second ≡ n = cc in subst (λ v. v < f.channels) q (ltb-true second f.channels h)
-
-pub has-both : (f : WaveFormat) (channels : Channels) → has_channels f channels ≡ true
-    → (channels.first < f.channels) × ForSome channels.second (λ n. n < f.channels)
-has-both f channels h =
-    let p = and_parts (nat_lt channels.first f.channels) (has_second f channels.second) h in
-    (ltb-true channels.first f.channels p.0, has-second f channels.second p.1)
 
 -- a source that had not failed before
 source-from : {A : Type 0} (p : Promise A) (max : ℕ) (b : List ℕ) (ended : Bool) (s₀ s₁ s : Option (List ℕ))

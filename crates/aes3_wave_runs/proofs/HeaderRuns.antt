@@ -5,7 +5,7 @@ use Rattle.std.proofs.lemmas.Bool.{cases_lt}
 use Rattle.std.proofs.lemmas.List.{length-append, length-take-le, take_all}
 use Rattle.std.proofs.Math.Seq.{take-append-add}
 use Rattle.aes3_cell.specs.Ends.{Grew}
-use Rattle.aes3_cell.specs.declared.refusal.RunError.TheVariants.{Read, TooLong}
+use Rattle.aes3_refusals.specs.declared.run_error.RunError.TheVariants.{Read, TooLong}
 use Rattle.aes3_cell.proofs.Growing.{grew-is, grew-join, grew-none}
 use Rattle.aes3_input.proofs.Pieces.{changed}
 use Rattle.aes3_wave.specs.declared.chunk.WaveHeader.{WaveHeader}
@@ -58,16 +58,6 @@ read-more r' p k n u g l t none still =
       none = still (u.bytes ++ p) w;
     }
 
--- the source fails
-pub read-failed : {g₀ g g' : Option (List ℕ)} {r : HeaderReader} {seen : ℕ} (max n₀ n n' : ℕ) (ended : Bool)
-    → ReadSo g₀ g r seen → seen ≤ max → n ≡ n₀ → n' ≡ n + 1 → g' ≡ g
-    → HeaderRun max ended (changed g₀ g' n₀ n') (Err (Run Read))
-read-failed {g₀ = g₀} max n₀ n n' ended u h e f same = record {
-  bytes = u.bytes;
-  given = subst (λ (v : Option (List ℕ)). Grew g₀ v u.bytes) (sym same) u.given;
-  ran = (u.none, (let c = u.count in omega arith), f ∙ ap (λ k. k + 1) e);
-}
-
 -- it ends
 pub read-ended : {g₀ g g' : Option (List ℕ)} {r : HeaderReader} {seen : ℕ} (max n₀ n : ℕ) (ended : Bool)
     (e : HeaderError) → (u : ReadSo g₀ g r seen) → seen ≤ max → n ≡ n₀ → Grew g g' [] → IsTrue ended
@@ -78,13 +68,6 @@ read-ended max n₀ n ended e u h q g end w = record {
   given = grew-is (append-nil u.bytes) (grew-join u.given g);
   ran = (record { says = sym w; end = λ _. end }, (let c = u.count in omega arith), q);
 }
-
-pub not-ended : {g₀ g : Option (List ℕ)} {r : HeaderReader} {seen : ℕ} (h : WaveHeader) → (u : ReadSo g₀ g r seen)
-    → Ok h ≡ judged_at_end u.bytes → ⊥
-not-ended h u w = wrong (w ∙ ap (at_end (length u.bytes)) u.none)
-  where
-    wrong : {e : HeaderError} → Ok h ≡ Err e → ⊥
-    wrong q = cc
 
 -- one octet too many
 pub read-long : {g₀ g g' : Option (List ℕ)} {r : HeaderReader} {seen : ℕ} (max n₀ n : ℕ) (ended : Bool) (p : List ℕ)

@@ -1,9 +1,10 @@
 use Rattle.std.proofs.Common.{◌<◌, ◌∙◌, sym, subst, refl}
 use Rattle.aes3_capture_recovery.specs.Levels.{bit_of_line, bits_of_sample, levels_of_samples}
-use Rattle.aes3_capture_recovery.specs.declared.levels.Unit.{Unit}
+use Rattle.aes3_capture_recovery.specs.declared.edges.Unit.{Unit}
 use Rattle.aes3_c.specs.Capturing.{unit_of}
-use Rattle.aes3_c.proofs.Captures.{Gave, gave, is-captured, ok-unless, unit-has-bit}
+use Rattle.aes3_c.proofs.Captures.{Gave, gave, is-captured, unit-has-bit}
 use Rattle.aes3_c.proofs.recovering.recover_to.Goals as goal
+use Rattle.aes3_capture_recovery.proofs.Unfailing.{ok-unless}
 
 -- what the recovery gave the sink
 given : (c : goal.After-put_found) → Gave c.args.period

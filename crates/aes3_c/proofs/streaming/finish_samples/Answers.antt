@@ -3,9 +3,10 @@ use Rattle.aes3_capture_recovery.specs.declared.recovery.Recovery.{Recovery}
 use Rattle.aes3_capture_recovery.proofs.Taking.{took-none}
 use Rattle.aes3_c.specs.Owed.{owed_in}
 use Rattle.aes3_c.specs.Streaming.{EndedOctets}
-use Rattle.aes3_c.proofs.Captures.{ok-unless, ran-over}
+use Rattle.aes3_c.proofs.Captures.{ran-over}
 use Rattle.aes3_c.proofs.Streams.{ended-octets}
 use Rattle.aes3_c.proofs.streaming.finish_samples.Goals as goal
+use Rattle.aes3_capture_recovery.proofs.Unfailing.{ok-unless}
 
 pub returns-clause-ended : goal.returns-clause-ended
 returns-clause-ended g c = λ is. record {

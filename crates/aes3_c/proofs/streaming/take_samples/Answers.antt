@@ -3,9 +3,9 @@ use Rattle.aes3_capture_recovery.specs.Levels.{levels_of_samples}
 use Rattle.aes3_capture_recovery.specs.declared.recovery.Recovery.{Recovery}
 use Rattle.aes3_c.specs.Owed.{owed_in}
 use Rattle.aes3_c.specs.Streaming.{TookOctets}
-use Rattle.aes3_c.proofs.Captures.{ok-unless}
 use Rattle.aes3_c.proofs.Streams.{took-octets}
 use Rattle.aes3_c.proofs.streaming.take_samples.Goals as goal
+use Rattle.aes3_capture_recovery.proofs.Unfailing.{ok-unless}
 
 pub returns-clause-took : goal.returns-clause-took
 returns-clause-took g c = λ is. record {
