@@ -95,8 +95,8 @@ fn put_renewed<T: Sink>(
     put_words(form, &cells, sink)
 }
 
-/// Whether two levels are the same.
-fn are_same(first: Level, second: Level) -> bool
+/// Whether two levels are equal.
+fn are_equal(first: Level, second: Level) -> bool
     ensures { result ≡ same first second }
 {
     first == second
@@ -153,7 +153,7 @@ pub fn put_read_block<T: Sink>(
     let Some(level) = gathered.level_before() else {
         return put_renewed(form, before, kept, sink);
     };
-    if are_same(level, before) {
+    if are_equal(level, before) {
         put_words(form, kept, sink)
     } else {
         put_inverted(form, kept, sink)

@@ -8,7 +8,7 @@ use Rattle.std.proofs.lemmas.List.{take-append-drop}
 use Rattle.std.proofs.lemmas.List.Sums.{take_while-cons}
 use Rattle.aes3_level.specs.declared.level.Level.{Level}
 use Rattle.aes3_level.specs.declared.level.Level.TheVariants.{Low, High}
-use Rattle.aes3_cell.specs.declared.refusal.BadCell.{BadCell}
+use Rattle.aes3_cell.specs.declared.cell_text.BadCell.{BadCell}
 use Rattle.aes3_level.specs.Words.{word_len}
 use Rattle.aes3_cell.specs.Text.{byte_of, line_text, lines_text, text_of}
 use Rattle.aes3_cell.specs.CellText.{Kind, cell, separator, bad, kind_of, is_good, kind_cells, is_good_byte, byte_cells}

@@ -2,7 +2,7 @@
 use Rattle.std.proofs.Common.{◌≡◌, ℕ, ◌<◌, List, [], ◌∷◌, ◌++◌, true, Option, Some, None, Result, Ok, Err, length, refl}
 use Rattle.std.proofs.Common.{sym, ap, ap₂, ◌∙◌, subst, arith, append_assoc, append-nil, length-append}
 use Rattle.aes3_level.specs.declared.level.Level.{Level}
-use Rattle.aes3_cell.specs.declared.refusal.BadCell.{BadCell}
+use Rattle.aes3_cell.specs.declared.cell_text.BadCell.{BadCell}
 use Rattle.aes3_cell.specs.CellText.{IsCellText, cells_of_text, good}
 use Rattle.aes3_cell.specs.Packed.{is_packed, cells_of_packed, packed_of}
 use Rattle.aes3_cell.specs.PackedFeeding.{cells_fed, octets_fed}

@@ -6,7 +6,7 @@ use Rattle.std.proofs.Common.{◌==◌}
 use Rattle.std.proofs.lemmas.List.{take_at, take_all, length-reverse, reverse-append, reverse-reverse}
 use Rattle.std.proofs.Math.Seq.{take-append-add}
 use Rattle.aes3_level.specs.declared.level.Level.{Level}
-use Rattle.aes3_cell.specs.declared.refusal.BadPadding.{BadPadding}
+use Rattle.aes3_cell.specs.declared.packed_in.BadPadding.{BadPadding}
 use Rattle.aes3_cell.specs.Packed.{octet_cells, cells_of_octets, IsPacked, is_padded, ends_packed, is_packed}
 use Rattle.aes3_cell.specs.Packed.{last_place, last_octet, cells_of_packed, whole_cells}
 use Rattle.aes3_cell.specs.PackedReading.{PackedReader, packed_reader_of, packed_answer, packed_next, end_answer}

@@ -47,7 +47,7 @@ octet_cells-turned x = octet_cells-octet_of (low_cells 8 x) (length-low_cells 8 
 pub low_cells-turned : (x : ℕ) → low_cells 8 (turned_octet x) ≡ octet_cells x
 low_cells-turned x = sym (reverse-reverse (low_cells 8 (turned_octet x))) ∙ ap reverse (octet_cells-turned x)
 
-weight-le : (w : ℕ) (c : List Level) → weight w c ≤ 2 * w - 1
+pub weight-le : (w : ℕ) (c : List Level) → weight w c ≤ 2 * w - 1
 weight-le w [] = omega arith
 weight-le w (Low ∷ c) = let r = weight-le (w / 2) c in omega arith
 weight-le w (High ∷ c) = let r = weight-le (w / 2) c in omega arith

@@ -4,7 +4,7 @@ use Rattle.std.specs.Prelude.{IsTrue}
 use Rattle.aes3_level.specs.declared.level.Level.{Level}
 use Rattle.aes3_level.specs.Words.{word_len}
 use Rattle.aes3_cell.specs.Text.{text_of}
-use Rattle.aes3_cell.specs.declared.refusal.BadCell.{BadCell}
+use Rattle.aes3_cell.specs.declared.cell_text.BadCell.{BadCell}
 use Rattle.aes3_cell.specs.CellText.{IsCellText, cells_of_text, good}
 use Rattle.aes3_cell.specs.PackedFeeding.{cells_fed, octets_fed}
 use Rattle.aes3_cell.specs.PackedPending.{octets_added}

@@ -6,7 +6,6 @@ pub mod Ends
 pub mod Attempts
 pub mod Writes
 pub mod Buffering
-pub mod Refusals
 pub mod Memory
 pub mod Pending
 pub mod TextReading

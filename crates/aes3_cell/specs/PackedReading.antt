@@ -1,7 +1,7 @@
 -- Packed cells read octet by octet.
 use Rattle.std.specs.Prelude.{ℕ, zero, suc, List, [], length, take, get_or, reverse, Option, Some, None, Result, Ok}
 use Rattle.std.specs.Prelude.{Err, ◌+◌, ◌-◌, ◌==◌, nat_lt, if◌then◌else◌}
-use Rattle.aes3_cell.specs.declared.refusal.BadPadding.{BadPadding}
+use Rattle.aes3_cell.specs.declared.packed_in.BadPadding.{BadPadding}
 use Rattle.aes3_level.specs.declared.level.Level.{Level}
 use Rattle.aes3_cell.specs.Packed.{octet_cells, is_padded}
 

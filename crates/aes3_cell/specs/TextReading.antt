@@ -1,7 +1,7 @@
 -- Cell text read byte by byte.
 use Rattle.std.specs.Prelude.{ℕ, List, length, Option, Some, None, Result, Ok, Err, ◌≡◌, ◌+◌}
 use Rattle.aes3_level.specs.declared.level.Level.{Level}
-use Rattle.aes3_cell.specs.declared.refusal.BadCell.{BadCell}
+use Rattle.aes3_cell.specs.declared.cell_text.BadCell.{BadCell}
 use Rattle.aes3_cell.specs.CellText.{Kind, cell, separator, bad, kind_of, cells_of_text, IsCellText}
 
 -- how many bytes a reader has taken

@@ -9,7 +9,7 @@ ghost use Rattle.aes3_cell.specs.declared.form.Form.TheVariants.{Text};
 
 use crate::ends::{Fault, Sink};
 use crate::form::Form;
-use crate::written::{LINES_LEN, MANY, fill_lines, octets_of_words};
+use crate::word::{LINES_LEN, MANY, fill_lines, octets_of_words};
 use std::alloc::{AllocError, Global};
 
 /// How many bytes it holds at most.

@@ -13,7 +13,6 @@ ghost use Rattle.std.specs.List.{flat_map};
 ghost use Rattle.aes3_level.specs.declared.level.Level.{Level};
 ghost use Rattle.aes3_cell.specs.TextLines.{LineBegins};
 
-use crate::refusal::BadCell;
 use crate::scattered::cells_among;
 use crate::some_cells::SomeCells;
 use crate::word::{LINE_LEN, word_of_text};
@@ -31,6 +30,13 @@ const CELL_BYTES: u64 = 0x3030_3030_3030_3030;
 
 /// The bits in which cells of text differ.
 const LEVEL_BITS: u64 = 0x0101_0101_0101_0101;
+
+/// A byte of cell text that is neither a cell nor a separator.
+#[derive(Clone, Copy, PartialEq, Eq)]
+pub struct BadCell {
+    /// Its place, counted in bytes from 0 over the whole input.
+    pub at: u64,
+}
 
 /// Reads cell text byte by byte, or 64 bytes at once if all are cells.
 ///

@@ -10,7 +10,7 @@ ghost use Rattle.aes3_cell.specs.Writes.{Wrote};
 ghost use Rattle.aes3_cell.specs.Written.{bytes_of};
 
 use crate::form::Form;
-use crate::written::MANY;
+use crate::word::MANY;
 
 /// A device's fault. No byte was moved.
 #[derive(Clone, Copy, PartialEq, Eq)]

@@ -31,8 +31,6 @@ mod packed_in;
 mod packed_out;
 /// Octets of packed cells as words of cells, many at once.
 mod packed_words;
-/// Refusals: why a run is rejected, and the number of each.
-mod refusal;
 /// Cells among separators, 64 bytes at once.
 mod scattered;
 /// A sink in memory that takes few bytes in a call, for tests.
@@ -43,15 +41,14 @@ mod some_cells;
 mod standard;
 /// Writing cell text.
 mod text_out;
-/// Words of 64 cells, their line of text and their octets.
+/// Words of 64 cells, their line of text, their octets, and how a sink gets them.
 mod word;
-/// Words of cells written in either form.
-mod written;
 
 pub use aes3_level::Level;
+pub use aes3_refusals::RunError;
 pub use attempts::{Reader, Trouble, Writer};
 pub use buffered::BufferedSink;
-pub use cell_text::{CellText, LINES, TextFront};
+pub use cell_text::{BadCell, CellText, LINES, TextFront};
 pub use counts::Counts;
 pub use endless::EndlessSource;
 pub use ends::{Fault, Sink, Source, write_all};
@@ -59,13 +56,14 @@ pub use failing::{FailingSink, FailingSource};
 pub use form::Form;
 pub use holding::HoldingSink;
 pub use memory::{MemorySink, MemorySource};
-pub use packed_in::PackedIn;
+pub use packed_in::{BadPadding, PackedIn};
 pub use packed_out::PackedOut;
 pub use packed_words::words_of_octets;
-pub use refusal::{BadCell, BadPadding, RunError};
 pub use short::ShortSink;
 pub use some_cells::SomeCells;
 pub use standard::{StdSink, StdSource};
 pub use text_out::TextOut;
-pub use word::{LINE_LEN, line_of_word, octets_of_word, word_of_octets, word_of_text};
-pub use written::{put_ending, put_word, put_words};
+pub use word::{
+    LINE_LEN, line_of_word, octets_of_word, put_ending, put_word, put_words, word_of_octets,
+    word_of_text,
+};

@@ -30,8 +30,14 @@ ghost use Rattle.aes3_cell.specs.PackedReading.{packed_reader_of, end_answer};
 ghost use Rattle.aes3_level.specs.Words.{word_cells};
 
 use crate::packed_words::words_of_octets;
-use crate::refusal::BadPadding;
 use crate::word::word_of_octets;
+
+/// Packed cells that end wrongly.
+#[derive(Clone, Copy, PartialEq, Eq)]
+pub struct BadPadding {
+    /// The place of the last octet, counted from 0; 0 if there is no octet.
+    pub at: u64,
+}
 
 /// Whether the last `unused` cells of an octet, fewer than eight, are Low.
 fn is_rightly_padded(octet: u8, unused: u8) -> bool

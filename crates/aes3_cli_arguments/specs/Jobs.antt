@@ -17,7 +17,7 @@ use Rattle.clap.specs.declared.error.kind.ErrorKind.{ErrorKind}
 use Rattle.clap.specs.declared.error.kind.ErrorKind.TheVariants.{DisplayHelp, DisplayVersion, OutOfMemory}
 use Rattle.aes3_cell.specs.declared.form.Form.{Form}
 use Rattle.aes3_cell.specs.declared.form.Form.TheVariants as form
-use Rattle.aes3_cell.specs.declared.refusal.RunError.TheVariants.{BadStatusText, Inexact, Memory}
+use Rattle.aes3_refusals.specs.declared.run_error.RunError.TheVariants.{BadStatusText, Inexact, Memory}
 use Rattle.aes3_frame.specs.declared.fill.Fill.{Fill}
 use Rattle.aes3_frame.specs.declared.fill.Fill.TheVariants.{Zero, Hold}
 use Rattle.aes3_frame.specs.declared.block.Channel.{Channel}

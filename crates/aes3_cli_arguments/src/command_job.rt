@@ -10,7 +10,7 @@ ghost use Rattle.aes3_cli_arguments.specs.Jobs.{TellsSettings, form_by, input_by
 ghost use Rattle.aes3_cli_arguments.specs.Jobs.{IsInexact, IsSampleChange, mends, option_at, refused_text, takes_change};
 ghost use Rattle.aes3_cli_arguments.specs.Jobs.{takes_settings};
 ghost use Rattle.aes3_cli_arguments.specs.declared.command_job.LineFault.TheVariants.{Refused};
-ghost use Rattle.aes3_cell.specs.declared.refusal.RunError.TheVariants.{BadStatusText, Inexact, Memory};
+ghost use Rattle.aes3_refusals.specs.declared.run_error.RunError.TheVariants.{BadStatusText, Inexact, Memory};
 
 use crate::event_style::notation;
 use crate::format::format;

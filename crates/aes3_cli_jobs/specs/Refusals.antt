@@ -1,6 +1,6 @@
 -- The number of each refusal of a command line or its job, as the program prints it, and its place.
 use Rattle.std.specs.Prelude.{ℕ, Option, Some}
-use Rattle.aes3_cell.specs.Refusals.{number_of, place_of}
+use Rattle.aes3_refusals.specs.Refusals.{number_of, place_of}
 use Rattle.aes3_cli_jobs.specs.declared.wave_refusal.Refusal.{Refusal}
 use Rattle.aes3_cli_jobs.specs.declared.wave_refusal.Refusal.TheVariants.{Run, Header, NoChannel}
 

@@ -12,8 +12,8 @@ use Rattle.std.proofs.lemmas.List.{get_or_append_left, take-append-drop, length-
 use Rattle.std.proofs.Math.Seq.{take-append-add}
 use Rattle.std.proofs.lemmas.List.{take-replicate}
 use Rattle.std.proofs.lemmas.List.{drop-drop, get_or-take, get_or_past, nil_from_length}
-use Rattle.aes3_cell.specs.declared.refusal.RunError.{RunError}
-use Rattle.aes3_cell.specs.declared.refusal.RunError.TheVariants.{BadLength, BadSample, SoundHeader}
+use Rattle.aes3_refusals.specs.declared.run_error.RunError.{RunError}
+use Rattle.aes3_refusals.specs.declared.run_error.RunError.TheVariants.{BadLength, BadSample, SoundHeader}
 use Rattle.aes3_cell.specs.Ends.{Grew, GrewFront}
 use Rattle.aes3_files.specs.Sound.{begins_sound}
 use Rattle.aes3_cell.proofs.Growing.{grew-none, grew-is, front-is}

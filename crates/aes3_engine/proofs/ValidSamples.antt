@@ -7,7 +7,7 @@ use Rattle.std.specs.List.{flat_map, All}
 use Rattle.std.proofs.lemmas.List.{drop_all, drop_at, take_all}
 use Rattle.aes3_bits.specs.Bits.{low_bits}
 use Rattle.aes3_bits.proofs.Bits.{length-low_bits}
-use Rattle.aes3_cell.specs.declared.refusal.RunError.{RunError}
+use Rattle.aes3_refusals.specs.declared.run_error.RunError.{RunError}
 use Rattle.aes3_cell.specs.declared.counts.Counts.{Counts}
 use Rattle.aes3_cell.specs.declared.form.Form.{Form}
 use Rattle.aes3_cell.specs.Ends.{Grew, Told}

@@ -21,7 +21,7 @@ use Rattle.aes3_level.specs.declared.level.Level.TheVariants.{Low}
 use Rattle.aes3_frame.specs.Blocks.{stream}
 use Rattle.aes3_frame.specs.Files.{file_blocks}
 use Rattle.aes3_frame.proofs.FileLaws.{file_blocks-file, length-bytes}
-use Rattle.aes3_cell.specs.declared.refusal.RunError.{RunError}
+use Rattle.aes3_refusals.specs.declared.run_error.RunError.{RunError}
 use Rattle.aes3_cell.specs.Ends.{Grew, Told}
 use Rattle.aes3_cell.proofs.Growing.{grew-is}
 use Rattle.aes3_input.specs.Running.{InputRun, Movement}

@@ -2,10 +2,10 @@
 use Rattle.std.specs.Prelude.{ℕ, List, [], Bool, true, false, Option, Some, None, Result, Ok, Err, ◌≡◌, ◌<◌, ◌≤◌, ◌+◌}
 use Rattle.std.specs.Prelude.{◌*◌, ◌%◌, IsTrue, length, take, get_or}
 use Rattle.aes3_level.specs.declared.level.Level.TheVariants.{Low}
-use Rattle.aes3_cell.specs.declared.refusal.RunError.{RunError}
-use Rattle.aes3_cell.specs.declared.refusal.RunError.TheVariants.{BadCell, BadLength, BadCode, BadParity, Read, Write}
-use Rattle.aes3_cell.specs.declared.refusal.RunError.TheVariants.{TooLong, Memory, BadStatusText, BadPadding, BadSample}
-use Rattle.aes3_cell.specs.declared.refusal.RunError.TheVariants.{SoundHeader, Inexact}
+use Rattle.aes3_refusals.specs.declared.run_error.RunError.{RunError}
+use Rattle.aes3_refusals.specs.declared.run_error.RunError.TheVariants.{BadCell, BadLength, BadCode, BadParity, Read, Write}
+use Rattle.aes3_refusals.specs.declared.run_error.RunError.TheVariants.{TooLong, Memory, BadStatusText, BadPadding, BadSample}
+use Rattle.aes3_refusals.specs.declared.run_error.RunError.TheVariants.{SoundHeader, Inexact}
 use Rattle.aes3_cell.specs.declared.counts.Counts.{Counts}
 use Rattle.aes3_block.specs.declared.file.FileFault.{FileFault}
 use Rattle.aes3_frame.specs.Blocks.{block_subframes, block_len, block_cells, stream}

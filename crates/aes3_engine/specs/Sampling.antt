@@ -3,9 +3,9 @@ use Rattle.std.specs.Prelude.{ℕ, List, [], ◌∷◌, ◌++◌, Bool, true, fa
 use Rattle.std.specs.Prelude.{◌%◌}
 use Rattle.std.specs.Prelude.{◌==◌, IsTrue, length, take, drop, get_or, if◌then◌else◌}
 use Rattle.aes3_cell.specs.declared.counts.Counts.{Counts}
-use Rattle.aes3_cell.specs.declared.refusal.RunError.{RunError}
-use Rattle.aes3_cell.specs.declared.refusal.RunError.TheVariants.{BadLength, BadSample, Read, Write, TooLong}
-use Rattle.aes3_cell.specs.declared.refusal.RunError.TheVariants.{SoundHeader}
+use Rattle.aes3_refusals.specs.declared.run_error.RunError.{RunError}
+use Rattle.aes3_refusals.specs.declared.run_error.RunError.TheVariants.{BadLength, BadSample, Read, Write, TooLong}
+use Rattle.aes3_refusals.specs.declared.run_error.RunError.TheVariants.{SoundHeader}
 use Rattle.aes3_files.specs.Sound.{begins_sound, sound_head_len}
 use Rattle.aes3_frame.specs.Files.{bytes_number, words_of}
 use Rattle.aes3_frame.specs.Sampled.{sampled, filled}

@@ -1,6 +1,6 @@
 -- What a piece and an end answer, where the sink is then asked to pass on what it holds.
 use Rattle.std.proofs.Common.{◌≡◌, ℕ, ◌+◌, List, Option, Ok, Err, ap, sym, ◌∙◌, subst}
-use Rattle.aes3_cell.specs.declared.refusal.RunError.TheVariants.{Write}
+use Rattle.aes3_refusals.specs.declared.run_error.RunError.TheVariants.{Write}
 use Rattle.aes3_cell.specs.Ends.{GrewFront}
 use Rattle.aes3_cell.proofs.Growing.{front-all}
 use Rattle.aes3_input.specs.Converting.{out_behind}

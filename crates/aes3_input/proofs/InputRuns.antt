@@ -1,8 +1,8 @@
 -- What a run says clause by clause, whatever it promises, and how one promise gives another.
 use Rattle.std.proofs.Common.{◌≡◌, ◌≢◌, ℕ, ◌+◌, ◌≤◌, ◌⊎◌, inl, inr, Bool, List, length, take, Result, Ok, Err, IfOk}
 use Rattle.std.proofs.Common.{OnErr, IfErr, IsOk, refl, ap, subst, arith}
-use Rattle.aes3_cell.specs.declared.refusal.RunError.{RunError}
-use Rattle.aes3_cell.specs.declared.refusal.RunError.TheVariants.{Read, Write}
+use Rattle.aes3_refusals.specs.declared.run_error.RunError.{RunError}
+use Rattle.aes3_refusals.specs.declared.run_error.RunError.TheVariants.{Read, Write}
 use Rattle.aes3_cell.specs.Ends.{Grew, GrewFront, Told}
 use Rattle.aes3_cell.proofs.Growing.{grew-is, front-is, told-is}
 use Rattle.aes3_input.specs.Running.{Movement, Quiet, Failed, Promise, Complete, InputRan, InputRun}
@@ -150,7 +150,7 @@ pub run-write : {A : Type 0} {p : Promise A} {max : ℕ} {ended : Bool} {source 
 run-write {p = p} {max} {ended} {source} {sink} run q
     = (subst (λ v. InputRan p max run.bytes ended source sink v) q run.ran).1
 
-quiet-sink : {A : Type 0} (p : Promise A) (max : ℕ) (b : List ℕ) (ended : Bool) (source sink : Movement) (e : RunError)
+pub quiet-sink : {A : Type 0} (p : Promise A) (max : ℕ) (b : List ℕ) (ended : Bool) (source sink : Movement) (e : RunError)
     → InputRan p max b ended source sink (Err e)
     → e ≢ Write → Quiet sink
 quiet-sink p max b ended source sink Write r n = absurd (n refl)

@@ -1,7 +1,7 @@
 -- Faults and outputs of joined bytes.
 use Rattle.std.proofs.Common.{◌≡◌, ℕ, List, [], ◌∷◌, ◌++◌, Option, Some, None, sym, ap, ◌∙◌, append_assoc, append-nil}
 use Rattle.std.proofs.Common.{refl}
-use Rattle.aes3_cell.specs.declared.refusal.RunError.{RunError}
+use Rattle.aes3_refusals.specs.declared.run_error.RunError.{RunError}
 use Rattle.aes3_input.specs.Converting.{Reading, or_else, unless, fault_behind, out_behind, before_fault, first_fault}
 use Rattle.aes3_input.specs.Converting.{out}
 

@@ -4,10 +4,10 @@ use Rattle.std.proofs.Common.{Some, None, Ok, Err, refl, sym, ap, ap₂, ◌∙�
 use Rattle.std.proofs.lemmas.Option.{none-some, same_Some}
 use Rattle.aes3_level.specs.declared.level.Level.{Level}
 use Rattle.aes3_cell.specs.declared.form.Form.TheVariants.{Packed}
-use Rattle.aes3_cell.specs.declared.refusal.RunError.{RunError}
-use Rattle.aes3_cell.specs.declared.refusal.RunError.TheVariants.{Read, Write, TooLong, BadCell, BadLength, BadCode}
-use Rattle.aes3_cell.specs.declared.refusal.RunError.TheVariants.{BadParity, Memory, BadStatusText, BadPadding}
-use Rattle.aes3_cell.specs.declared.refusal.RunError.TheVariants.{BadSample, SoundHeader, Inexact}
+use Rattle.aes3_refusals.specs.declared.run_error.RunError.{RunError}
+use Rattle.aes3_refusals.specs.declared.run_error.RunError.TheVariants.{Read, Write, TooLong, BadCell, BadLength, BadCode}
+use Rattle.aes3_refusals.specs.declared.run_error.RunError.TheVariants.{BadParity, Memory, BadStatusText, BadPadding}
+use Rattle.aes3_refusals.specs.declared.run_error.RunError.TheVariants.{BadSample, SoundHeader, Inexact}
 use Rattle.aes3_cell.specs.Packed.{IsPacked, is_packed, last_place, cells_of_packed, whole_cells}
 use Rattle.aes3_cell.specs.PackedReading.{PackedReader, packed_reader_of, packed_answer, packed_end, answer_cells}
 use Rattle.aes3_cell.specs.PackedReading.{end_cells}

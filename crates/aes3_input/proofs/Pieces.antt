@@ -4,8 +4,8 @@ use Rattle.std.proofs.Common.{None, Ok, Err, sym, ap, ◌∙◌, subst, append-n
 use Rattle.std.proofs.lemmas.Bool.{cases_lt}
 use Rattle.std.proofs.lemmas.List.{take_all, take-take, length-take-le}
 use Rattle.std.proofs.Math.Seq.{take-append-add}
-use Rattle.aes3_cell.specs.declared.refusal.RunError.{RunError}
-use Rattle.aes3_cell.specs.declared.refusal.RunError.TheVariants.{Read, Write, TooLong}
+use Rattle.aes3_refusals.specs.declared.run_error.RunError.{RunError}
+use Rattle.aes3_refusals.specs.declared.run_error.RunError.TheVariants.{Read, Write, TooLong}
 use Rattle.aes3_cell.specs.Ends.{Grew}
 use Rattle.aes3_cell.proofs.Growing.{grew-join, grew-is, front-join, front-is}
 use Rattle.aes3_input.specs.Converting.{Reading, before_fault, first_fault, out, whole}

@@ -2,9 +2,9 @@
 use Rattle.std.proofs.Common.{◌≡◌, ℕ, List, [], ◌∷◌, ◌++◌, false, cond, Option, Some, None, Err, length, refl, sym, ap}
 use Rattle.std.proofs.Common.{◌∙◌, subst, append-nil}
 use Rattle.aes3_level.specs.declared.level.Level.{Level}
-use Rattle.aes3_cell.specs.declared.refusal.RunError.{RunError}
-use Rattle.aes3_cell.specs.declared.refusal.RunError.TheVariants as refusal
-use Rattle.aes3_cell.specs.declared.refusal.BadCell.{BadCell}
+use Rattle.aes3_refusals.specs.declared.run_error.RunError.{RunError}
+use Rattle.aes3_refusals.specs.declared.run_error.RunError.TheVariants as refusal
+use Rattle.aes3_cell.specs.declared.cell_text.BadCell.{BadCell}
 use Rattle.aes3_cell.specs.CellText.{is_good_byte, byte_cells, cells_of_text}
 use Rattle.aes3_cell.specs.TextReading.{TextReader, text_reader_of, text_answer}
 use Rattle.aes3_cell.proofs.Growing.{grew-none, grew-is}

@@ -1,6 +1,6 @@
 -- What is made of an input's bytes: their faults, and the bytes that they write.
 use Rattle.std.specs.Prelude.{ℕ, List, [], ◌∷◌, ◌++◌, Option, Some, None}
-use Rattle.aes3_cell.specs.declared.refusal.RunError.{RunError}
+use Rattle.aes3_refusals.specs.declared.run_error.RunError.{RunError}
 
 -- for one more byte behind bytes without a fault: whether it is a fault, and what it writes; the same for the end
 pub record Reading : Type 0 where

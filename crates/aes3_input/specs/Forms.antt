@@ -2,7 +2,7 @@
 use Rattle.std.specs.Prelude.{ℕ, List, ◌++◌, Some, None, Result, Ok, Err, ◌≡◌, ◌+◌, ◌<◌, length, take}
 use Rattle.std.specs.Prelude.{if◌then◌else◌}
 use Rattle.aes3_level.specs.declared.level.Level.{Level}
-use Rattle.aes3_cell.specs.declared.refusal.RunError.TheVariants.{BadCell, BadPadding}
+use Rattle.aes3_refusals.specs.declared.run_error.RunError.TheVariants.{BadCell, BadPadding}
 use Rattle.aes3_cell.specs.declared.ends.Fault.{Fault}
 use Rattle.aes3_cell.specs.Ends.{Grew, GrewFront}
 use Rattle.aes3_cell.specs.Packed.{octet_cells, is_packed, last_place, cells_of_packed, whole_cells}

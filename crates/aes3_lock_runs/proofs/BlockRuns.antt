@@ -7,7 +7,7 @@ use Rattle.std.proofs.Math.Seq.{take-nil, drop-nil}
 use Rattle.std.proofs.lemmas.Bool.{leb-true, leb-false, ltb-true, ltb-false}
 use Rattle.std.proofs.lemmas.List.{take-append-drop}
 use Rattle.std.specs.Prelude.{map}
-use Rattle.aes3_cell.specs.declared.refusal.RunError.{RunError}
+use Rattle.aes3_refusals.specs.declared.run_error.RunError.{RunError}
 use Rattle.aes3_level.specs.declared.level.Level.{Level}
 use Rattle.aes3_level.specs.declared.level.Level.TheVariants.{Low}
 use Rattle.aes3_cell.specs.declared.form.Form.{Form}

@@ -3,7 +3,7 @@ use Rattle.std.proofs.Common.{◌≡◌, ◌≤◌, ◌==◌, ◌&&◌, ◌||◌
 use Rattle.std.proofs.Common.{if◌then◌else◌, nat_lt}
 use Rattle.aes3_cell.specs.declared.counts.Counts.{Counts}
 use Rattle.aes3_cell.specs.declared.form.Form.{Form}
-use Rattle.aes3_cell.specs.declared.refusal.RunError.TheVariants as refusal
+use Rattle.aes3_refusals.specs.declared.run_error.RunError.TheVariants as refusal
 use Rattle.aes3_input.specs.Running.{Movement, Promise}
 use Rattle.aes3_cell.proofs.Growing.{grew-is}
 use Rattle.aes3_cli_arguments.specs.declared.command_job.LineFault.{LineFault}

@@ -1,7 +1,7 @@
 -- The lines that tell a refusal, a remark on a job that ended well, and words that can not be read.
 use Rattle.std.specs.Option.{option_map_or}
 use Rattle.std.specs.Prelude.{ℕ, List, [], ◌∷◌, ◌++◌, Option, Some, None, codes, decimal}
-use Rattle.aes3_cell.specs.declared.refusal.RunError.TheVariants as refusal
+use Rattle.aes3_refusals.specs.declared.run_error.RunError.TheVariants as refusal
 use Rattle.aes3_cli_jobs.specs.Refusals.{number_of_refusal, place_of_refusal}
 use Rattle.aes3_cli_jobs.specs.declared.wave_refusal.Refusal.{Refusal}
 use Rattle.aes3_cli_jobs.specs.declared.wave_refusal.Refusal.TheVariants.{Run}

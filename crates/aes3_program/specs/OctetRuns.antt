@@ -3,7 +3,7 @@ use Rattle.std.specs.Prelude.{ℕ, List, [], Bool, true, false, Option, None, Is
 use Rattle.aes3_level.specs.declared.level.Level.{Level}
 use Rattle.aes3_cell.specs.Ends.{Grew}
 use Rattle.aes3_cell.specs.Packed.{Packs}
-use Rattle.aes3_cell.specs.declared.refusal.RunError.TheVariants.{Read, Write}
+use Rattle.aes3_refusals.specs.declared.run_error.RunError.TheVariants.{Read, Write}
 use Rattle.aes3_input.specs.Running.{Movement, Quiet, Failed}
 use Rattle.aes3_cell_octets.specs.Octets.{PacksReversed, reversed}
 use Rattle.aes3_cell_octets.specs.Told.{all_reversed, only, raw_told, reversed_told}

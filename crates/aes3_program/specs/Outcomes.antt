@@ -3,7 +3,7 @@ use Rattle.std.specs.Option.{unwrap_or}
 use Rattle.std.specs.Prelude.{ℕ, ◌==◌, ◌∷◌, if◌then◌else◌, replicate, List, [], Option, Some, None, Result, Ok, Err, ◌≡◌}
 use Rattle.std.specs.Prelude.{Bool, ◌||◌, ◌&&◌, not, is_some}
 use Rattle.aes3_cell.specs.declared.counts.Counts.{Counts}
-use Rattle.aes3_cell.specs.declared.refusal.RunError.{RunError}
+use Rattle.aes3_refusals.specs.declared.run_error.RunError.{RunError}
 use Rattle.aes3_cell.specs.Ends.{Grew}
 use Rattle.aes3_input.specs.Running.{Movement, Promise, Quiet}
 use Rattle.aes3_cli_jobs.specs.declared.wave_refusal.Refusal.{Refusal}

@@ -1,7 +1,7 @@
 -- What the program does for a command line.
 use Rattle.std.specs.Prelude.{ℕ, List, [], Result, Ok, Err, ◌≡◌, ◌⊎◌}
 use Rattle.aes3_cell.specs.Ends.{Grew}
-use Rattle.aes3_cell.specs.declared.refusal.RunError.TheVariants.{Memory, Write}
+use Rattle.aes3_refusals.specs.declared.run_error.RunError.TheVariants.{Memory, Write}
 use Rattle.aes3_input.specs.Running.{Movement, Quiet, Failed}
 use Rattle.aes3_status.specs.declared.typed_settings.TypedSettings.{TypedSettings}
 use Rattle.aes3_cli_jobs.specs.declared.job.Job.{Job}

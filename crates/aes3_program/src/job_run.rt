@@ -1,7 +1,7 @@
 //! A job between a source and a sink, its final flush and its exit status.
 
 ghost use Rattle.std.specs.Prelude.{◌≡◌, ◌≢◌, ◌<◌, ◌≤◌, ◌+◌, ◌^◌, IfOk, None, Some};
-ghost use Rattle.aes3_cell.specs.declared.refusal.RunError.TheVariants.{Write};
+ghost use Rattle.aes3_refusals.specs.declared.run_error.RunError.TheVariants.{Write};
 ghost use Rattle.aes3_input.specs.Running.{movement_of};
 ghost use Rattle.aes3_cli_jobs.specs.declared.wave_refusal.Refusal.TheVariants.{Run};
 ghost use Rattle.aes3_cli_jobs.specs.declared.work.ReadWork.TheVariants.{ToPcm, ToWav};

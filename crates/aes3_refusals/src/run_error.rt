@@ -1,24 +1,10 @@
-//! Refusals: why a run or a command line is rejected, and the number of each, 1 to 13.
+//! Why a run or a command line is rejected, and the number of each refusal, 1 to 13.
 
 ghost use Rattle.std.specs.Prelude.{◌≡◌};
-ghost use Rattle.aes3_cell.specs.Refusals.{number_of, place_of};
+ghost use Rattle.aes3_refusals.specs.Refusals.{number_of, place_of};
 
 use std::fmt::{self, Debug, Display, Formatter, Write};
 use thiserror::Error;
-
-/// A byte of cell text that is neither a cell nor a separator.
-#[derive(Clone, Copy, PartialEq, Eq)]
-pub struct BadCell {
-    /// Its place, counted in bytes from 0 over the whole input.
-    pub at: u64,
-}
-
-/// Packed cells that end wrongly.
-#[derive(Clone, Copy, PartialEq, Eq)]
-pub struct BadPadding {
-    /// The place of the last octet, counted from 0; 0 if there is no octet.
-    pub at: u64,
-}
 
 /// The thirteen errors of a run or a command line.
 #[derive(Clone, Copy, PartialEq, Eq, Error)]

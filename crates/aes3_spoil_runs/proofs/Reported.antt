@@ -3,8 +3,8 @@ use Rattle.std.proofs.Common.{◌≡◌, ◌≢◌, ◌∙◌, ◌↔◌, ℕ, �
 use Rattle.std.proofs.Common.{arith}
 use Rattle.aes3_cell.specs.Ends.{Told}
 use Rattle.aes3_cell.specs.declared.counts.Counts.{Counts}
-use Rattle.aes3_cell.specs.declared.refusal.RunError.{RunError}
-use Rattle.aes3_cell.specs.declared.refusal.RunError.TheVariants.{Write}
+use Rattle.aes3_refusals.specs.declared.run_error.RunError.{RunError}
+use Rattle.aes3_refusals.specs.declared.run_error.RunError.TheVariants.{Write}
 use Rattle.aes3_input.specs.Running.{Movement, Quiet}
 use Rattle.aes3_input.proofs.CellRuns.{no-cell-cause}
 use Rattle.aes3_input.proofs.InputRuns.{run-owed, run-sink_quiet, run-told, run-write}

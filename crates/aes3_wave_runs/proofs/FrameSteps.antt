@@ -6,8 +6,8 @@ use Rattle.std.proofs.Math.Nat.{div-mul-le_self, le_of_mul-le-mul_right, mul-le-
 use Rattle.std.proofs.lemmas.Nat.{le-div}
 use Rattle.std.specs.Prelude.{if◌then◌else◌}
 use Rattle.std.proofs.lemmas.List.{drop_at, length-append, length-take, length-take-le, take-take, take_all}
-use Rattle.aes3_cell.specs.declared.refusal.RunError.{RunError}
-use Rattle.aes3_cell.specs.declared.refusal.RunError.TheVariants.{BadLength, Read, TooLong, Write}
+use Rattle.aes3_refusals.specs.declared.run_error.RunError.{RunError}
+use Rattle.aes3_refusals.specs.declared.run_error.RunError.TheVariants.{BadLength, Read, TooLong, Write}
 use Rattle.aes3_cell.proofs.Growing.{grew-none}
 use Rattle.aes3_input.specs.Converting.{Reading, fault_behind, first_fault, or_else}
 use Rattle.aes3_input.specs.Running.{EndRan, Fed, FrontRan, InputState, Movement, PieceRan}

@@ -2,8 +2,8 @@
 use Rattle.std.proofs.Common.{◌≡◌, ℕ, List, [], ◌∷◌, ◌++◌, Option, Some, None, Err, refl, sym, ap, ◌∙◌}
 use Rattle.std.proofs.Common.{append_assoc, append-nil}
 use Rattle.std.proofs.lemmas.List.{append_cancel_left}
-use Rattle.aes3_cell.specs.declared.refusal.RunError.{RunError}
-use Rattle.aes3_cell.specs.declared.refusal.RunError.TheVariants.{Read, TooLong, Write}
+use Rattle.aes3_refusals.specs.declared.run_error.RunError.{RunError}
+use Rattle.aes3_refusals.specs.declared.run_error.RunError.TheVariants.{Read, TooLong, Write}
 use Rattle.aes3_cell.proofs.Growing.{front-is, grew-is}
 use Rattle.aes3_input.specs.Converting.{Reading, fault_behind, first_fault, or_else, out, out_behind, unless, whole}
 use Rattle.aes3_input.specs.Running.{Fed, InputState, Movement, PieceRan}

@@ -5,7 +5,7 @@ use Rattle.std.specs.List.{flat_map}
 use Rattle.aes3_level.specs.declared.level.Level.{Level}
 use Rattle.aes3_cell.specs.declared.counts.Counts.{Counts}
 use Rattle.aes3_cell.specs.declared.form.Form.{Form}
-use Rattle.aes3_cell.specs.declared.refusal.RunError.{RunError}
+use Rattle.aes3_refusals.specs.declared.run_error.RunError.{RunError}
 use Rattle.aes3_cell.specs.Ends.{Grew, Told}
 use Rattle.aes3_forms_samples.specs.declared.sample_format.SampleFormat.{SampleFormat}
 use Rattle.aes3_forms_samples.specs.declared.sample_format.SampleFormat.TheVariants.{S16}

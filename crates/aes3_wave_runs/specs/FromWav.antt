@@ -2,7 +2,7 @@
 use Rattle.std.specs.Prelude.{ℕ, List, Bool, Option, Some, None, Result, Ok, Err, ◌≡◌, ◌≤◌, ◌+◌, ◌⊎◌, ◌&&◌, true, false, nat_lt, length}
 use Rattle.aes3_cell.specs.Ends.{Grew}
 use Rattle.aes3_cell.specs.declared.counts.Counts.{Counts}
-use Rattle.aes3_cell.specs.declared.refusal.RunError.{RunError}
+use Rattle.aes3_refusals.specs.declared.run_error.RunError.{RunError}
 use Rattle.aes3_input.specs.Running.{InputRan, Movement, Promise, Quiet}
 use Rattle.aes3_status.specs.declared.change.Change.{Change}
 use Rattle.aes3_wave.specs.declared.chunk.WaveHeader.{WaveHeader}

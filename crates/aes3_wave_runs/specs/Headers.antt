@@ -1,7 +1,7 @@
 -- The header of a WAV file, read from a source.
 use Rattle.std.specs.Prelude.{ℕ, List, Bool, IsTrue, Some, None, Result, Ok, Err, ◌≡◌, ◌≤◌, ◌+◌, length, take}
 use Rattle.aes3_cell.specs.Ends.{Grew}
-use Rattle.aes3_cell.specs.declared.refusal.RunError.TheVariants.{Read, TooLong}
+use Rattle.aes3_refusals.specs.declared.run_error.RunError.TheVariants.{Read, TooLong}
 use Rattle.aes3_input.specs.Running.{Failed, Movement, Quiet}
 use Rattle.aes3_wave.specs.declared.chunk.WaveHeader.{WaveHeader}
 use Rattle.aes3_wave.specs.declared.header_error.HeaderError.{HeaderError}

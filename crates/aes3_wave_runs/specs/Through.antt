@@ -1,6 +1,6 @@
 -- An input whose octets make those of another one.
 use Rattle.std.specs.Prelude.{ℕ, List, [], ◌∷◌, ◌++◌, Option, Some, ◌≡◌, ◌≤◌, ◌%◌, length}
-use Rattle.aes3_cell.specs.declared.refusal.RunError.{RunError}
+use Rattle.aes3_refusals.specs.declared.run_error.RunError.{RunError}
 use Rattle.aes3_input.specs.Converting.{Reading, fault_behind, or_else, out_behind}
 use Rattle.aes3_engine.specs.Sampling.{more_of}
 

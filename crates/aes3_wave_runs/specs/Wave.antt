@@ -3,8 +3,8 @@ use Rattle.std.specs.Prelude.{ℕ, List, ◌++◌, Option, Some, None, Bool, Res
 use Rattle.std.specs.Prelude.{◌^◌, ◌==◌, if◌then◌else◌, length, min, take}
 use Rattle.aes3_cell.specs.Ends.{Grew}
 use Rattle.aes3_cell.specs.declared.counts.Counts.{Counts}
-use Rattle.aes3_cell.specs.declared.refusal.RunError.{RunError}
-use Rattle.aes3_cell.specs.declared.refusal.RunError.TheVariants.{BadLength, BadSample, Read, SoundHeader, TooLong, Write}
+use Rattle.aes3_refusals.specs.declared.run_error.RunError.{RunError}
+use Rattle.aes3_refusals.specs.declared.run_error.RunError.TheVariants.{BadLength, BadSample, Read, SoundHeader, TooLong, Write}
 use Rattle.aes3_input.specs.Converting.{first_fault}
 use Rattle.aes3_input.specs.Running.{InputRan, InputState, Movement, Promise}
 use Rattle.aes3_forms_samples.specs.declared.sample_format.SampleFormat.TheVariants.{S32}

@@ -1,7 +1,7 @@
 use Rattle.std.proofs.Common.{arith, ap, ◌∙◌, ◌≡◌, ◌+◌, ◌*◌, ◌-◌, get_or, length}
 use Rattle.aes3_cell.specs.declared.form.Form.TheVariants.{Text}
 use Rattle.aes3_cell.proofs.ManyWords.{put-more, line-bytes, length-line}
-use Rattle.aes3_cell.proofs.written.fill_line.Goals as goal
+use Rattle.aes3_cell.proofs.word.fill_line.Goals as goal
 
 pub returns : goal.returns
 returns c =

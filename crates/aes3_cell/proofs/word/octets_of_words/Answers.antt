@@ -1,6 +1,6 @@
 use Rattle.std.proofs.Common.{replicate, refl}
 use Rattle.aes3_cell.proofs.EightWords.{sixteen-put}
-use Rattle.aes3_cell.proofs.written.octets_of_words.Goals as goal
+use Rattle.aes3_cell.proofs.word.octets_of_words.Goals as goal
 
 pub returns : goal.returns
 returns c =

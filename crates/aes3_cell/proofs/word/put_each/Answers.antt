@@ -6,7 +6,7 @@ use Rattle.aes3_cell.specs.Written.{bytes_of}
 use Rattle.aes3_cell.proofs.Growing.{grew-none, grew-join, grew-is, front-is, front-join, front-more}
 use Rattle.aes3_cell.proofs.ManyWords.{bytes-words, bytes-split}
 use Rattle.aes3_cell.proofs.WrittenForms.{bytes-nothing}
-use Rattle.aes3_cell.proofs.written.put_each.Goals as goal
+use Rattle.aes3_cell.proofs.word.put_each.Goals as goal
 
 pub loop-word-init : goal.loop-word-init
 loop-word-init g c = record { grew = grew-is (sym (bytes-nothing c.args.form)) (grew-none refl); quiet = refl }

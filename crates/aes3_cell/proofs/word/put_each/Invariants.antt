@@ -3,7 +3,7 @@ use Rattle.std.specs.List.{flat_map}
 use Rattle.aes3_cell.specs.Ends.{Grew}
 use Rattle.aes3_level.specs.Words.{word_cells}
 use Rattle.aes3_cell.specs.Written.{bytes_of}
-use Rattle.aes3_cell.proofs.written.put_each.Given as goal
+use Rattle.aes3_cell.proofs.word.put_each.Given as goal
 
 abbrev pub invariant-loop-word : goal.invariant-loop-word
 invariant-loop-word g l = record {

@@ -7,7 +7,7 @@ use Rattle.aes3_cell.specs.Written.{bytes_of}
 use Rattle.aes3_cell.proofs.Growing.{grew-none, grew-join, grew-is, front-is, front-join, front-more}
 use Rattle.aes3_cell.proofs.ManyWords.{bytes-block, bytes-split}
 use Rattle.aes3_cell.proofs.WrittenForms.{bytes-nothing}
-use Rattle.aes3_cell.proofs.written.put_front.Goals as goal
+use Rattle.aes3_cell.proofs.word.put_front.Goals as goal
 
 pub loop-many-init : goal.loop-many-init
 loop-many-init g c = record {

@@ -3,7 +3,7 @@ use Rattle.std.specs.List.{flat_map}
 use Rattle.aes3_cell.specs.Ends.{Grew}
 use Rattle.aes3_level.specs.Words.{word_cells}
 use Rattle.aes3_cell.specs.Written.{bytes_of}
-use Rattle.aes3_cell.proofs.written.put_front.Given as goal
+use Rattle.aes3_cell.proofs.word.put_front.Given as goal
 
 abbrev pub invariant-loop-many : goal.invariant-loop-many
 invariant-loop-many g l = record {

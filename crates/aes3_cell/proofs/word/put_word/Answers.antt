@@ -5,7 +5,7 @@ use Rattle.aes3_cell.specs.Written.{bytes_of}
 use Rattle.aes3_cell.proofs.Lines.{text_of-line}
 use Rattle.aes3_level.proofs.WordCells.{length-word_cells}
 use Rattle.aes3_cell.proofs.Writing.{wrote-is}
-use Rattle.aes3_cell.proofs.written.put_word.Goals as goal
+use Rattle.aes3_cell.proofs.word.put_word.Goals as goal
 
 pub returns-in-Text : goal.returns-in-Text
 returns-in-Text g c =

@@ -5,7 +5,7 @@ use Rattle.aes3_level.specs.Words.{word_cells}
 use Rattle.aes3_cell.specs.Written.{bytes_of}
 use Rattle.aes3_cell.proofs.ManyWords.{bytes-split}
 use Rattle.aes3_cell.proofs.Writing.{wrote-is, wrote-behind}
-use Rattle.aes3_cell.proofs.written.put_words.Goals as goal
+use Rattle.aes3_cell.proofs.word.put_words.Goals as goal
 
 pub returns : goal.returns
 returns g c =

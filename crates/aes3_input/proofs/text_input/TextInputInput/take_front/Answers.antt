@@ -3,7 +3,7 @@ use Rattle.std.proofs.Common.{length-append}
 use Rattle.std.specs.List.{flat_map}
 use Rattle.std.proofs.lemmas.List.{length-take-le, take-append-drop}
 use Rattle.std.proofs.Math.Seq.{drop-cons}
-use Rattle.aes3_cell.specs.declared.refusal.RunError.TheVariants.{BadCell}
+use Rattle.aes3_refusals.specs.declared.run_error.RunError.TheVariants.{BadCell}
 use Rattle.aes3_cell.specs.CellText.{cells_of_text}
 use Rattle.aes3_level.specs.Words.{low_cells, word_cells}
 use Rattle.aes3_cell.proofs.CellTexts.{length-cells_of_text}
