@@ -18,7 +18,7 @@ use crate::preset::{Beginning, preset, preset_or};
 use crate::setting_errors::settings_refused;
 use crate::setting_texts::texts_for;
 use crate::show::show;
-use crate::status_text::status_of_text;
+use crate::status_digits::status_of_text;
 use crate::to_bits::to_bits;
 use crate::to_pcm::to_pcm;
 use crate::value::{bit, flag, number};

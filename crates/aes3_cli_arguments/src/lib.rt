@@ -12,6 +12,8 @@ mod event_style;
 mod explain;
 /// The file that a command's options name.
 mod file;
+/// What is written for time that no block covers.
+mod fill_option;
 /// The form of samples.
 mod format;
 /// The sampling frequency for a status.
@@ -29,7 +31,7 @@ mod setting_texts;
 /// What `show` does.
 mod show;
 /// Channel status in hexadecimal.
-mod status_text;
+mod status_digits;
 /// What `to-bits` does.
 mod to_bits;
 /// What `to-pcm` does.
@@ -48,4 +50,4 @@ pub use command_line::{CommandLine, job_of_words, line_of_words};
 pub use explain::{advice, asks_to_explain, explanation};
 pub use file::{file_of_line, output_of_line};
 pub use layout::Octets;
-pub use status_text::status_of_text;
+pub use status_digits::status_of_text;

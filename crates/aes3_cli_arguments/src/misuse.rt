@@ -9,11 +9,11 @@ ghost use Rattle.aes3_cli_arguments.specs.Jobs.{misuse_line, misuse_text, option
 
 use crate::command_job::LineFault;
 use crate::event_style::rate;
+use crate::fill_option::{fill_of_options, has_unknown_filling};
 use crate::format::has_unknown_format;
 use crate::frequency::has_unknown_rate;
 use crate::preset::has_unknown_preset;
 use crate::to_bits::bits_of_text;
-use crate::to_pcm::{fill_of_options, has_unknown_filling};
 use crate::value::{flag, number_if_given};
 use crate::wave::{
     has_preset_beside_use, has_unknown_channels, has_unknown_depth, has_unknown_mono,

@@ -1,13 +1,12 @@
 //! What `to-pcm` does.
 
-ghost use Rattle.std.specs.Prelude.{◌≡◌, codes};
-ghost use Rattle.aes3_cli_arguments.specs.Jobs.{AreTaken, AsksToRead, fill_by, fill_in, has_unknown_filling};
-ghost use Rattle.aes3_cli_arguments.specs.Jobs.{options_of};
+ghost use Rattle.std.specs.Prelude.{codes};
+ghost use Rattle.aes3_cli_arguments.specs.Jobs.{AreTaken, AsksToRead, options_of};
 
+use crate::fill_option::fill_of_options;
 use crate::format::format;
 use crate::value::flag;
 use aes3_cli_jobs::ReadWork;
-use aes3_frame::Fill;
 use clap::ArgMatches;
 
 /// What `to-pcm` does, with its options.
@@ -28,36 +27,5 @@ pub(crate) fn to_pcm(options: &ArgMatches<'_>) -> ReadWork
             format: format(options),
             valid: flag(options, "valid"),
         },
-    }
-}
-
-/// The filling by the options for time that no block covers, if they name one.
-pub(crate) fn fill_of_options(options: &ArgMatches<'_>) -> Option<Fill>
-    ensures { result ≡ fill_by (options_of options.now) }
-{
-    let Some(text) = options.get_str("fill") else {
-        return None;
-    };
-    fill_of_text(text)
-}
-
-/// Whether an unknown filling is named.
-pub(crate) fn has_unknown_filling(options: &ArgMatches<'_>) -> bool
-    ensures { result ≡ has_unknown_filling (options_of options.now) }
-{
-    let Some(text) = options.get_str("fill") else {
-        return false;
-    };
-    fill_of_text(text).is_none()
-}
-
-/// The filling of this name.
-fn fill_of_text(text: &str) -> Option<Fill>
-    ensures { result ≡ fill_in text.now }
-{
-    match text {
-        "zero" => Some(Fill::Zero),
-        "hold" => Some(Fill::Hold),
-        _ => None,
     }
 }

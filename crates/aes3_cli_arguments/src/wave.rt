@@ -9,8 +9,8 @@ ghost use Rattle.aes3_cli_arguments.specs.Jobs.{is_professional, mono_by, mono_i
 ghost use Rattle.aes3_cli_arguments.specs.Jobs.{options_of, use_in, use_named};
 
 use crate::event_style::rate;
+use crate::fill_option::fill_of_options;
 use crate::preset::preset;
-use crate::to_pcm::fill_of_options;
 use crate::value::flag;
 use aes3_cli_jobs::ReadWork;
 use aes3_wave::{Channels, Depth, Mono};

@@ -1,6 +1,6 @@
 use Rattle.std.proofs.Common.{sym, ◌∙◌}
 use Rattle.hex.proofs.HexLemmas.{IsOk-decode_sized}
-use Rattle.aes3_cli_arguments.proofs.status_text.status_of_text.Goals as goal
+use Rattle.aes3_cli_arguments.proofs.status_digits.status_of_text.Goals as goal
 
 pub returns-clause-found : goal.returns-clause-found
 returns-clause-found c =

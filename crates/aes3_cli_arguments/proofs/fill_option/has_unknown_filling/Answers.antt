@@ -4,7 +4,7 @@ use Rattle.aes3_frame.specs.declared.fill.Fill.{Fill}
 use Rattle.aes3_cli_arguments.specs.Jobs.{fill_in}
 use Rattle.aes3_cli_arguments.proofs.Misuses.{none_is}
 use Rattle.aes3_cli_arguments.proofs.OptionReads.{text_is}
-use Rattle.aes3_cli_arguments.proofs.to_pcm.has_unknown_filling.Goals as goal
+use Rattle.aes3_cli_arguments.proofs.fill_option.has_unknown_filling.Goals as goal
 
 pub returns-in_default : goal.returns-in_default
 returns-in_default c =

@@ -2,7 +2,7 @@ use Rattle.std.proofs.Common.{◌∙◌, codes, sym, ap}
 use Rattle.std.specs.Prelude.{option_and_then}
 use Rattle.aes3_cli_arguments.specs.Jobs.{fill_in}
 use Rattle.aes3_cli_arguments.proofs.OptionReads.{text_is}
-use Rattle.aes3_cli_arguments.proofs.to_pcm.fill_of_options.Goals as goal
+use Rattle.aes3_cli_arguments.proofs.fill_option.fill_of_options.Goals as goal
 
 pub returns-in_default : goal.returns-in_default
 returns-in_default c =
