@@ -315,6 +315,9 @@ static void take_octets(void) {
             take_report_without_words();
         } while (report->kind != AES3_NONE);
         WANT(at == 8 * count);
+        /* From cells on that are not there it takes none. */
+        WANT(aes3_lock_take_octets(lock, piece, count, at + 9, report) == 0);
+        WANT(aes3_lock_take_octets(lock, piece, count, SIZE_MAX, report) == 0);
         take_back(kept);
     }
 }
@@ -331,6 +334,9 @@ static void take_cells(void) {
             take_report_without_words();
         } while (report->kind != AES3_NONE);
         WANT(at == 64 * count);
+        /* From cells on that are not there it takes none. */
+        WANT(aes3_lock_take_cells(lock, piece, count, at + 9, report) == 0);
+        WANT(aes3_lock_take_cells(lock, piece, count, SIZE_MAX, report) == 0);
         take_back(kept);
     }
 }
@@ -691,7 +697,7 @@ static void run(enum place where) {
     test_capture(1, 3);
     test_capture(2, 9);
     test_recovery(1, 3, 0, 64);
-    test_recovery(1, 7, A_CELL << 16, 65536);
+    test_recovery(1, 7, A_CELL << 16, 6000);
     test_recovery(2, 9, 0, 1);
     for (uint8_t bits = 16; bits <= 32; bits = (uint8_t)(bits + 4)) {
         test_wav_header(bits, 192);
