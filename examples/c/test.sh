@@ -200,10 +200,15 @@ build() { # COMPILER FLAGS..
             return
         }
     done
-    rm -f pieces
-    # Its guard pages are Linux's.
-    [ "$(uname)" != Linux ] || "$compiler" "$@" -O2 -Wall -Wextra -Werror -I"$here/../../include" -o pieces "$here/pieces.c" -x none \
-        "$library" || differs "pieces.c, which $compiler does not compile,"
+    rm -f pieces guards
+    # Their guard pages are Linux's.
+    if [ "$(uname)" = Linux ]; then
+        "$compiler" "$@" -O2 -Wall -Wextra -Werror -I"$here/../../include" -o pieces "$here/pieces.c" -x none "$library" ||
+            differs "pieces.c, which $compiler does not compile,"
+        # shellcheck disable=SC2086
+        "$compiler" "$@" -O2 -Wall -Wextra -pedantic -Werror $checks -I"$here/../../include" -o guards "$here/guards.c" -x none "$library" ||
+            differs "guards.c, which $compiler does not compile,"
+    fi
     judge "calls by $compiler" ./calls
     if [ -s examples.c ]; then
         # shellcheck disable=SC2086
@@ -237,6 +242,7 @@ build() { # COMPILER FLAGS..
     ./blocks <"$speech" >got
     judge "blocks by $compiler" sh -c '"$0" encode --packed-out <"$1" | head -c -1 | cmp -s - got' "$program" "$speech"
     judge "many blocks by $compiler" ./blocks test
+    [ ! -e guards ] || judge "calls beside guard pages by $compiler" ./guards
     for form in $forms; do
         ./blocks "$form" <"$speech" >got
         judge "blocks as $form by $compiler" cmp -s got "speech.$form"
@@ -321,6 +327,10 @@ judge "what the library wants" [ "$(cat wants)" = "memcpy memmove memset " ]
 sed -n '/^static/d; s/^[a-z][a-z0-9_ ]*[ *]\(aes3_[a-z_]*\)(.*/\1/p' "$here/../../include/aes3.h" | sort >declared
 nm -g --defined-only "$library" | sed -n 's/.* T \(aes3_.*\)/\1/p' | sort >there
 judge "the header" cmp declared there
+# Those of them that take a pointer, all of which guards.c calls.
+sed -n '/^static/d; s/^[a-z][a-z0-9_ ]*[ *]\(aes3_[a-z_]*\)(.*[*[].*/\1/p' "$here/../../include/aes3.h" | sort >pointers
+grep -o 'aes3_[a-z_0-9]*(' "$here/guards.c" | tr -d '(' | sort -u >guarded
+judge "guards.c, which does not call each," [ -z "$(comm -23 pointers guarded)" ]
 
 echo "$passed passed, $failed failed"
 [ "$failed" = 0 ]
