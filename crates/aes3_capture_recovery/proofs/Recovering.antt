@@ -29,6 +29,21 @@ use Rattle.aes3_level.proofs.WordCells.{length-low_cells}
 use Rattle.aes3_capture_recovery.specs.declared.edges.Edges.{Edges}
 use Rattle.aes3_capture.proofs.Whole.{passed-none}
 
+-- all that was told is as it was, and so is what it was told by
+pub keeps-told : (old new : Recovery) → new.found ≡ old.found → new.known ≡ old.known → new.held ≡ old.held
+    → new.count ≡ old.count → new.runs ≡ old.runs → new.figures.measured ≡ old.figures.measured
+    → new.line.queue ≡ old.line.queue → new.line.follower ≡ old.line.follower → KeepsTold old new
+keeps-told old new found known held count runs measured queue follower = record {
+  found_is = found;
+  known_is = known;
+  held_is = held;
+  count_is = count;
+  runs_are = runs;
+  measured_is = measured;
+  queue_is = queue;
+  follower_is = follower;
+}
+
 -- the same holds, whatever changed besides
 pub holds-keeps : (told : Option (List ℕ)) (setting : Setting) (level : Level) (done : List ℕ) (past : ℕ)
     (old new : Recovery) → KeepsTold old new → new.state ≡ old.state → Holds told setting level done past old

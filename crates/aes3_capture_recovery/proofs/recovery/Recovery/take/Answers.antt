@@ -8,7 +8,7 @@ use Rattle.aes3_capture_recovery.proofs.Beginning.{began-edge, began-ok, began-o
 use Rattle.aes3_capture_recovery.proofs.Followed.{captured-late, followed-begins, followed-edge, followed-rest, gives-ok}
 use Rattle.aes3_capture_recovery.proofs.Joining.{joined-gives, lasting-ok}
 use Rattle.aes3_capture_recovery.proofs.OnLine.{on-line-edge, on-line-end, on-line-same}
-use Rattle.aes3_capture_recovery.proofs.Recovering.{recovered-edge, recovered-rest-ok, recovered-word, turned-ended}
+use Rattle.aes3_capture_recovery.proofs.Recovering.{keeps-told, recovered-edge, recovered-rest-ok, recovered-word, turned-ended}
 use Rattle.aes3_capture_recovery.proofs.States.{begun-more, following-or}
 use Rattle.aes3_capture_recovery.proofs.recovery.Recovery.take.Goals as goal
 
@@ -86,16 +86,7 @@ loop-run-preserved g c =
           recovered-edge (g.T.Sink.taken c.loop-run.sink) (g.T.Sink.taken c.edge.new.sink) setting
           (seen ++ low_cells c.args.len c.args.levels) c.loop-run.piece c.next_edge.new.piece c.in-Some.run' old _
           c.edge.new.self c.loop-run.piece.few edge
-          (record {
-            found_is = refl;
-            known_is = refl;
-            held_is = refl;
-            count_is = refl;
-            runs_are = refl;
-            measured_is = refl;
-            queue_is = c.next_edge.ensures.queue;
-            follower_is = c.next_edge.ensures.follower;
-          })
+          (keeps-told _ _ refl refl refl refl refl refl c.next_edge.ensures.queue c.next_edge.ensures.follower)
           refl c.edge.ensures.edges c.edge.ensures.samples
           (λ level done past h e. c.in_ok-edge.ensures.stands setting level done past h (turned.0 ∙ e) turned.1)
           (c.loop-run.invariant.recovered setting seen w);
@@ -114,16 +105,7 @@ loop-run-preserved g c =
                 c.next_edge.new.piece c.in-Some.run' (not c.is_high-high.result) edge (ap not c.is_high-high.ensures) in
                 began-edge (g.T.Sink.taken c.loop-run.sink) (g.T.Sink.taken c.edge.new.sink) setting levels
                 c.loop-run.piece c.next_edge.new.piece c.in-Some.run' old _ c.edge.new.self c.loop-run.piece.few edge
-                (record {
-                  found_is = refl;
-                  known_is = refl;
-                  held_is = refl;
-                  count_is = refl;
-                  runs_are = refl;
-                  measured_is = refl;
-                  queue_is = c.next_edge.ensures.queue;
-                  follower_is = c.next_edge.ensures.follower;
-                })
+                (keeps-told _ _ refl refl refl refl refl refl c.next_edge.ensures.queue c.next_edge.ensures.follower)
                 refl c.edge.ensures.edges
                 (λ level done past h e. c.in_ok-edge.ensures.begins unfound is setting level done past h (turned.0 ∙ e)
                 turned.1)
@@ -157,16 +139,7 @@ loop-run-preserved g c =
           awaits-edge (g.T.Sink.taken c.loop-run.sink) (g.T.Sink.taken c.edge.new.sink) setting
           (seen ++ low_cells c.args.len c.args.levels) c.loop-run.piece c.next_edge.new.piece c.in-Some.run' old _
           c.edge.new.self c.edge.ensures.within c.loop-run.piece.few edge
-          (record {
-            found_is = refl;
-            known_is = refl;
-            held_is = refl;
-            count_is = refl;
-            runs_are = refl;
-            measured_is = refl;
-            queue_is = c.next_edge.ensures.queue;
-            follower_is = c.next_edge.ensures.follower;
-          })
+          (keeps-told _ _ refl refl refl refl refl refl c.next_edge.ensures.queue c.next_edge.ensures.follower)
           refl c.edge.ensures.edges c.edge.ensures.samples
           (λ level done past h e. c.in_ok-edge.ensures.stands setting level done past h (turned.0 ∙ e) turned.1)
           c.edge.ensures.still c.edge.ensures.gathers c.edge.ensures.starts c.edge.ensures.up
@@ -219,16 +192,7 @@ returns-clause-recovered g c = λ setting seen w.
     recovered-rest-ok (g.T.Sink.taken c.loop-run.sink) (g.T.Sink.taken c.rest.new.sink) setting
     (seen ++ low_cells c.args.len c.args.levels) c.loop-run.piece c.loop-run.self _ c.rest.new.self c.rest.result
     c.loop-run.piece.few c.in_default.ensures.rest
-    (record {
-      found_is = refl;
-      known_is = refl;
-      held_is = refl;
-      count_is = refl;
-      runs_are = refl;
-      measured_is = refl;
-      queue_is = c.next_edge.ensures.queue;
-      follower_is = c.next_edge.ensures.follower;
-    })
+    (keeps-told _ _ refl refl refl refl refl refl c.next_edge.ensures.queue c.next_edge.ensures.follower)
     refl c.rest.ensures.high c.rest.ensures.samples c.rest.ensures.short (c.rest.ensures.stands setting)
     (c.loop-run.invariant.recovered setting seen w)
 
@@ -253,16 +217,7 @@ returns-clause-awaits g c = λ setting seen a.
     awaits-rest-ok (g.T.Sink.taken c.loop-run.sink) (g.T.Sink.taken c.rest.new.sink) setting
     (seen ++ low_cells c.args.len c.args.levels) c.loop-run.piece c.loop-run.self _ c.rest.new.self c.rest.result
     c.loop-run.piece.few c.in_default.ensures.rest
-    (record {
-      found_is = refl;
-      known_is = refl;
-      held_is = refl;
-      count_is = refl;
-      runs_are = refl;
-      measured_is = refl;
-      queue_is = c.next_edge.ensures.queue;
-      follower_is = c.next_edge.ensures.follower;
-    })
+    (keeps-told _ _ refl refl refl refl refl refl c.next_edge.ensures.queue c.next_edge.ensures.follower)
     refl c.rest.ensures.high c.rest.ensures.samples c.rest.ensures.short (c.rest.ensures.stands setting)
     c.rest.ensures.alive c.rest.ensures.still c.rest.ensures.near c.rest.ensures.found c.rest.ensures.measured
     (λ is. (

@@ -7,6 +7,7 @@ use Rattle.aes3_capture_recovery.proofs.Ahead.{stands-single}
 use Rattle.aes3_capture_recovery.proofs.FollowedAhead.{run-counted, runs-same}
 use Rattle.aes3_capture_recovery.proofs.OnLineAhead.{stays-single}
 use Rattle.aes3_capture_recovery.proofs.SameLevels.{level-not}
+use Rattle.aes3_capture_recovery.proofs.Recovering.{keeps-told}
 use Rattle.aes3_capture_recovery.proofs.recovery.Recovery.take_edges.Goals.{then-together+in-Ok-eq0, else-together}
 use Rattle.aes3_capture_recovery.proofs.recovery.Recovery.take_edges.Goals as goal
 
@@ -41,16 +42,7 @@ returns-clause-told g c = λ setting level runs w turns.
     = rw (same.0, same.1) w in
     stands-single (g.T.Sink.taken c.if-together.sink) (g.T.Sink.taken c.edge.new.sink) c.if-together.self _ c.edge.new.self
     setting level runs (take 1 (drop c.args.at c.args.places.now.runs)) c.run-run.result
-    (record {
-      found_is = refl;
-      known_is = refl;
-      held_is = refl;
-      count_is = refl;
-      runs_are = refl;
-      measured_is = refl;
-      queue_is = c.stand.ensures.queue;
-      follower_is = c.stand.ensures.follower;
-    })
+    (keeps-told _ _ refl refl refl refl refl refl c.stand.ensures.queue c.stand.ensures.follower)
     refl w2
     c.run-run.ensures
     (λ done h all. c.in_ok-edge.ensures.stands setting level done 0 h (turns ∙ ap (λ x. other (after level x)) (sym all))

@@ -13,6 +13,7 @@ use Rattle.aes3_capture_recovery.proofs.Awaiting.{awaits-ahead}
 use Rattle.aes3_capture_recovery.proofs.Followed.{captured-late, gives-ok}
 use Rattle.aes3_capture_recovery.proofs.FollowedAhead.{followed-ahead}
 use Rattle.aes3_capture_recovery.proofs.OnLineAhead.{on-line-ahead}
+use Rattle.aes3_capture_recovery.proofs.Recovering.{keeps-told}
 use Rattle.aes3_capture_recovery.proofs.recovery.Recovery.take_words.Goals as goal
 
 pub returns-clause-recovered : goal.returns-clause-recovered
@@ -46,16 +47,7 @@ returns-clause-recovered g c = λ setting seen w.
       c.in_ok-high.ensures.level (after level before) high
           ∙ ap other (sym (after-append level before (take count c.measure-longest.new.self.runs))),
     ))
-    (record {
-      found_is = refl;
-      known_is = refl;
-      held_is = refl;
-      count_is = refl;
-      runs_are = refl;
-      measured_is = refl;
-      queue_is = c.stand.ensures.queue;
-      follower_is = c.stand.ensures.follower;
-    })
+    (keeps-told _ _ refl refl refl refl refl refl c.stand.ensures.queue c.stand.ensures.follower)
     refl (search (rules, c.stand.ensures.high)) run (omega (arith, run, longest, short))
     (let sum = c.saturating_add-self.ensures in
     let kept = c.follow_edges.ensures.samples in
@@ -121,16 +113,7 @@ returns-clause-awaits g c = λ setting seen w.
       c.in_ok-high.ensures.level (after level before) high
           ∙ ap other (sym (after-append level before (take count c.measure-longest.new.self.runs))),
     ))
-    (record {
-      found_is = refl;
-      known_is = refl;
-      held_is = refl;
-      count_is = refl;
-      runs_are = refl;
-      measured_is = refl;
-      queue_is = c.stand.ensures.queue;
-      follower_is = c.stand.ensures.follower;
-    })
+    (keeps-told _ _ refl refl refl refl refl refl c.stand.ensures.queue c.stand.ensures.follower)
     refl (search (rules, c.stand.ensures.high)) run (omega (arith, run, longest, short))
     (let sum = c.saturating_add-self.ensures in
     let kept = c.follow_edges.ensures.samples in

@@ -1,6 +1,6 @@
 use Rattle.std.proofs.Common.{refl, arith, rules}
 use Rattle.aes3_capture_recovery.proofs.Awaiting.{awaits-level-ok}
-use Rattle.aes3_capture_recovery.proofs.Recovering.{recovered-level-ok}
+use Rattle.aes3_capture_recovery.proofs.Recovering.{keeps-told, recovered-level-ok}
 use Rattle.aes3_capture_recovery.proofs.recovery.Recovery.wait_on.Goals as goal
 
 pub returns-clause-recovered : goal.returns-clause-recovered
@@ -13,16 +13,7 @@ returns-clause-recovered g c = λ some setting seen w.
     recovered-level-ok (g.T.Sink.taken c.args.sink.now) (g.T.Sink.taken c.rest.new.sink) setting seen c.args.samples
     c.args.self.now _ c.rest.new.self c.rest.result some c.requires.few (search (rules, c.stand.ensures.high, c.is_high-high.ensures))
     (omega (arith, run, waits, sum))
-    (record {
-      found_is = refl;
-      known_is = refl;
-      held_is = refl;
-      count_is = refl;
-      runs_are = refl;
-      measured_is = refl;
-      queue_is = c.stand.ensures.queue;
-      follower_is = c.stand.ensures.follower;
-    })
+    (keeps-told _ _ refl refl refl refl refl refl c.stand.ensures.queue c.stand.ensures.follower)
     refl c.rest.ensures.high (omega (arith, all, kept)) c.rest.ensures.short (c.rest.ensures.stands setting) w
 
 pub returns-clause-awaits : goal.returns-clause-awaits
@@ -35,15 +26,6 @@ returns-clause-awaits g c = λ some is setting seen a.
     awaits-level-ok (g.T.Sink.taken c.args.sink.now) (g.T.Sink.taken c.rest.new.sink) setting seen c.args.samples
     c.args.self.now _ c.rest.new.self c.rest.result some c.requires.few (search (rules, c.stand.ensures.high, c.is_high-high.ensures))
     (omega (arith, run, waits, sum))
-    (record {
-      found_is = refl;
-      known_is = refl;
-      held_is = refl;
-      count_is = refl;
-      runs_are = refl;
-      measured_is = refl;
-      queue_is = c.stand.ensures.queue;
-      follower_is = c.stand.ensures.follower;
-    })
+    (keeps-told _ _ refl refl refl refl refl refl c.stand.ensures.queue c.stand.ensures.follower)
     refl c.rest.ensures.high (omega (arith, all, kept)) c.rest.ensures.short (c.rest.ensures.stands setting) is
     c.rest.ensures.still c.rest.ensures.found c.rest.ensures.measured c.rest.ensures.state a
