@@ -47,19 +47,15 @@ step-last : (middle : ℕ) (runs cells places sames others periods : List ℕ) (
     (get_or (set places i place) j 0) (get_or (set sames (i + 1) s) (j + 1) 0) (get_or (set others (i + 1) o) (j + 1) 0)
     (get_or (set periods (i + 1) p) (j + 1) 0)
 step-last middle runs cells places sames others periods a b c i j same other period place s o p few last are step =
-    let places_long = are.places_long in
-    let sames_long = are.sames_long in
-    let others_long = are.others_long in
-    let periods_long = are.periods_long in
     rw (
       last,
       get_or-set_other sames (i + 1) i s 0 (omega arith),
       get_or-set_other others (i + 1) i o 0 (omega arith),
       get_or-set_other periods (i + 1) i p 0 (omega arith),
-      get_or-set_same places i place 0 (omega (arith, few, places_long)),
-      get_or-set_same sames (i + 1) s 0 (omega (arith, few, sames_long)),
-      get_or-set_same others (i + 1) o 0 (omega (arith, few, others_long)),
-      get_or-set_same periods (i + 1) p 0 (omega (arith, few, periods_long)),
+      get_or-set_same places i place 0 (omega (arith, few, are)),
+      get_or-set_same sames (i + 1) s 0 (omega (arith, few, are)),
+      get_or-set_same others (i + 1) o 0 (omega (arith, few, are)),
+      get_or-set_same periods (i + 1) p 0 (omega (arith, few, are)),
       are.same_is,
       are.other_is,
       are.period_is,
@@ -120,19 +116,13 @@ pub bounded-within : (low run cells other place s o p a b c d e f a' b' c' d' e'
     → IsBounded low run cells other place s o p a b c d e f → a ≤ a' → b ≤ b' → c ≤ c' → d ≤ d' → e ≤ e' → f ≤ f'
     → IsBounded low run cells other place s o p a' b' c' d' e' f'
 bounded-within low run cells other place s o p a b c d e f a' b' c' d' e' f' is g h i j k l =
-    let run_is = is.run_is in
-    let cells_is = is.cells_is in
-    let place_is = is.place_is in
-    let time_is = is.time_is in
-    let apart_is = is.apart_is in
-    let period_is = is.period_is in
     record {
-      run_is = omega (arith, run_is, g);
-      cells_is = omega (arith, cells_is, h);
-      place_is = omega (arith, place_is, i);
-      time_is = omega (arith, time_is, j);
-      apart_is = omega (arith, apart_is, k);
-      period_is = omega (arith, period_is, l);
+      run_is = omega (arith, is, g);
+      cells_is = omega (arith, is, h);
+      place_is = omega (arith, is, i);
+      time_is = omega (arith, is, j);
+      apart_is = omega (arith, is, k);
+      period_is = omega (arith, is, l);
     }
 
 -- the first steps are within these bounds

@@ -25,20 +25,16 @@ pub invariant_of-result : goal.invariant_of-result
 invariant_of-result c =
     let waiting = c.if-self-gt0.false in
     let last = ends-within _ _ _ _ _ _ _ (leap (goal.at.invariant_of-result c).After-from) in
-    let longest = last.longest in
-    let shortest = last.shortest in
-    let same_bound = last.same_bound in
-    let other_bound = last.other_bound in
     let period = c.from.ensures in
     let same = c.from-2.ensures in
     let other = c.from-3.ensures in
     let least = c.args.self.now.bounds.least in
     record {
-      longest = omega (arith, period, longest);
-      shortest = omega (arith, period, shortest);
-      told = omega (arith, period, shortest, least, waiting);
-      same_bound = omega (arith, same, same_bound);
-      other_bound = omega (arith, other, other_bound);
+      longest = omega (arith, period, last);
+      shortest = omega (arith, period, last);
+      told = omega (arith, period, last, least, waiting);
+      same_bound = omega (arith, same, last);
+      other_bound = omega (arith, other, last);
     }
 
 pub returns : goal.returns
