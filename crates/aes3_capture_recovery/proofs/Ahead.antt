@@ -184,13 +184,10 @@ unfoldable pub recovered-ahead : (told told' : Option (List ℕ)) (setting : Set
     (runs : List ℕ) (from behind : ℕ) → AreTaken told told' setting levels old mid new runs from behind
     → Recovered told setting seen [] old → Recovered told' setting (seen ++ levels) [] new
 recovered-ahead told told' setting [] levels old mid new runs from behind h w =
-    let some = h.some in
     let was = w.samples in
-    absurd (omega (arith, some, was))
+    absurd (omega (arith, h, was))
 recovered-ahead told told' setting (x ∷ seen) levels old mid new runs from behind h w =
     let near = h.placed.near in
-    let run = h.run in
-    let samples = h.samples in
     let k = h.keeps in
     let s = w.stands in
     let was = w.samples in
@@ -221,13 +218,13 @@ recovered-ahead told told' setting (x ∷ seen) levels old mid new runs from beh
           (ap other (sym (after-append w.level w.runs runs)) ∙ sym level_is))
           ∙ sym (append_assoc w.runs runs (runs_to_end (level_if new.line.edges.high) behind more));
       first = w.first;
-      samples = let both = length-append (x ∷ seen) levels in omega (arith, samples, was, both);
+      samples = let both = length-append (x ∷ seen) levels in omega (arith, h, was, both);
       short = h.short;
       stands = record {
         done = moved.0.done;
         past = 0;
         runs_are = ap (λ l. moved.0.done ++ l) waits ∙ moved.0.runs_are;
-        samples_are = omega (arith, run);
+        samples_are = omega (arith, h);
         turns = level_is;
         holds = holds-keeps told' setting w.level moved.0.done 0 mid new k h.state moved.0.holds;
       };

@@ -1,6 +1,6 @@
 -- A recovery that waits for the runs in which a line is found.
 use Rattle.std.proofs.Common.{ℕ, suc, List, [], ◌∷◌, ◌++◌, ◌≡◌, ◌≤◌, ◌<◌, ◌+◌, ◌-◌, ◌*◌, ◌%◌, ◌^◌, ◌⊎◌, inl, inr, min}
-use Rattle.std.proofs.Common.{Option, Result, Ok, Err, IfOk, Bool, false, length, length-append, replicate, drop}
+use Rattle.std.proofs.Common.{Option, Result, Ok, Err, IfOk, false, length, length-append, replicate, drop}
 use Rattle.std.proofs.Common.{refl, sym, ap, ap₂, ◌∙◌, subst, arith, append_assoc, append-nil}
 use Rattle.std.proofs.lemmas.List.{length-take-le}
 use Rattle.aes3_level.specs.declared.level.Level.{Level}
@@ -15,7 +15,7 @@ use Rattle.aes3_capture_recovery.specs.Beginning.{AreFindable, AreShort, Awaits,
 use Rattle.aes3_capture_recovery.specs.Endings.{level_if}
 use Rattle.aes3_capture_recovery.specs.Keeping.{IsKept, StaysKept}
 use Rattle.aes3_capture_recovery.specs.LineFollowing.{Followed}
-use Rattle.aes3_capture_recovery.specs.Recovering.{Holds, Recovered, Setting, StandsBehind, StandsOn, first_cells, first_level, runs_to_end, runs_waiting}
+use Rattle.aes3_capture_recovery.specs.Recovering.{Holds, Recovered, Setting, StandsOn, first_cells, first_level, runs_to_end, runs_waiting}
 use Rattle.aes3_capture_recovery.specs.Queues.{Queued, waiting}
 use Rattle.aes3_capture_recovery.specs.RecoverySteps.{Gave, KeepsTold}
 use Rattle.aes3_capture_recovery.specs.declared.line_follower.LineFollower.{LineFollower}
@@ -206,12 +206,10 @@ awaits-edge told told' setting seen piece left run old mid new within few e k st
     begins once follows distance keeps a =
     let w = a.recovered in
     let s = w.stands in
-    let count = e.count in
-    let run_is = e.run_is in
     let short = w.short in
     let sum = s.samples_are in
     let n : ℕ = w.behind + e.samples in
-    let all : s.past + run ≡ n = omega (arith, few, short, count, run_is, sum) in
+    let all : s.past + run ≡ n = omega (arith, few, short, e, sum) in
     let last : (first : ℕ) (window : List ℕ) → w.runs ++ n ∷ [] ≡ first ∷ window → AreFindable setting.known window
     → IsLast setting.known first window s.done run old
     = λ first window is f. last-run told setting seen (levels_in piece) old n run a first window within (omega arith) all

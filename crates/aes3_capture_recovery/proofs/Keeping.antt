@@ -1,11 +1,10 @@
 -- A line whose edges lie near their places stays followed, edge by edge.
 use Rattle.std.proofs.Common.{ℕ, List, [], ◌∷◌, ◌≡◌, ◌<◌, ◌≤◌, ◌+◌, ◌-◌, ◌*◌, ◌/◌, inl, inr, arith, max, min, zero-add, ◌∙◌, sym, subst}
-use Rattle.std.specs.Prelude.{nat_le, if◌then◌else◌}
 use Rattle.std.proofs.Math.Nat.{mul-le-mul_left, mul-le-mul_right}
 use Rattle.std.proofs.lemmas.Bool.{cases_lt}
 use Rattle.aes3_capture.specs.declared.follower.Bounds.{Bounds}
 use Rattle.aes3_capture.specs.declared.follower.Follower.{Follower}
-use Rattle.aes3_capture.specs.Captures.{IsBetween, IsPlaced, IsRun, SpreadsLate, mean_with, wander}
+use Rattle.aes3_capture.specs.Captures.{IsBetween, IsPlaced, IsRun, SpreadsLate, mean_with}
 use Rattle.aes3_capture.specs.Directions.{IsBorne, IsWider}
 use Rattle.aes3_capture.specs.Following.{Counted, Follows, last_cell, middle_of}
 use Rattle.aes3_capture.proofs.Edges.{decided, on-grids}
@@ -173,13 +172,10 @@ pub record KeptNext (g : Follower) (next : ℕ) (narrow : Bounds) (spread : ℕ)
 calm-fine : (f : Follower) (distance : ℕ) (narrow : Bounds) (spread late later most displaced : ℕ)
     → IsCalm f distance narrow spread late later most displaced → IsUnsuspected f distance
 calm-fine f distance narrow spread late later most displaced calm =
-    let small = calm.small in
     let shortest = f.shortest in
-    let n = calm.near_most in
-    let r = calm.far_most in
     record {
-      near = omega (arith, small, shortest);
-      together = omega (arith, calm.keepable, calm.places, calm.first_side, calm.second_side, n, r);
+      near = omega (arith, calm, shortest);
+      together = omega (arith, calm.keepable, calm.places, calm.first_side, calm.second_side, calm);
     }
 
 -- An edge behind a run that is counted: its direction's mean goes with it, and the grids are near the line's.
@@ -302,7 +298,5 @@ kept-short f distance narrow spread run ahead k = go k.counts k.captured
         → 1024 * run < f.bounds.low
     go [] captured = absurd captured
     go (m ∷ counts) captured =
-        let slim = f.bounds.slim in
-        let least = f.bounds.least in
         let few = cells m narrow.high captured.3.few in
-        omega (arith, captured.1, captured.2, captured.3, k.calm.keepable, slim, least, few)
+        omega (arith, captured.1, captured.2, captured.3, k.calm.keepable, f.bounds, few)

@@ -87,11 +87,9 @@ pub near-of : (bounds : Bounds) (spread cells samples period : ℕ) → IsLong b
 near-of bounds spread cells samples period long some is =
     let most = quotient-most (samples * 65536) cells in
     let least = quotient-least (samples * 65536) cells some in
-    let l0 = long.least in
-    let l1 = long.most in
     let high = turn bounds.high in
     let low = turn bounds.low in
-    rw is record { most = omega (arith, most, l1, high); least = omega (arith, least, l0, low) }
+    rw is record { most = omega (arith, most, long, high); least = omega (arith, least, long, low) }
   where
     turn : (x : ℕ) → x * cells ≡ cells * x
     turn x = grind arith

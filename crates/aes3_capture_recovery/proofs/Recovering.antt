@@ -249,15 +249,13 @@ unfoldable pub recovered-edge : (told told' : Option (List ℕ)) (setting : Sett
     → Recovered told setting seen (levels_in piece) old → Recovered told' setting seen (levels_in left) new
 recovered-edge told told' setting seen piece left run old mid new few e k state edges same edge w =
     let s = w.stands in
-    let count = e.count in
-    let run_is = e.run_is in
     let short = w.short in
     let sum = s.samples_are in
     let u = level_if old.line.edges.high in
     let t = level_if mid.line.edges.high in
     let waits : runs_waiting mid ≡ runs_waiting old = waits-keep old mid k in
     let runs : s.done ++ runs_waiting mid ≡ w.runs = ap (λ x. s.done ++ x) waits ∙ s.runs_are in
-    let all : s.past + run ≡ w.behind + e.samples = omega (arith, few, short, count, run_is, sum) in
+    let all : s.past + run ≡ w.behind + e.samples = omega (arith, few, short, e, sum) in
     let stood = edge w.level s.done s.past (holds-keeps told setting w.level s.done s.past old mid k state s.holds)
     (s.turns ∙ ap (λ x. other (after w.level x)) (sym runs)) in
     let one : new.line.edges.run ≡ 1 = ap (λ x. x.run) edges ∙ e.next in

@@ -20,16 +20,11 @@ returns-then-subframes-eq0-clause-found c = λ narrow spread late later place si
     let f = ends.first_is in
     let l = ends.last_is in
     let f1 = f.most in
-    let l0 = l.least in
-    let l1 = l.most in
     let count = many.count in
-    let enough = many.many c.args.first.run c.args.last.run (omega (arith, f1, l0)) (omega (arith, l1, count)) f.begins l.begins in
-    let cells = ends.cells in
-    let fresh = ends.none in
-    let few = ends.few in
+    let enough = many.many c.args.first.run c.args.last.run (omega (arith, f1, l)) (omega (arith, l, count)) f.begins l.begins in
     let is = c.saturating_sub-subframes.ensures in
     let either = c.then-subframes-eq0.either in
-    omega (arith, enough, cells, fresh, few, is, either)
+    omega (arith, enough, ends, is, either)
 
 -- the period that the first and the last preamble give
 first-is : (c : After-min) {narrow : Bounds} {spread late later place side : ℕ} {places line : List ℕ}

@@ -16,13 +16,11 @@ returns-then-longest-lt-SHORTEST_PAIR-clause-found c = λ narrow spread late lat
       | then-longest-lt-SHORTEST_PAIR-via-else-longest-lt-SHORTEST_PAIR+then-longest-gt-LONGEST_PAIR w ↦ let many = w.if-longest-gt-LONGEST_PAIR.true in let most_is = is.most in omega (arith, many, most_is)
       | then-longest-lt-SHORTEST_PAIR-via-else-longest-lt-SHORTEST_PAIR+else-longest-gt-LONGEST_PAIR+then-not-are_likely w ↦
           let cells = captured.displaced.cells_count in
-          let count = captured.many.count in
-          let pairs : length c.args.runs.now - 1 ≡ 255 = omega (arith, cells, count) in
-          let few_long = captured.many.few_long in
+          let pairs : length c.args.runs.now - 1 ≡ 255 = omega (arith, cells, captured.many) in
           let likely = w.are_likely.ensures.found line
           (λ i. none-too-short narrow spread late later place side places line c.args.runs.now c.args.longest.samples i captured is.six)
           (λ i. few-too-long narrow spread late later place side places line c.args.runs.now c.args.longest.samples i captured is.six)
-          (rw pairs (omega (arith, few_long, cells, count))) in
+          (rw pairs (omega (arith, captured.many, cells))) in
           not-both w.are_likely.result likely w.if-not-are_likely.true
     ]
 

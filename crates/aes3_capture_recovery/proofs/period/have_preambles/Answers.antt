@@ -31,20 +31,16 @@ loop-i-preserved c =
     (front-at cells count (i + 1 + 2) (omega (arith, below)) ∙ ap (λ k. get_or cells k 0) (omega arith)) in
     let places = places-step front i place (get_or cells i 0) c.from.result (omega (arith, short, below))
     (front-at line (count - 3) i (omega (arith, below)) ∙ first) n in
-    let found = v.found in
-    let due = v.due in
     let one = c.preamble_at-found.ensures in
     let some = c.places_at-due.ensures in
-    let found_few = v.few in
-    let due_few = v.some in
     let one_most = one-most _ c.preamble_at-found.result one in
     let two_most = two-most _ _ c.places_at-due.result some in
     record {
-      few = omega (arith, found_few, one_most);
-      some = omega (arith, due_few, two_most);
+      few = omega (arith, v, one_most);
+      some = omega (arith, v, two_most);
       within = omega arith;
-      found = omega (arith, found, step, one);
-      due = omega (arith, due, places, some);
+      found = omega (arith, v, step, one);
+      due = omega (arith, v, places, some);
     }
 
 -- after the last run no place of a preamble is left
@@ -119,12 +115,10 @@ returns-clause-some c most =
     let none = ended.1 in
     let enough = c.if-found-max.false in
     let wanted = c.max.ensures in
-    let found = v.found in
-    let due = v.due in
     let least : 3 * c.loop-i.due ≤ 4 * c.loop-i.found = search (arith, most) in
     record {
       place = (64 - c.cells_before.result) % 64;
-      some = omega (arith, found, enough, wanted);
-      many = omega (arith, found, enough, wanted, long);
-      most = rw long (omega (arith, found, due, none, least));
+      some = omega (arith, v, enough, wanted);
+      many = omega (arith, v, enough, wanted, long);
+      most = rw long (omega (arith, v, none, least));
     }
