@@ -150,9 +150,7 @@ displaced-by-numbers bounds spread late later before (n ∷ cells) (run ∷ runs
 pub mean-between : (mean displaced late spread : ℕ) → IsBetween late mean spread → IsBetween late displaced spread
     → IsBetween late (mean_with mean displaced) spread
 mean-between mean displaced late spread m d =
-    let a = m.least in
-    let b = m.most in
-    record { least = omega (arith, a, b, d); most = omega (arith, a, b, d) }
+    record { least = omega (arith, m, d); most = omega (arith, m, d) }
 
 turned-between : (place late spread most : ℕ) → late + spread ≤ most → IsBetween late place spread
     → IsBetween (most - (late + spread)) (most - place) spread

@@ -162,9 +162,7 @@ not-too-long bounds spread late later n samples longest f long six few =
 pub six-in-range : (bounds : Bounds) (spread late later longest : ℕ) → IsFindable bounds spread late later
     → IsSix bounds spread longest → (12 ≤ longest) × (longest ≤ 65536)
 six-in-range bounds spread late later longest f six =
-    let least = six.least in
-    let most = six.most in
-    (omega (arith, least, f), omega (arith, most, f))
+    (omega (arith, six, f), omega (arith, six, f))
 
 -- three cells are no longer than two thirds of six, and longer than two of the same side
 pub three-not-too-long : (bounds : Bounds) (spread late later i samples longest : ℕ) → IsFindable bounds spread late later

@@ -335,15 +335,13 @@ recovered-level told told' setting [] n old mid new some few same run k state hi
     absurd (omega (arith, some, was))
 recovered-level told told' setting (x ∷ seen) n old mid new some few same run k state high samples short rest w =
     let s = w.stands in
-    let was = w.samples in
-    let was_short = w.short in
     let sum = s.samples_are in
     let u : Level = level_if old.line.edges.high in
     let stood : StandsOn told setting w.level w.runs (w.behind + n) mid = record {
       done = s.done;
       past = s.past;
       runs_are = ap (λ x. s.done ++ x) (waits-keep old mid k) ∙ s.runs_are;
-      samples_are = omega (arith, few, was_short, run, sum);
+      samples_are = omega (arith, few, w, run, sum);
       turns = ap level_if same ∙ s.turns;
       holds = holds-keeps told setting w.level s.done s.past old mid k state s.holds;
     } in
@@ -358,7 +356,7 @@ recovered-level told told' setting (x ∷ seen) n old mid new some few same run 
           (end-same u w.behind n more ∙ ap (λ l. runs_to_end l (w.behind + n) more) (sym (ap level_if (high ∙ same))));
       first = w.first;
       samples = let both = length-append (x ∷ seen) (replicate n u) in
-          let many = length-replicate n u in omega (arith, samples, was, both, many);
+          let many = length-replicate n u in omega (arith, samples, w, both, many);
       short = short;
       stands = rest w.level w.runs (w.behind + n) stood;
     }

@@ -163,26 +163,24 @@ pub second-period : (bounds : Bounds) (spread late later place side : ℕ) (plac
     → period ≡ (sums_to runs 241 16 - sums_to runs 0 16) * 65536 / max (sums_to line 241 16 - sums_to line 0 16) 1
     → IsPeriodOf bounds spread 253 period
 second-period bounds spread late later place side places line runs period captured is =
-    let many = captured.many in
     let displaced = captured.displaced in
-    let findable = captured.findable in
     let cells_count = displaced.cells_count in
-    let count : length runs ≡ 256 = omega (arith, many, cells_count) in
+    let count : length runs ≡ 256 = omega (arith, captured, cells_count) in
     let sums = sums-apart bounds spread late later places line runs 8 16 displaced count (omega arith) (omega arith) in
     let cells = sums_to line 241 16 - sums_to line 0 16 in
-    let cells_are : sums_to line 241 16 ≡ sums_to line 0 16 + (sums_to line 241 16 - sums_to line 0 16) = omega (arith, many) in
-    let some : max (sums_to line 241 16 - sums_to line 0 16) 1 ≡ sums_to line 241 16 - sums_to line 0 16 = omega (arith, many) in
+    let cells_are : sums_to line 241 16 ≡ sums_to line 0 16 + (sums_to line 241 16 - sums_to line 0 16) = omega (arith, captured) in
+    let some : max (sums_to line 241 16 - sums_to line 0 16) 1 ≡ sums_to line 241 16 - sums_to line 0 16 = omega (arith, captured) in
     let high = difference bounds.high (sums_to line 0 16) _ (sums_to line 241 16) cells_are in
     let low = difference bounds.low (sums_to line 0 16) _ (sums_to line 241 16) cells_are in
-    let at_least = fewer bounds.low 4048 (sums_to line 241 16 - sums_to line 0 16) (omega (arith, many)) in
-    let later_is : sums_to runs 0 16 ≤ sums_to runs 241 16 = omega (arith, sums, low, at_least, findable) in
+    let at_least = fewer bounds.low 4048 (sums_to line 241 16 - sums_to line 0 16) (omega (arith, captured)) in
+    let later_is : sums_to runs 0 16 ≤ sums_to runs 241 16 = omega (arith, sums, low, at_least, captured) in
     let long : IsLong bounds (16 * spread) (sums_to line 241 16 - sums_to line 0 16) (sums_to runs 241 16 - sums_to runs 0 16) = record {
       least = omega (arith, sums, low, later_is);
       most = omega (arith, sums, high, later_is);
     } in
     let near = near-of bounds (16 * spread) (sums_to line 241 16 - sums_to line 0 16) (sums_to runs 241 16 - sums_to runs 0 16) period long
-    (omega (arith, many)) (rw some at is) in
-    let fewer_cells = near-fewer bounds (16 * spread) (sums_to line 241 16 - sums_to line 0 16) 4048 period (omega (arith, many))
+    (omega (arith, captured)) (rw some at is) in
+    let fewer_cells = near-fewer bounds (16 * spread) (sums_to line 241 16 - sums_to line 0 16) 4048 period (omega (arith, captured))
     (omega arith) near in
     record { most = omega (arith, fewer_cells); least = omega (arith, fewer_cells) }
 
