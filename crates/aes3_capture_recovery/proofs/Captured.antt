@@ -168,57 +168,17 @@ six-in-range bounds spread late later longest f six =
 pub three-not-too-long : (bounds : Bounds) (spread late later i samples longest : ℕ) → IsFindable bounds spread late later
     → IsRunLong bounds spread (lateness late later i) (lateness late later (i + 1)) 3 samples → IsSix bounds spread longest
     → 3 * samples ≤ 2 * longest
-three-not-too-long bounds spread late later i samples longest f run six =
-    let most = run.most in
-    let least = six.least in
-    let near = f.near in
-    let ordered = f.ordered in
-    let alike = f.alike in
-    let later_half = f.later_half in
-    let late_half = f.late_half in
-    by (lateness-between late later i) most least near ordered alike later_half late_half
-  where
-    by : ◌⊎◌ ((lateness late later i ≡ late) × (lateness late later (i + 1) ≡ later))
-        ((lateness late later i ≡ later) × (lateness late later (i + 1) ≡ late))
-        → 65536 * samples + lateness late later i ≤ bounds.high * 3 + lateness late later (i + 1) + spread
-        → 6 * bounds.low ≤ 65536 * longest + spread
-        → 1025 * spread + 259072 * bounds.high + 259325 ≤ 259325 * bounds.low → bounds.low ≤ bounds.high
-        → 2048 * (bounds.high + 1) ≤ 2049 * bounds.low
-        → 2 * later ≤ 2 * late + bounds.low → 2 * late ≤ 2 * later + bounds.low → 3 * samples ≤ 2 * longest
-    by (inl e) most least near ordered alike a b =
-        let e0 = e.0 in
-        let e1 = e.1 in
-        omega (arith, e0, e1, most, least, near, ordered, alike, a, b)
-    by (inr e) most least near ordered alike a b =
-        let e0 = e.0 in
-        let e1 = e.1 in
-        omega (arith, e0, e1, most, least, near, ordered, alike, a, b)
+three-not-too-long bounds spread late later i samples longest f run six = elim (lateness-between late later i) [
+  | inl e ↦ omega (arith, e, run, six, f)
+  | inr e ↦ omega (arith, e, run, six, f)
+]
 
 pub three-is-some : (bounds : Bounds) (spread late later i samples : ℕ) → IsFindable bounds spread late later
     → IsRunLong bounds spread (lateness late later i) (lateness late later (i + 1)) 3 samples → 0 < samples
-three-is-some bounds spread late later i samples f run =
-    let least = run.least in
-    let near = f.near in
-    let ordered = f.ordered in
-    let short = f.shortest in
-    let later_half = f.later_half in
-    let late_half = f.late_half in
-    by (lateness-between late later i) least near ordered short later_half late_half
-  where
-    by : ◌⊎◌ ((lateness late later i ≡ late) × (lateness late later (i + 1) ≡ later))
-        ((lateness late later i ≡ later) × (lateness late later (i + 1) ≡ late))
-        → bounds.low * 3 + lateness late later (i + 1) ≤ 65536 * samples + lateness late later i + spread
-        → 1025 * spread + 259072 * bounds.high + 259325 ≤ 259325 * bounds.low → bounds.low ≤ bounds.high
-        → 25362624 + spread ≤ 192 * bounds.low
-        → 2 * later ≤ 2 * late + bounds.low → 2 * late ≤ 2 * later + bounds.low → 0 < samples
-    by (inl e) least near ordered short a b =
-        let e0 = e.0 in
-        let e1 = e.1 in
-        omega (arith, e0, e1, least, near, ordered, short, a, b)
-    by (inr e) least near ordered short a b =
-        let e0 = e.0 in
-        let e1 = e.1 in
-        omega (arith, e0, e1, least, near, ordered, short, a, b)
+three-is-some bounds spread late later i samples f run = elim (lateness-between late later i) [
+  | inl e ↦ omega (arith, e, run, f)
+  | inr e ↦ omega (arith, e, run, f)
+]
 
 pub longest-has-three : (bounds : Bounds) (spread late later i j n samples longest : ℕ) → IsFindable bounds spread late later
     → IsRunLong bounds spread (lateness late later i) (lateness late later (i + 1)) 3 samples

@@ -128,12 +128,6 @@ fits-256 bounds narrow spread late later period f near about =
     fits-of bounds narrow spread late later period 896 about (omega arith) (omega (arith, f, near)) (omega (arith, f, near))
     (omega (arith, f, near)) f.late_half f.later_half (omega (arith, f, near))
 
-pub fits-320 : (bounds narrow : Bounds) (spread late later period : ℕ) → IsFindable narrow spread late later
-    → IsPeriodOf narrow spread 320 period → IsAbout bounds period 1024 → Fits bounds narrow spread late later
-fits-320 bounds narrow spread late later period f near about =
-    fits-of bounds narrow spread late later period 1024 about (omega arith) (omega (arith, f, near)) (omega (arith, f, near))
-    (omega (arith, f, near)) f.late_half f.later_half (omega (arith, f, near))
-
 pub fits-253 : (bounds narrow : Bounds) (spread late later period : ℕ) → IsFindable narrow spread late later
     → IsPeriodOf narrow spread 253 period → IsAbout bounds period 1024 → Fits bounds narrow spread late later
 fits-253 bounds narrow spread late later period f near about =
@@ -153,8 +147,8 @@ fits-first bounds narrow spread late later period (suc (suc (suc (suc zero)))) p
     fits-256 bounds narrow spread late later period f near (rw is at about)
 fits-first bounds narrow spread late later period (suc (suc (suc (suc (suc m))))) part f near some is about =
     let e : part ≡ 1024 = omega (arith, is) in
-    let n = near-fewer narrow spread _ 320 period (omega arith) (omega arith) near in
-    fits-320 bounds narrow spread late later period f n (rw e at about)
+    let n = near-fewer narrow spread _ 253 period (omega arith) (omega arith) near in
+    fits-253 bounds narrow spread late later period f n (rw e at about)
 
 -- by a period that is known
 pub fits-known : (bounds narrow : Bounds) (spread late later period : ℕ) → IsFindable narrow spread late later → HasCells period narrow
@@ -167,10 +161,6 @@ fits-known bounds narrow spread late later period f has about =
 pub in-range-192 : (narrow : Bounds) (spread late later period : ℕ) → IsFindable narrow spread late later
     → IsPeriodOf narrow spread 192 period → (132096 ≤ period) × (period ≤ 524288000)
 in-range-192 narrow spread late later period f near = (omega (arith, f, near), omega (arith, f, near))
-
-pub in-range-253 : (narrow : Bounds) (spread late later period : ℕ) → IsFindable narrow spread late later
-    → IsPeriodOf narrow spread 253 period → (132096 ≤ period) × (period ≤ 524288000)
-in-range-253 narrow spread late later period f near = (omega (arith, f, near), omega (arith, f, near))
 
 -- in round numbers
 pub findable : (narrow : Bounds) (cell spread late later : ℕ) → IsAbout narrow cell 65536 → IsTolerable cell spread late later

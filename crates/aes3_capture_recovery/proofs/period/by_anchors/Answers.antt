@@ -3,7 +3,7 @@ use Rattle.aes3_capture.specs.declared.follower.Bounds.{Bounds}
 use Rattle.aes3_capture.specs.Captures.{IsAbout}
 use Rattle.aes3_capture_recovery.specs.Finding.{AllowsCells, AreCapturedRuns, AreEnds, IsPeriodOf, IsStarted}
 use Rattle.aes3_capture_recovery.proofs.Lines.{found-measured, measured-line, not-both, started-is-some}
-use Rattle.aes3_capture_recovery.proofs.NearPeriods.{in-range-192, in-range-253}
+use Rattle.aes3_capture_recovery.proofs.NearPeriods.{in-range-192, near-fewer}
 use Rattle.aes3_capture_recovery.proofs.TwoPeriods.{IsFirstPeriod, IsPart, asked-in-range, first-line, first-period, like-a-preamble, second-line, second-period-of}
 use Rattle.aes3_capture_recovery.proofs.period.by_anchors.Goals.{in-Some, in-None, then-not-may_begin-via-then-not-may_begin}
 use Rattle.aes3_capture_recovery.proofs.period.by_anchors.Goals.{then-not-may_begin-via-else-not-may_begin+then-not-may_begin-2}
@@ -73,7 +73,7 @@ second-is c captured ends allows =
     let cells = (is-started (goal.at.After-unwrap_or-2 c).After-start captured ends allows).1 in
     let near = second-period-of _ _ _ _ _ _ _ _ c.args.runs.now c.start.new.cells c.period_of-measured.result captured
     c.start.array_long cells c.period_of-measured.ensures in
-    let possible = in-range-253 _ _ _ _ _ captured.findable near in
+    let possible = in-range-192 _ _ _ _ _ captured.findable (near-fewer _ _ 253 192 _ (omega arith) (omega arith) near) in
     let range = asked-in-range _ c.args.known _ c.unwrap_or-2.result allows c.unwrap_or-2.ensures possible.0 possible.1 in
     (near, range.0, range.1)
 
