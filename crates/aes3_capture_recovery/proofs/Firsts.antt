@@ -60,16 +60,7 @@ whole-between place line i k h within more some first last =
 pub subframes-right : (bounds : Bounds) (spread late later k samples longest : ℕ) → IsFindable bounds spread late later
     → IsSix bounds spread longest → IsLong bounds spread (64 * k) samples → 1 ≤ k → k ≤ 3
     → (12 * samples + 64 * longest) / (128 * longest) ≡ k
-subframes-right bounds spread late later k samples longest f six long some few =
-    let n = f.near in
-    let o = f.ordered in
-    let a = f.alike in
-    let s = f.shortest in
-    let s0 = six.least in
-    let s1 = six.most in
-    let l0 = long.least in
-    let l1 = long.most in
-    by-count k n o a s s0 s1 l0 l1 some few
+subframes-right bounds spread late later k samples longest f six long some few = by-count k long some few
   where
     quotient : (x y q : ℕ) → 0 < y → q * y ≤ x → x < (q + 1) * y → x / y ≡ q
     quotient x y q p h g =
@@ -77,19 +68,16 @@ subframes-right bounds spread late later k samples longest f six long some few =
         let most = div_below x y (q + 1) p g in
         omega (arith, least, most)
 
-    by-count : (k : ℕ) → 1025 * spread + 259072 * bounds.high + 259325 ≤ 259325 * bounds.low → bounds.low ≤ bounds.high
-        → 2048 * (bounds.high + 1) ≤ 2049 * bounds.low → 25362624 + spread ≤ 192 * bounds.low
-        → 6 * bounds.low ≤ 65536 * longest + spread → 65536 * longest ≤ 6 * bounds.high + spread
-        → bounds.low * (64 * k) ≤ 65536 * samples + spread → 65536 * samples ≤ bounds.high * (64 * k) + spread → 1 ≤ k → k ≤ 3
+    by-count : (k : ℕ) → IsLong bounds spread (64 * k) samples → 1 ≤ k → k ≤ 3
         → (12 * samples + 64 * longest) / (128 * longest) ≡ k
-    by-count zero n o a s s0 s1 l0 l1 some few = absurd (omega (arith, some))
-    by-count (suc zero) n o a s s0 s1 l0 l1 some few = quotient _ (128 * longest) 1 (omega (arith, n, o, s, s0))
-        (omega (arith, n, o, a, s0, s1, l0, l1)) (omega (arith, n, o, a, s0, s1, l0, l1))
-    by-count (suc (suc zero)) n o a s s0 s1 l0 l1 some few = quotient _ (128 * longest) 2 (omega (arith, n, o, s, s0))
-        (omega (arith, n, o, a, s0, s1, l0, l1)) (omega (arith, n, o, a, s0, s1, l0, l1))
-    by-count (suc (suc (suc zero))) n o a s s0 s1 l0 l1 some few = quotient _ (128 * longest) 3 (omega (arith, n, o, s, s0))
-        (omega (arith, n, o, a, s0, s1, l0, l1)) (omega (arith, n, o, a, s0, s1, l0, l1))
-    by-count (suc (suc (suc (suc k)))) n o a s s0 s1 l0 l1 some few = absurd (omega (arith, few))
+    by-count zero long some few = absurd (omega (arith, some))
+    by-count (suc zero) long some few = quotient _ (128 * longest) 1 (omega (arith, f, six)) (omega (arith, f, six, long))
+        (omega (arith, f, six, long))
+    by-count (suc (suc zero)) long some few = quotient _ (128 * longest) 2 (omega (arith, f, six)) (omega (arith, f, six, long))
+        (omega (arith, f, six, long))
+    by-count (suc (suc (suc zero))) long some few = quotient _ (128 * longest) 3 (omega (arith, f, six)) (omega (arith, f, six, long))
+        (omega (arith, f, six, long))
+    by-count (suc (suc (suc (suc k)))) long some few = absurd (omega (arith, few))
 
 pub first-of : (bounds : Bounds) (spread late later place side : ℕ) (places line runs : List ℕ) (longest from run samples : ℕ)
     → AreCapturedRuns bounds spread late later place side places line runs → IsSix bounds spread longest → from + 64 ≤ 256
