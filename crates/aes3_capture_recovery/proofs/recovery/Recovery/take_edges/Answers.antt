@@ -12,7 +12,7 @@ use Rattle.aes3_capture_recovery.proofs.recovery.Recovery.take_edges.Given.{Over
 use Rattle.aes3_capture_recovery.proofs.recovery.Recovery.take_edges.Goals.{In_ok-edge, then-together+in-Ok-eq0, else-together}
 use Rattle.aes3_capture_recovery.proofs.recovery.Recovery.take_edges.Goals as goal
 
--- together no edges were taken
+-- no edges were taken together, so all is as it was
 kept : (g : Over) (c : In_ok-edge g) → (c.if-together.self ≡ c.args.self.now) × (c.if-together.sink ≡ c.args.sink.now)
 kept g c = elim c.if-together.branch [
   | then-together+in-Ok-eq0 x ↦ let e = x.in-Ok-eq0.ensures.none x.in-Ok-eq0.field-0-test in (x.self-is ∙ e.0, x.sink-is ∙ e.1)
