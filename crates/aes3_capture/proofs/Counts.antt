@@ -102,17 +102,13 @@ captures-late bounds spread late later same other displaced (n ∷ counts) [] na
 captures-late bounds spread late later same other displaced (n ∷ counts) (run ∷ runs) narrow above below s o spreads =
     let before : IsBetween late displaced spread = spreads.1 in
     let next : IsBetween later spreads.0 spread = spreads.2 in
-    let b0 = before.least in
-    let b1 = before.most in
-    let n0 = next.least in
-    let n1 = next.most in
     let o0 = o.least in
     let o1 = o.most in (
       spreads.0,
       record {
         placed = spreads.3;
-        mean_near = record { below = omega (arith, n1, o0, narrow); above = omega (arith, n0, o1, narrow) };
-        before_near = record { below = omega (arith, n1, b0, below); above = omega (arith, n0, b1, above) };
+        mean_near = record { below = omega (arith, next, o0, narrow); above = omega (arith, next, o1, narrow) };
+        before_near = record { below = omega (arith, next, before, below); above = omega (arith, next, before, above) };
       },
       captures-late bounds spread later late (mean_with other spreads.0) same spreads.0 counts runs narrow below above
           (mean-between other spreads.0 later spread o next) s spreads.4,

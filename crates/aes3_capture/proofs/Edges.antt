@@ -18,25 +18,42 @@ pub record OneLeft (f : Follower) (run given cells : ℕ) : Type 0 where
   pub since : f.elapsed + cells * f.period ≡ run + f.period
   pub late : f.period + f.bounds.low ≤ f.elapsed + f.other
 
+-- a run at the follower's period, and where the edge after it lies on both grids
+pub record OnGrids (f : Follower) (run cells step : ℕ) : Type 0 where
+  pub steps : (step ≤ cells * f.period + wander f.bounds) × (cells * f.period ≤ step + wander f.bounds)
+  pub place : (cells * f.period + f.bounds.low < run + f.other) × (run + f.other < cells * f.period + 2 * f.bounds.low)
+  pub apart : (cells * f.period ≤ run + f.same) × (run + f.same ≤ cells * f.period + 3 * f.bounds.low)
+
+pub on-grids : (f : Follower) (same other before run given cells displaced : ℕ) → f.bounds.low ≤ f.period
+    → f.period ≤ f.bounds.high → Follows f same other before run given
+    → (is_run : IsRun f.bounds other before cells run displaced) → OnGrids f run cells is_run.placed.step
+on-grids f same other before run given cells displaced shortest longest follows is_run =
+    let step : ℕ = is_run.placed.step in
+    let steps = steps-near cells f.bounds.low f.bounds.high f.period step is_run.placed.few shortest longest
+    is_run.placed.longest is_run.placed.shortest in
+    record {
+      steps = steps;
+      place = place-near f.bounds.low (wander f.bounds) step (cells * f.period) run before displaced other f.other steps.0 steps.1
+          is_run.placed.between follows.other_place.below follows.other_place.above is_run.mean_near.below is_run.mean_near.above;
+      apart = other-near f.bounds.low (wander f.bounds) step (cells * f.period) run before displaced same f.same steps.0 steps.1
+          is_run.placed.between is_run.before_near.below is_run.before_near.above follows.same_place.below
+          follows.same_place.above follows.mean_near.below follows.mean_near.above
+          (omega (arith, is_run.mean_near.below, is_run.mean_near.above));
+    }
+
 pub decided : (f : Follower) (same other before run given cells displaced : ℕ) → f.bounds.low ≤ f.period
     → f.period ≤ f.bounds.high → f.elapsed < f.period
     → Follows f same other before run given → IsRun f.bounds other before cells run displaced
     → (AllTold f run given cells) ⊎ (OneLeft f run given cells)
 decided f same other before run given cells displaced shortest longest told follows is_run =
     let low : ℕ = f.bounds.low in
-    let steps : (is_run.placed.step ≤ cells * f.period + wander f.bounds)
-    × (cells * f.period ≤ is_run.placed.step + wander f.bounds) =
-    steps-near cells f.bounds.low f.bounds.high f.period is_run.placed.step is_run.placed.few shortest longest
-    is_run.placed.longest is_run.placed.shortest in
+    let grids = on-grids f same other before run given cells displaced shortest longest follows is_run in
+    let steps = grids.steps in
     let near : (run < cells * f.period + f.bounds.low) × (cells * f.period < run + f.bounds.low) =
     run-near f.bounds.low (wander f.bounds) is_run.placed.step (cells * f.period)
     run before displaced steps.0 steps.1 is_run.placed.between
     is_run.before_near.below is_run.before_near.above in
-    let place : (cells * f.period + f.bounds.low < run + f.other)
-    × (run + f.other < cells * f.period + 2 * f.bounds.low) =
-    place-near f.bounds.low (wander f.bounds) is_run.placed.step (cells * f.period)
-    run before displaced other f.other steps.0 steps.1 is_run.placed.between
-    follows.other_place.below follows.other_place.above is_run.mean_near.below is_run.mean_near.above in
+    let place = grids.place in
     let above : run < cells * f.period + f.period = omega (arith, near.0, shortest) in
     let below : cells * f.period < run + f.period = omega (arith, near.1, shortest) in
     let which : (given ≡ cells) ⊎ (given + 1 ≡ cells)
@@ -64,22 +81,10 @@ pub goes-on : (f g : Follower) (same other before run given cells displaced told
     → Follows g (mean_with other displaced) same displaced 0 0
 goes-on f g same other before run given cells displaced told shortest longest follows is_run since bounds elapsed
     grid_is other_is =
-    let steps : (is_run.placed.step ≤ cells * f.period + wander f.bounds)
-    × (cells * f.period ≤ is_run.placed.step + wander f.bounds) =
-    steps-near cells f.bounds.low f.bounds.high f.period is_run.placed.step is_run.placed.few shortest longest
-    is_run.placed.longest is_run.placed.shortest in
-    let place : (cells * f.period + f.bounds.low < run + f.other)
-    × (run + f.other < cells * f.period + 2 * f.bounds.low) =
-    place-near f.bounds.low (wander f.bounds) is_run.placed.step (cells * f.period)
-    run before displaced other f.other steps.0 steps.1 is_run.placed.between
-    follows.other_place.below follows.other_place.above is_run.mean_near.below is_run.mean_near.above in
-    let narrow : 32 * wander f.bounds + 32 < f.bounds.low / 2
-    = omega (arith, is_run.mean_near.below, is_run.mean_near.above) in
-    let apart : (cells * f.period ≤ run + f.same) × (run + f.same ≤ cells * f.period + 3 * f.bounds.low) =
-    other-near f.bounds.low (wander f.bounds) is_run.placed.step (cells * f.period)
-    run before displaced same f.same steps.0 steps.1 is_run.placed.between
-    is_run.before_near.below is_run.before_near.above follows.same_place.below follows.same_place.above
-    follows.mean_near.below follows.mean_near.above narrow in
+    let grids = on-grids f same other before run given cells displaced shortest longest follows is_run in
+    let steps = grids.steps in
+    let place = grids.place in
+    let apart = grids.apart in
     let at : ℕ = f.elapsed + f.other - told in
     let at_is : f.elapsed + f.other - told + cells * f.period ≡ run + f.other = omega (arith, since, place.0) in
     let moved : (f.elapsed + f.other - told + other

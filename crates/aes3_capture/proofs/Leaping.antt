@@ -1,5 +1,5 @@
 -- Steps in 32 bits, one behind the other.
-use Rattle.std.proofs.Common.{ℕ, List, length, get_or, set, ◌≡◌, ◌<◌, ◌≤◌, ◌+◌, ◌⊎◌, inl, inr, arith}
+use Rattle.std.proofs.Common.{ℕ, List, length, get_or, set, ◌≡◌, ◌<◌, ◌≤◌, ◌+◌, inl, inr, arith}
 use Rattle.std.proofs.lemmas.List.{get_or-set_same, get_or-set_other, length-set}
 use Rattle.std.proofs.lemmas.Bool.{cases_lt}
 use Rattle.aes3_capture.specs.Leaps.{IsBounded, IsStep}
@@ -47,19 +47,15 @@ step-last : (middle : ℕ) (runs cells places sames others periods : List ℕ) (
     (get_or (set places i place) j 0) (get_or (set sames (i + 1) s) (j + 1) 0) (get_or (set others (i + 1) o) (j + 1) 0)
     (get_or (set periods (i + 1) p) (j + 1) 0)
 step-last middle runs cells places sames others periods a b c i j same other period place s o p few last are step =
-    let places_long = are.places_long in
-    let sames_long = are.sames_long in
-    let others_long = are.others_long in
-    let periods_long = are.periods_long in
     rw (
       last,
       get_or-set_other sames (i + 1) i s 0 (omega arith),
       get_or-set_other others (i + 1) i o 0 (omega arith),
       get_or-set_other periods (i + 1) i p 0 (omega arith),
-      get_or-set_same places i place 0 (omega (arith, few, places_long)),
-      get_or-set_same sames (i + 1) s 0 (omega (arith, few, sames_long)),
-      get_or-set_same others (i + 1) o 0 (omega (arith, few, others_long)),
-      get_or-set_same periods (i + 1) p 0 (omega (arith, few, periods_long)),
+      get_or-set_same places i place 0 (omega (arith, few, are)),
+      get_or-set_same sames (i + 1) s 0 (omega (arith, few, are)),
+      get_or-set_same others (i + 1) o 0 (omega (arith, few, are)),
+      get_or-set_same periods (i + 1) p 0 (omega (arith, few, are)),
       are.same_is,
       are.other_is,
       are.period_is,
@@ -85,16 +81,12 @@ steps-more middle runs cells places sames others periods a b c i same other peri
       same_is = get_or-set_same sames (i + 1) s 0 (omega (arith, few, sames_long));
       other_is = get_or-set_same others (i + 1) o 0 (omega (arith, few, others_long));
       period_is = get_or-set_same periods (i + 1) p 0 (omega (arith, few, periods_long));
-      each = λ j below. by j below (cases_lt j i);
+      each = λ j below. elim (cases_lt j i) [
+        | inl before ↦ step-before middle runs cells places sames others periods a b c i j same other period place s o p before are
+        | inr past ↦ step-last middle runs cells places sames others periods a b c i j same other period place s o p few
+            (omega (arith, below, past)) are step
+      ];
     }
-  where
-    by : (j : ℕ) → j < i + 1 → (j < i) ⊎ (i ≤ j) → IsStep middle (get_or runs j 0) (get_or cells j 0)
-        (get_or (set sames (i + 1) s) j 0) (get_or (set others (i + 1) o) j 0) (get_or (set periods (i + 1) p) j 0)
-        (get_or (set places i place) j 0) (get_or (set sames (i + 1) s) (j + 1) 0) (get_or (set others (i + 1) o) (j + 1) 0)
-        (get_or (set periods (i + 1) p) (j + 1) 0)
-    by j below (inl before) = step-before middle runs cells places sames others periods a b c i j same other period place s o p before are
-    by j below (inr past) = step-last middle runs cells places sames others periods a b c i j same other period place s o p few
-        (omega (arith, below, past)) are step
 
 -- no step yet
 pub no-steps : (middle : ℕ) (runs cells places sames others periods : List ℕ) (same other period : ℕ)
@@ -120,19 +112,13 @@ pub bounded-within : (low run cells other place s o p a b c d e f a' b' c' d' e'
     → IsBounded low run cells other place s o p a b c d e f → a ≤ a' → b ≤ b' → c ≤ c' → d ≤ d' → e ≤ e' → f ≤ f'
     → IsBounded low run cells other place s o p a' b' c' d' e' f'
 bounded-within low run cells other place s o p a b c d e f a' b' c' d' e' f' is g h i j k l =
-    let run_is = is.run_is in
-    let cells_is = is.cells_is in
-    let place_is = is.place_is in
-    let time_is = is.time_is in
-    let apart_is = is.apart_is in
-    let period_is = is.period_is in
     record {
-      run_is = omega (arith, run_is, g);
-      cells_is = omega (arith, cells_is, h);
-      place_is = omega (arith, place_is, i);
-      time_is = omega (arith, time_is, j);
-      apart_is = omega (arith, apart_is, k);
-      period_is = omega (arith, period_is, l);
+      run_is = omega (arith, is, g);
+      cells_is = omega (arith, is, h);
+      place_is = omega (arith, is, i);
+      time_is = omega (arith, is, j);
+      apart_is = omega (arith, is, k);
+      period_is = omega (arith, is, l);
     }
 
 -- the first steps are within these bounds
@@ -148,13 +134,7 @@ pub bounded-more : (low : ℕ) (runs cells places sames others periods : List �
     → IsBounded low (get_or runs i 0) (get_or cells i 0) (get_or others i 0) (get_or places i 0)
     (get_or sames (i + 1) 0) (get_or others (i + 1) 0) (get_or periods (i + 1) 0) a' b' c' d' e' f'
     → AreBounded low runs cells places sames others periods (i + 1) a' b' c' d' e' f'
-bounded-more low runs cells places sames others periods i a b c d e f a' b' c' d' e' f' are g h k l m n last = λ j below. by j below (cases_lt j i)
-  where
-    by : (j : ℕ) → j < i + 1 → (j < i) ⊎ (i ≤ j) → IsBounded low (get_or runs j 0) (get_or cells j 0) (get_or others j 0)
-        (get_or places j 0) (get_or sames (j + 1) 0) (get_or others (j + 1) 0) (get_or periods (j + 1) 0) a' b' c' d' e' f'
-    by j below (inl before) = bounded-within low _ _ _ _ _ _ _ a b c d e f a' b' c' d' e' f' (are j before) g h k l m n
-    by j below (inr past) = last-one j (omega (arith, below, past))
-      where
-        last-one : (j : ℕ) → j ≡ i → IsBounded low (get_or runs j 0) (get_or cells j 0) (get_or others j 0)
-            (get_or places j 0) (get_or sames (j + 1) 0) (get_or others (j + 1) 0) (get_or periods (j + 1) 0) a' b' c' d' e' f'
-        last-one j same = rw same last
+bounded-more low runs cells places sames others periods i a b c d e f a' b' c' d' e' f' are g h k l m n last = λ j below. elim (cases_lt j i) [
+  | inl before ↦ bounded-within low _ _ _ _ _ _ _ a b c d e f a' b' c' d' e' f' (are j before) g h k l m n
+  | inr past ↦ let same : j ≡ i = omega (arith, below, past) in rw same last
+]

@@ -32,26 +32,18 @@ pub right-step : (low high run n time same other period place s o p : ℕ) → t
     → IsRight low high run time same other period place s o p
 right-step low high run n time same other period place s o p product least ordered short longest shortest same_bound other_bound step bounded =
     let few : time ≤ 3 * period = rw product (times-most n period bounded.cells_is) in
-    let run_is = bounded.run_is in
     let is : place ≡ ((run * 65536 % 2 ^ 32 + other) % 2 ^ 32 + (2 ^ 32 - time % 2 ^ 32)) % 2 ^ 32
     = rw product step.place_is in
-    let place_near = bounded.place_is in
-    let from : low ≤ place = omega (arith, place_near, is, least, short, ordered) in
-    let below : place < 2 * low = omega (arith, place_near, is, least, short, ordered) in
-    let exact : place + time ≡ 65536 * run + other = omega (arith, is, from, below, run_is, few, other_bound, short, ordered, longest) in
-    let in_time = bounded.time_is in
-    let behind : time ≤ 65536 * run + low = omega (arith, exact, in_time, from, below, other_bound, short, ordered, least) in
-    let ahead : 65536 * run < time + low = omega (arith, exact, in_time, from, below, other_bound, short, ordered, least) in
-    let same_moved = step.same_is in
-    let same_is : s ≡ place - place / 16 + (low + low / 2) / 16 = omega (arith, same_moved, below, short, ordered) in
-    let other_moved = step.other_is in
-    let apart = bounded.apart_is in
+    let from : low ≤ place = omega (arith, bounded, is, least, short, ordered) in
+    let below : place < 2 * low = omega (arith, bounded, is, least, short, ordered) in
+    let exact : place + time ≡ 65536 * run + other = omega (arith, is, from, below, bounded, few, other_bound, short, ordered, longest) in
+    let behind : time ≤ 65536 * run + low = omega (arith, exact, bounded, from, below, other_bound, short, ordered, least) in
+    let ahead : 65536 * run < time + low = omega (arith, exact, bounded, from, below, other_bound, short, ordered, least) in
+    let same_is : s ≡ place - place / 16 + (low + low / 2) / 16 = omega (arith, step, below, short, ordered) in
     let other_is : o + time ≡ 65536 * run + same
-    = omega (arith, exact, behind, ahead, other_moved, same_is, from, below, apart, same_bound, other_bound, short, ordered, least) in
-    let period_moved = step.period_is in
-    let period_near = bounded.period_is in
-    let last_least : low ≤ p = omega (arith, period_near, period_moved, least, short, ordered) in
-    let last_most : p ≤ high = omega (arith, period_near, last_least, short, ordered) in
+    = omega (arith, exact, behind, ahead, step, same_is, from, below, bounded, same_bound, other_bound, short, ordered, least) in
+    let last_least : low ≤ p = omega (arith, bounded, step, least, short, ordered) in
+    let last_most : p ≤ high = omega (arith, bounded, last_least, short, ordered) in
     record {
       behind = behind;
       ahead = ahead;
@@ -60,11 +52,11 @@ right-step low high run n time same other period place s o p product least order
       below = below;
       same_is = same_is;
       other_is = other_is;
-      period_is = omega (arith, period_moved, last_least, last_most, below, longest, shortest, least, short, ordered);
+      period_is = omega (arith, step, last_least, last_most, below, longest, shortest, least, short, ordered);
       least = last_least;
       most = last_most;
-      together = omega (arith, apart, same_is, other_is, behind, ahead, from, below, same_bound, other_bound, short, ordered, least);
-      other_bound = omega (arith, apart, same_is, other_is, behind, ahead, from, below, same_bound, other_bound, short, ordered, least);
+      together = omega (arith, bounded, same_is, other_is, behind, ahead, from, below, same_bound, other_bound, short, ordered, least);
+      other_bound = omega (arith, bounded, same_is, other_is, behind, ahead, from, below, same_bound, other_bound, short, ordered, least);
     }
 
 -- such a step is that of the follower, whatever follower has these numbers behind it
@@ -143,14 +135,11 @@ next-near : (old new : Follower) (runs cells places sames others periods : List 
     → new.period ≡ get_or periods (k + 1) 0
     → Tracked old (take (k + 1) runs) (take (k + 1) cells) (take (k + 1) (drop 1 sames)) new
 next-near old new runs cells places sames others periods k few leap r bounds_is elapsed_is same_is other_is period_is =
-    let runs_long = leap.runs_long in
-    let cells_long = leap.cells_long in
-    let sames_long = leap.sames_long in
     let place : get_or (drop 1 sames) k 0 ≡ get_or sames (k + 1) 0 = rw (get_or-drop 1 sames k 0) (again sames (1 + k) (k + 1) (omega arith)) in
-    let long : length (drop 1 sames) ≡ 16 = rw (length-drop 1 sames) (omega (arith, sames_long)) in
+    let long : length (drop 1 sames) ≡ 16 = rw (length-drop 1 sames) (omega (arith, leap)) in
     rw (
-      take_more runs k 0 (omega (arith, few, runs_long)),
-      take_more cells k 0 (omega (arith, few, cells_long)),
+      take_more runs k 0 (omega (arith, few, leap)),
+      take_more cells k 0 (omega (arith, few, leap)),
       take_more (drop 1 sames) k 0 (omega (arith, few, long)),
       place,
     ) (tracked-more (take k runs) (take k cells) (take k (drop 1 sames)) old r.at new (get_or runs k 0) (get_or cells k 0)
@@ -166,9 +155,6 @@ reached-more : (old : Follower) (runs cells places sames others periods : List �
 reached-more old runs cells places sames others periods k few leap r =
     let right = right-from old runs cells places sames others periods k few leap r in
     let shortest = right.least in
-    let place_below = right.below in
-    let from = right.from in
-    let moved = right.same_is in
     let low_least = r.at.bounds.least in
     let new : Follower = record {
       bounds = r.at.bounds;
@@ -179,7 +165,7 @@ reached-more old runs cells places sames others periods k few leap r =
       longest = right.most;
       shortest = shortest;
       told = omega (arith, shortest, low_least);
-      same_bound = omega (arith, moved, place_below, from);
+      same_bound = omega (arith, right);
       other_bound = right.other_bound;
     } in
     record {
@@ -239,13 +225,10 @@ pub leapt : (old new : Follower) (runs cells places sames others periods : List 
     → new.same ≡ get_or sames 16 0 → new.other ≡ get_or others 16 0 → new.period ≡ get_or periods 16 0
     → Tracked old runs cells (drop 1 sames) new
 leapt old new runs cells places sames others periods leap bounds_is elapsed_is same_is other_is period_is =
-    let runs_long = leap.runs_long in
-    let cells_long = leap.cells_long in
-    let sames_long = leap.sames_long in
-    let long : length (drop 1 sames) ≡ 16 = rw (length-drop 1 sames) (omega (arith, sames_long)) in
+    let long : length (drop 1 sames) ≡ 16 = rw (length-drop 1 sames) (omega (arith, leap)) in
     rw (
-      sym (take_all 16 runs (omega (arith, runs_long))),
-      sym (take_all 16 cells (omega (arith, cells_long))),
+      sym (take_all 16 runs (omega (arith, leap))),
+      sym (take_all 16 cells (omega (arith, leap))),
       sym (take_all 16 (drop 1 sames) (omega (arith, long))),
     ) (next-near old new runs cells places sames others periods 15 (omega arith) leap
     (reached old runs cells places sames others periods 15 (omega arith) leap) bounds_is elapsed_is same_is other_is period_is)

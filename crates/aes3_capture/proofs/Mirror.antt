@@ -16,21 +16,12 @@ pub turned-follows : (f g : Follower) (period same other displaced most : ℕ)
     → same ≤ most → other ≤ most → displaced ≤ most → Follows f same other displaced 0 0
     → Follows g (most - same) (most - other) (most - displaced) 0 0
 turned-follows f g period same other displaced most b s o m n d follows =
-    let e = b.elapsed_is in
-    let s0 = follows.same_place.below in
-    let s1 = follows.same_place.above in
-    let o0 = follows.other_place.below in
-    let o1 = follows.other_place.above in
-    let n0 = follows.mean_near.below in
-    let n1 = follows.mean_near.above in
     let none : 0 * g.period ≡ 0 = grind arith in
-    let at = b.same_is in
-    let past = b.other_is in
     record {
-      passed = omega (arith, none, e);
-      same_place = rw b.bounds_is record { below = omega (arith, s0, s1, at, s, m, d); above = omega (arith, s0, s1, at, s, m, d) };
-      other_place = rw b.bounds_is record { below = omega (arith, o0, o1, past, o, n, d); above = omega (arith, o0, o1, past, o, n, d) };
-      mean_near = rw b.bounds_is record { below = omega (arith, n0, n1, m, d); above = omega (arith, n0, n1, m, d) };
+      passed = omega (arith, none, b);
+      same_place = rw b.bounds_is record { below = omega (arith, follows.same_place, b, s, m, d); above = omega (arith, follows.same_place, b, s, m, d) };
+      other_place = rw b.bounds_is record { below = omega (arith, follows.other_place, b, o, n, d); above = omega (arith, follows.other_place, b, o, n, d) };
+      mean_near = rw b.bounds_is record { below = omega (arith, follows.mean_near, m, d); above = omega (arith, follows.mean_near, m, d) };
     }
 
 -- A run between two edges is one of the line in the other direction.
@@ -41,12 +32,6 @@ pub run-back : (bounds : Bounds) (spread late later mean before cells run displa
     → later + spread < late + (bounds.low - wander bounds)
     → IsRun bounds mean (most - before) cells run (most - displaced)
 run-back bounds spread late later mean before cells run displaced most placed d b m far farther narrow above below =
-    let d0 = d.least in
-    let d1 = d.most in
-    let b0 = b.least in
-    let b1 = b.most in
-    let m0 = m.least in
-    let m1 = m.most in
     let between = placed.between in
     record {
       placed = record {
@@ -55,10 +40,10 @@ run-back bounds spread late later mean before cells run displaced most placed d 
         step = placed.step;
         longest = placed.longest;
         shortest = placed.shortest;
-        between = omega (arith, between, d1, b1, far, farther);
+        between = omega (arith, between, d, b, far, farther);
       };
-      mean_near = record { below = omega (arith, d0, m0, narrow); above = omega (arith, d1, m1, narrow, far) };
-      before_near = record { below = omega (arith, d0, b1, below); above = omega (arith, d1, b0, above, far) };
+      mean_near = record { below = omega (arith, d, m, narrow); above = omega (arith, d, m, narrow, far) };
+      before_near = record { below = omega (arith, d, b, below); above = omega (arith, d, b, above, far) };
     }
 
 -- Longer and shorter cells are borne by wider bounds.
@@ -68,16 +53,14 @@ more-cells cells high most h = grind (arith, h)
 pub placed-wider : (narrow wide : Bounds) (before cells run displaced : ℕ) → wide.low ≤ narrow.low → narrow.high ≤ wide.high
     → IsPlaced narrow before cells run displaced → IsPlaced wide before cells run displaced
 placed-wider narrow wide before cells run displaced low high placed =
-    let longest = placed.longest in
-    let shortest = placed.shortest in
     let more = more-cells cells narrow.high wide.high high in
     let less = more-cells cells wide.low narrow.low low in
     record {
       some = placed.some;
       few = placed.few;
       step = placed.step;
-      longest = omega (arith, longest, more);
-      shortest = omega (arith, shortest, less);
+      longest = omega (arith, placed, more);
+      shortest = omega (arith, placed, less);
       between = placed.between;
     }
 
@@ -94,27 +77,17 @@ pub anchored-follows : (f : Follower) (bounds : Bounds) (spread late later befor
     → later + spread < late + (bounds.low - wander bounds)
     → Follows f (most - displaced) (most - before) (most - displaced) 0 0
 anchored-follows f bounds spread late later before cells run displaced most period three low high b placed l r far farther above below =
-    let e = b.elapsed_is in
-    let same = b.same_is in
-    let other = b.other_is in
     let none : 0 * f.period ≡ 0 = grind arith in
-    let between = placed.between in
     let least = three-cells cells 3 bounds.low three in
     let most_cells = three-cells cells 3 bounds.high three in
-    let longest = placed.longest in
-    let shortest = placed.shortest in
-    let l0 = l.least in
-    let l1 = l.most in
-    let r0 = r.least in
-    let r1 = r.most in
     let whole : f.other ≡ middle_of bounds + 3 * period - run =
-    omega (arith, other, between, least, most_cells, longest, shortest, l0, l1, r0, r1, above, below, low, high) in
+    omega (arith, b, placed, least, most_cells, l, r, above, below, low, high) in
     record {
-      passed = omega (arith, none, e);
-      same_place = rw b.bounds_is record { below = omega (arith, same); above = omega (arith, same) };
+      passed = omega (arith, none, b);
+      same_place = rw b.bounds_is record { below = omega (arith, b); above = omega (arith, b) };
       other_place = rw b.bounds_is record {
-        below = omega (arith, whole, between, least, most_cells, longest, shortest, l0, l1, r0, r1, above, below, low, high, far, farther);
-        above = omega (arith, whole, between, least, most_cells, longest, shortest, l0, l1, r0, r1, above, below, low, high, far, farther);
+        below = omega (arith, whole, placed, least, most_cells, l, r, above, below, low, high, far, farther);
+        above = omega (arith, whole, placed, least, most_cells, l, r, above, below, low, high, far, farther);
       };
       mean_near = rw b.bounds_is record { below = omega arith; above = omega arith };
     }
@@ -177,18 +150,12 @@ displaced-by-numbers bounds spread late later before (n ∷ cells) (run ∷ runs
 pub mean-between : (mean displaced late spread : ℕ) → IsBetween late mean spread → IsBetween late displaced spread
     → IsBetween late (mean_with mean displaced) spread
 mean-between mean displaced late spread m d =
-    let a = m.least in
-    let b = m.most in
-    let x = d.least in
-    let y = d.most in
-    record { least = omega (arith, a, b, x, y); most = omega (arith, a, b, x, y) }
+    record { least = omega (arith, m, d); most = omega (arith, m, d) }
 
 turned-between : (place late spread most : ℕ) → late + spread ≤ most → IsBetween late place spread
     → IsBetween (most - (late + spread)) (most - place) spread
 turned-between place late spread most far b =
-    let x = b.least in
-    let y = b.most in
-    record { least = omega (arith, x, y, far); most = omega (arith, x, y, far) }
+    record { least = omega (arith, b, far); most = omega (arith, b, far) }
 
 -- both directions: what holds of the two sides of an edge
 pub record HasSides (late later spread most here next : ℕ) : Type 0 where
@@ -246,32 +213,17 @@ pub turned-at : (f g : Follower) (period spread late later most : ℕ) (places :
 turned-at f g period spread late later most places e borne far farther here begins at =
     let s = sides late later spread most e far farther in
     let b = borne-sides f.bounds spread late later e borne in
-    let f0 = at.first_side.least in
-    let f1 = at.first_side.most in
-    let g0 = at.second_side.least in
-    let g1 = at.second_side.most in
-    let h0 = here.least in
-    let h1 = here.most in
-    let far_here = s.far in
-    let far_next = s.farther in
-    let narrow = b.narrow in
-    let above = b.above in
-    let below = b.below in
-    let s0 = at.follows.same_place.below in
-    let s1 = at.follows.same_place.above in
-    let o0 = at.follows.other_place.below in
-    let o1 = at.follows.other_place.above in
-    let same : f.same ≤ 2 * middle_of f.bounds = omega (arith, f0, f1, h0, h1, far_here, narrow, s0, s1) in
-    let other : f.other ≤ 2 * middle_of f.bounds = omega (arith, g0, g1, h0, h1, far_here, far_next, narrow, above, below, o0, o1) in
+    let same : f.same ≤ 2 * middle_of f.bounds = omega (arith, at.first_side, here, s, b, at.follows.same_place) in
+    let other : f.other ≤ 2 * middle_of f.bounds = omega (arith, at.second_side, here, s, b, at.follows.other_place) in
     let turned = turned-follows f g period at.first at.second (most - get_or places e 0) most begins same other
-    (omega (arith, f1, far_here)) (omega (arith, g1, far_next)) (omega arith) at.follows in
-    let whole : most - (most - get_or places e 0) ≡ get_or places e 0 = omega (arith, h1, far_here) in
+    (omega (arith, at.first_side, s)) (omega (arith, at.second_side, s)) (omega arith) at.follows in
+    let whole : most - (most - get_or places e 0) ≡ get_or places e 0 = omega (arith, here, s) in
     record {
       first = most - at.first;
       second = most - at.second;
       follows = rw whole at turned;
-      first_side = record { least = omega (arith, f0, f1, far_here); most = omega (arith, f0, f1, far_here) };
-      second_side = record { least = omega (arith, g0, g1, far_next); most = omega (arith, g0, g1, far_next) };
+      first_side = record { least = omega (arith, at.first_side, s); most = omega (arith, at.first_side, s) };
+      second_side = record { least = omega (arith, at.second_side, s); most = omega (arith, at.second_side, s) };
     }
 
 -- It begins at the end of a run of three cells.
@@ -314,19 +266,13 @@ at-next f g narrow spread late later places cells runs e result line wide borne 
     let same : (e + 1) + 1 ≡ e + 2 = omega arith in
     let placed = placed-wider narrow f.bounds (get_or places e 0) (get_or cells e 0) (65536 * get_or runs e 0)
     (get_or places (e + 1) 0) wide.low wide.high (line.placed e h) in
-    let h0 = here.least in
-    let h1 = here.most in
-    let t0 = there.least in
-    let t1 = there.most in
-    let s0 = at.second_side.least in
-    let s1 = at.second_side.most in
     let narrow_is = b.narrow in
     let above = b.above in
     let below = b.below in
     let run : IsRun f.bounds at.second (get_or places e 0) (get_or cells e 0) (65536 * get_or runs e 0) (get_or places (e + 1) 0) = record {
       placed = placed;
-      mean_near = record { below = omega (arith, t1, s0, narrow_is); above = omega (arith, t0, s1, narrow_is) };
-      before_near = record { below = omega (arith, t1, h0, below); above = omega (arith, t0, h1, above) };
+      mean_near = record { below = omega (arith, there, at.second_side, narrow_is); above = omega (arith, there, at.second_side, narrow_is) };
+      before_near = record { below = omega (arith, there, here, below); above = omega (arith, there, here, above) };
     } in
     let next = counts at.first at.second (get_or places e 0) (get_or cells e 0) (get_or places (e + 1) 0) at.follows run in (
       next.0,

@@ -52,6 +52,21 @@ turned-so old at new samples cells place last more c bounds period same is_more 
       period_is = rw (is_place, bounds) (omega (arith, moved, least, most, period));
     }
 
+-- the follower when so much time has passed since its latest cell
+abbrev with-left : (old : Follower) (left : ℕ) → left < old.period → Follower
+with-left old left told = record {
+  bounds = old.bounds;
+  period = old.period;
+  elapsed = left;
+  same = old.same;
+  other = old.other;
+  longest = old.longest;
+  shortest = old.shortest;
+  told = told;
+  same_bound = old.same_bound;
+  other_bound = old.other_bound;
+}
+
 -- Where the time is that of the cells or more, all of them pass before the edge.
 all-pass : (old new : Follower) (samples cells place : ℕ) → Compared old samples cells place new
     → cells * old.period ≤ 65536 * samples → Counted old samples cells new
@@ -62,18 +77,7 @@ all-pass old new samples cells place c long =
     let below = c.below in
     let quiet = c.quiet in
     let left : ℕ = 65536 * samples - cells * old.period in
-    let at : Follower = record {
-      bounds = old.bounds;
-      period = old.period;
-      elapsed = left;
-      same = old.same;
-      other = old.other;
-      longest = old.longest;
-      shortest = shortest;
-      told = omega (arith, ahead, shortest, long);
-      same_bound = old.same_bound;
-      other_bound = old.other_bound;
-    } in
+    let at : Follower = with-left old left (omega (arith, ahead, shortest, long)) in
     let none : nat_le (old.period + old.bounds.low) (left + old.other) ≡ false
     = lt-leb (old.period + old.bounds.low) (left + old.other) (omega (arith, is, below, shortest, long)) in
     let last : last_cell at ≡ 0 = rw none refl in
@@ -105,18 +109,7 @@ one-left old new samples (suc n) place c short =
     let quiet = c.quiet in
     let product : suc n * old.period ≡ n * old.period + old.period = more-cells n old.period in
     let left : ℕ = 65536 * samples - n * old.period in
-    let at : Follower = record {
-      bounds = old.bounds;
-      period = old.period;
-      elapsed = left;
-      same = old.same;
-      other = old.other;
-      longest = old.longest;
-      shortest = shortest;
-      told = omega (arith, short, product);
-      same_bound = old.same_bound;
-      other_bound = old.other_bound;
-    } in
+    let at : Follower = with-left old left (omega (arith, short, product)) in
     let one : nat_le (old.period + old.bounds.low) (left + old.other) ≡ true
     = le-leb (old.period + old.bounds.low) (left + old.other) (omega (arith, is, from, shortest, behind, product)) in
     let last : last_cell at ≡ old.period = rw one refl in

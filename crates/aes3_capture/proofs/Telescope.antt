@@ -44,15 +44,9 @@ apart bounds spread late later places cells runs i (suc k) line h =
     let cell = sum-next cells (i + k) (omega (arith, h, count)) in
     let high = one-product bounds.high (sum_to cells (i + k)) (sum_to cells (i + k + 1)) (get_or cells (i + k) 0) cell in
     let low = one-product bounds.low (sum_to cells (i + k)) (sum_to cells (i + k + 1)) (get_or cells (i + k) 0) cell in
-    let b0 = before.between in
-    let b1 = before.longest in
-    let b2 = before.shortest in
-    let p0 = placed.between in
-    let p1 = placed.longest in
-    let p2 = placed.shortest in
     rw e record {
       steps = before.steps + placed.step;
-      between = omega (arith, b0, p0, time);
-      longest = omega (arith, b1, p1, high);
-      shortest = omega (arith, b2, p2, low);
+      between = omega (arith, before, placed, time);
+      longest = omega (arith, before, placed, high);
+      shortest = omega (arith, before, placed, low);
     }

@@ -11,24 +11,9 @@ about-is bounds cell part known is a = subst (λ p. IsAbout bounds cell p) is a
 pub tolerance-narrow : (bounds : Bounds) (cell part : ℕ) → IsAbout bounds cell part → IsEnough part cell
     → tolerance cell < bounds.low / 2 - margin bounds
 tolerance-narrow bounds cell part about enough = elim enough [
-  | inl a ↦
-      let b = about-is bounds cell part 1024 a.0 about in
-      let low = b.low in
-      let high = b.high in
-      let least = a.1 in
-      omega (arith, low, high, least)
+  | inl a ↦ let b = about-is bounds cell part 1024 a.0 about in omega (arith, b, a)
   | inr more ↦ elim more [
-    | inl a ↦
-        let b = about-is bounds cell part 2048 a.0 about in
-        let low = b.low in
-        let high = b.high in
-        let least = a.1 in
-        omega (arith, low, high, least)
-    | inr a ↦
-        let b = about-is bounds cell part 8192 a.0 about in
-        let low = b.low in
-        let high = b.high in
-        let least = a.1 in
-        omega (arith, low, high, least)
+    | inl a ↦ let b = about-is bounds cell part 2048 a.0 about in omega (arith, b, a)
+    | inr a ↦ let b = about-is bounds cell part 8192 a.0 about in omega (arith, b, a)
   ]
 ]

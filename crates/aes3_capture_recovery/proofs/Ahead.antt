@@ -12,6 +12,7 @@ use Rattle.aes3_capture_recovery.specs.Turns.{gaps, last_place, turns}
 use Rattle.aes3_level.proofs.Runs.{after-append, other-other}
 use Rattle.aes3_capture_recovery.proofs.Turning.{turned-runs}
 use Rattle.aes3_capture_recovery.specs.RecoverySteps.{KeepsTold, RunsCounted, RunsTold}
+use Rattle.aes3_capture_recovery.specs.declared.edges.Edges.{Edges}
 use Rattle.aes3_capture_recovery.specs.declared.line_follower.LineFollower.{LineFollower}
 use Rattle.aes3_capture_recovery.specs.declared.queue.CellQueue.{CellQueue}
 use Rattle.aes3_capture_recovery.specs.declared.recovery.Recovery.{Recovery}
@@ -157,37 +158,50 @@ stands-single told told' old mid new setting level runs more run k state w one e
       holds = subst (λ n. Holds told' setting level s.done n new) past s.holds;
     }
 
+-- where edges stand among more samples: the runs that they end, and the samples after the last of them
+pub record ArePlaced (edges : Edges) (levels : List Level) (runs : List ℕ) (from behind : ℕ) : Type 0 where
+  pub near : from + edges.run ≡ 128
+  pub runs_are : runs ≡ gaps from (turns (level_if edges.high) 128 levels)
+  pub behind_is : behind ≡ (128 + length levels) - last_place from (turns (level_if edges.high) 128 levels)
+
 -- all edges among more samples, taken ahead
+pub record AreTaken (told told' : Option (List ℕ)) (setting : Setting) (levels : List Level) (old mid new : Recovery)
+    (runs : List ℕ) (from behind : ℕ) : Type 0 where
+  pub is : old.state ≡ Following
+  pub some : 1 ≤ old.figures.samples
+  pub placed : ArePlaced old.line.edges levels runs from behind
+  pub step : (level : Level) (before : List ℕ) → StandsBehind told setting level before old
+      → level_if old.line.edges.high ≡ other (after level before)
+      → StandsBehind told' setting level (before ++ runs) mid
+      × (level_if new.line.edges.high ≡ other (after level (before ++ runs)))
+  pub keeps : KeepsTold mid new
+  pub state : new.state ≡ mid.state
+  pub run : new.line.edges.run ≡ behind
+  pub short : new.line.edges.run < 2 ^ 31
+  pub samples : new.figures.samples ≡ min (old.figures.samples + length levels) (2 ^ 64 - 1)
+
 unfoldable pub recovered-ahead : (told told' : Option (List ℕ)) (setting : Setting) (seen levels : List Level) (old mid new : Recovery)
-    (high : Bool) (runs : List ℕ) (from behind : ℕ)
-    → old.state ≡ Following → 1 ≤ old.figures.samples → from + old.line.edges.run ≡ 128
-    → runs ≡ gaps from (turns (level_if old.line.edges.high) 128 levels)
-    → behind ≡ (128 + length levels) - last_place from (turns (level_if old.line.edges.high) 128 levels)
-    → ((level : Level) (before : List ℕ) → StandsBehind told setting level before old
-    → level_if old.line.edges.high ≡ other (after level before)
-    → StandsBehind told' setting level (before ++ runs) mid × (level_if high ≡ other (after level (before ++ runs))))
-    → KeepsTold mid new → new.state ≡ mid.state → new.line.edges.high ≡ high → new.line.edges.run ≡ behind
-    → new.line.edges.run < 2 ^ 31 → new.figures.samples ≡ min (old.figures.samples + length levels) (2 ^ 64 - 1)
+    (runs : List ℕ) (from behind : ℕ) → AreTaken told told' setting levels old mid new runs from behind
     → Recovered told setting seen [] old → Recovered told' setting (seen ++ levels) [] new
-recovered-ahead told told' setting [] levels old mid new high runs from behind is some near runs_are behind_is step k state
-    high_is run short samples w =
+recovered-ahead told told' setting [] levels old mid new runs from behind h w =
     let was = w.samples in
-    absurd (omega (arith, some, was))
-recovered-ahead told told' setting (x ∷ seen) levels old mid new high runs from behind is some near runs_are behind_is step
-    k state high_is run short samples w =
+    absurd (omega (arith, h, was))
+recovered-ahead told told' setting (x ∷ seen) levels old mid new runs from behind h w =
+    let near = h.placed.near in
+    let k = h.keeps in
     let s = w.stands in
     let was = w.samples in
     let t = level_if old.line.edges.high in
-    let past : s.past ≡ 0 = s.holds.order.none_followed is in
+    let past : s.past ≡ 0 = s.holds.order.none_followed h.is in
     let sum = s.samples_are in
     let stood : StandsBehind told setting w.level w.runs old = record {
       done = s.done;
       runs_are = s.runs_are;
       holds = subst (λ n. Holds told setting w.level s.done n old) past s.holds;
     } in
-    let moved = step w.level w.runs stood s.turns in
+    let moved = h.step w.level w.runs stood s.turns in
     let before : other t ≡ after w.level w.runs = ap other s.turns ∙ other-other (after w.level w.runs) in
-    let level_is : level_if new.line.edges.high ≡ other (after w.level (w.runs ++ runs)) = ap level_if high_is ∙ moved.1 in
+    let level_is = moved.1 in
     let waits : runs_waiting new ≡ runs_waiting mid = rw (k.count_is, k.runs_are) refl in
     record {
       level = w.level;
@@ -198,20 +212,20 @@ recovered-ahead told told' setting (x ∷ seen) levels old mid new high runs fro
           ∙ ap (λ l. w.runs ++ l)
           (ap (λ n. runs_to_end t n (levels ++ more)) (let e : w.behind ≡ 128 - from = omega (arith, sum, past, near) in e)
           ∙ turned-runs t 128 from levels more (omega (arith, near))
-          ∙ ap₂ (λ l n. l ++ runs_to_end (other (after (other t) l)) n more) (sym runs_are) (sym behind_is)
+          ∙ ap₂ (λ l n. l ++ runs_to_end (other (after (other t) l)) n more) (sym h.placed.runs_are) (sym h.placed.behind_is)
           ∙ ap (λ l. runs ++ runs_to_end (other (after l runs)) behind more) before
           ∙ ap (λ l. runs ++ runs_to_end l behind more)
           (ap other (sym (after-append w.level w.runs runs)) ∙ sym level_is))
           ∙ sym (append_assoc w.runs runs (runs_to_end (level_if new.line.edges.high) behind more));
       first = w.first;
-      samples = let both = length-append (x ∷ seen) levels in omega (arith, samples, was, both);
-      short = short;
+      samples = let both = length-append (x ∷ seen) levels in omega (arith, h, was, both);
+      short = h.short;
       stands = record {
         done = moved.0.done;
         past = 0;
         runs_are = ap (λ l. moved.0.done ++ l) waits ∙ moved.0.runs_are;
-        samples_are = omega (arith, run);
+        samples_are = omega (arith, h);
         turns = level_is;
-        holds = holds-keeps told' setting w.level moved.0.done 0 mid new k state moved.0.holds;
+        holds = holds-keeps told' setting w.level moved.0.done 0 mid new k h.state moved.0.holds;
       };
     }

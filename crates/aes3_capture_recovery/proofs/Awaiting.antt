@@ -1,6 +1,6 @@
 -- A recovery that waits for the runs in which a line is found.
 use Rattle.std.proofs.Common.{ℕ, suc, List, [], ◌∷◌, ◌++◌, ◌≡◌, ◌≤◌, ◌<◌, ◌+◌, ◌-◌, ◌*◌, ◌%◌, ◌^◌, ◌⊎◌, inl, inr, min}
-use Rattle.std.proofs.Common.{Option, Result, Ok, Err, IfOk, Bool, false, length, length-append, replicate, drop}
+use Rattle.std.proofs.Common.{Option, Result, Ok, Err, IfOk, false, length, length-append, replicate, drop}
 use Rattle.std.proofs.Common.{refl, sym, ap, ap₂, ◌∙◌, subst, arith, append_assoc, append-nil}
 use Rattle.std.proofs.lemmas.List.{length-take-le}
 use Rattle.aes3_level.specs.declared.level.Level.{Level}
@@ -15,7 +15,7 @@ use Rattle.aes3_capture_recovery.specs.Beginning.{AreFindable, AreShort, Awaits,
 use Rattle.aes3_capture_recovery.specs.Endings.{level_if}
 use Rattle.aes3_capture_recovery.specs.Keeping.{IsKept, StaysKept}
 use Rattle.aes3_capture_recovery.specs.LineFollowing.{Followed}
-use Rattle.aes3_capture_recovery.specs.Recovering.{Holds, Recovered, Setting, StandsBehind, StandsOn, first_cells, first_level, runs_to_end, runs_waiting}
+use Rattle.aes3_capture_recovery.specs.Recovering.{Holds, Recovered, Setting, StandsOn, first_cells, first_level, runs_to_end, runs_waiting}
 use Rattle.aes3_capture_recovery.specs.Queues.{Queued, waiting}
 use Rattle.aes3_capture_recovery.specs.RecoverySteps.{Gave, KeepsTold}
 use Rattle.aes3_capture_recovery.specs.declared.line_follower.LineFollower.{LineFollower}
@@ -29,7 +29,7 @@ use Rattle.aes3_capture_recovery.proofs.Lasting.{begun-kept, kept-awake, lasting
 use Rattle.aes3_capture_recovery.proofs.Recovering.{first-of-word, holds-keeps, nothing, only-one, recovered-begins, recovered-edge, recovered-gave}
 use Rattle.aes3_capture_recovery.proofs.Recovering.{recovered-first, recovered-level, recovered-more, recovered-rest, waits-keep}
 use Rattle.aes3_capture_recovery.proofs.RunsToEnd.{end-none}
-use Rattle.aes3_capture_recovery.proofs.Ahead.{recovered-ahead}
+use Rattle.aes3_capture_recovery.proofs.Ahead.{AreTaken, recovered-ahead}
 use Rattle.aes3_capture_recovery.proofs.OnLine.{end-least}
 use Rattle.aes3_capture_recovery.proofs.Turning.{turned-runs}
 use Rattle.aes3_capture_recovery.specs.Turns.{gaps, last_place, turns}
@@ -206,12 +206,10 @@ awaits-edge told told' setting seen piece left run old mid new within few e k st
     begins once follows distance keeps a =
     let w = a.recovered in
     let s = w.stands in
-    let count = e.count in
-    let run_is = e.run_is in
     let short = w.short in
     let sum = s.samples_are in
     let n : ℕ = w.behind + e.samples in
-    let all : s.past + run ≡ n = omega (arith, few, short, count, run_is, sum) in
+    let all : s.past + run ≡ n = omega (arith, few, short, e, sum) in
     let last : (first : ℕ) (window : List ℕ) → w.runs ++ n ∷ [] ≡ first ∷ window → AreFindable setting.known window
     → IsLast setting.known first window s.done run old
     = λ first window is f. last-run told setting seen (levels_in piece) old n run a first window within (omega arith) all
@@ -799,16 +797,7 @@ few-wait s n xs (r ∷ runs) behind most e few short =
     omega (arith, least, below)
 
 pub awaits-ahead : (told told' : Option (List ℕ)) (setting : Setting) (seen levels : List Level) (old mid new : Recovery)
-    (high : Bool) (runs : List ℕ) (from behind : ℕ)
-    (is : old.state ≡ Following) (some : 1 ≤ old.figures.samples) (near : from + old.line.edges.run ≡ 128)
-    (runs_are : runs ≡ gaps from (turns (level_if old.line.edges.high) 128 levels))
-    (behind_is : behind ≡ (128 + length levels) - last_place from (turns (level_if old.line.edges.high) 128 levels))
-    (step : (level : Level) (before : List ℕ) → StandsBehind told setting level before old
-    → level_if old.line.edges.high ≡ other (after level before)
-    → StandsBehind told' setting level (before ++ runs) mid × (level_if high ≡ other (after level (before ++ runs))))
-    (k : KeepsTold mid new) (state : new.state ≡ mid.state) (high_is : new.line.edges.high ≡ high)
-    (run : new.line.edges.run ≡ behind) (short : new.line.edges.run < 2 ^ 31)
-    (samples : new.figures.samples ≡ min (old.figures.samples + length levels) (2 ^ 64 - 1))
+    (runs : List ℕ) (from behind : ℕ) → AreTaken told told' setting levels old mid new runs from behind
     → old.figures.measured ≤ mid.figures.measured
     → (runs ≡ [] → (mid.state ≡ old.state) × (mid.figures.measured ≡ old.figures.measured))
     → (new.state ≡ Following → new.figures.measured ≡ old.figures.measured → old.figures.measured ≡ 1
@@ -820,17 +809,21 @@ pub awaits-ahead : (told told' : Option (List ℕ)) (setting : Setting) (seen le
     → new.spread ≡ mid.spread
     → Awaits told setting seen [] old → Awaits told' setting (seen ++ levels) [] new
 unfolding recovered-ahead
-awaits-ahead told told' setting [] levels old mid new high runs from behind is some near runs_are behind_is step k state
-    high_is run short samples up none follows keeps distance a =
+awaits-ahead told told' setting [] levels old mid new runs from behind h up none follows keeps distance a =
+    let some = h.some in
     let was = a.recovered.samples in
     absurd (omega (arith, some, was))
-awaits-ahead told told' setting (x ∷ seen) levels old mid new high runs from behind is some near runs_are behind_is step k
-    state high_is run short samples up none follows keeps distance a =
+awaits-ahead told told' setting (x ∷ seen) levels old mid new runs from behind h up none follows keeps distance a =
+    let is = h.is in
+    let near = h.placed.near in
+    let runs_are = h.placed.runs_are in
+    let behind_is = h.placed.behind_is in
+    let state = h.state in
     let w = a.recovered in
     let past : w.stands.past ≡ 0 = w.stands.holds.order.none_followed is in
     let sum = w.stands.samples_are in
     let behind_few : w.behind < 524288 = omega (arith, past, sum, near) in
-    let same = k.measured_is in
+    let same = h.keeps.measured_is in
     let not_yet : AreShort (drop 1 (w.runs ++ w.behind ∷ [])) → length w.runs ≤ 256 → ⊥
     = λ s long. follows-waiting w.runs old is (a.waits s long) in
     let early : (first : ℕ) (window more : List ℕ) → w.runs ++ runs ≡ first ∷ (window ++ more)
@@ -847,8 +840,7 @@ awaits-ahead told told' setting (x ∷ seen) levels old mid new high runs from b
           (omega (arith, long, both, many)))
     ] in
     record {
-      recovered = recovered-ahead told told' setting (x ∷ seen) levels old mid new high runs from behind is some near
-          runs_are behind_is step k state high_is run short samples w;
+      recovered = recovered-ahead told told' setting (x ∷ seen) levels old mid new runs from behind h w;
       waits = λ s long.
           let both = length-append w.runs runs in
           absurd (not_yet
@@ -896,7 +888,7 @@ awaits-ahead told told' setting (x ∷ seen) levels old mid new high runs from b
           record {
             state = state ∙ next.state;
             once = same ∙ next.measured ∙ was.once;
-            kept = rw (k.follower_is, distance) next.kept;
+            kept = rw (h.keeps.follower_is, distance) next.kept;
           };
     }
   where

@@ -228,14 +228,12 @@ pub begun-edge : (told told' : Option (List ℕ)) (setting : Setting) (seen : Li
     (levels_in left) new
 begun-edge told told' setting seen piece left run old mid new few e k state edges edge w =
     let s = w.stands in
-    let count = e.count in
-    let run_is = e.run_is in
     let short = w.short in
     let sum = s.samples_are in
     let t : Level = level_if new.line.edges.high in
     let waits : runs_waiting mid ≡ runs_waiting old = waits-keep old mid k in
     let runs : s.done ++ runs_waiting mid ≡ w.runs = ap (λ x. s.done ++ x) waits ∙ s.runs_are in
-    let all : s.past + run ≡ w.behind + e.samples = omega (arith, few, short, count, run_is, sum) in
+    let all : s.past + run ≡ w.behind + e.samples = omega (arith, few, short, e, sum) in
     let window : List ℕ = runs_waiting mid ++ (s.past + run) ∷ [] in
     let is : w.runs ++ (w.behind + e.samples) ∷ [] ≡ s.done ++ window
     = ap₂ (λ x n. x ++ n ∷ []) (sym runs) (sym all) ∙ append_assoc s.done (runs_waiting mid) ((s.past + run) ∷ []) in

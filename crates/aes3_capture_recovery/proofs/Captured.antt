@@ -23,21 +23,14 @@ pub between-edges : (bounds : Bounds) (spread late later : ℕ) (places cells ru
     → sum_to cells (i + k) ≡ sum_to cells i + n → sum_to runs (i + k) ≡ sum_to runs i + samples → IsLong bounds spread n samples
 between-edges bounds spread late later places cells runs i k n samples line within same count time =
     let a = apart bounds spread late later places cells runs i k line within in
-    let b = a.between in
-    let l = a.longest in
-    let s = a.shortest in
     let high = product bounds.high (sum_to cells i) (sum_to cells (i + k)) n count in
     let low = product bounds.low (sum_to cells i) (sum_to cells (i + k)) n count in
     let e = same-lateness late later i (i + k) same in
     let first = line.side i (omega (arith, within)) in
     let last = line.side (i + k) within in
-    let f0 = first.least in
-    let f1 = first.most in
-    let l0 = last.least in
-    let l1 = last.most in
     record {
-      least = omega (arith, b, s, low, e, f0, f1, l0, l1, time);
-      most = omega (arith, b, l, high, e, f0, f1, l0, l1, time);
+      least = omega (arith, a, low, e, first, last, time);
+      most = omega (arith, a, high, e, first, last, time);
     }
 
 -- two runs in a row
@@ -97,18 +90,14 @@ run-long bounds spread late later places cells runs i n line within count =
     let p = line.placed i within in
     let first = line.side i (omega (arith, within)) in
     let last = line.side (i + 1) (omega (arith, within)) in
-    let f0 = first.least in
-    let f1 = first.most in
-    let l0 = last.least in
-    let l1 = last.most in
     let b = p.between in
     let l : p.step ≤ n * bounds.high = rw count at p.longest in
     let s : n * bounds.low ≤ p.step = rw count at p.shortest in
     let low = turn-about n bounds.low in
     let high = turn-about n bounds.high in
     record {
-      least = omega (arith, b, s, low, f0, f1, l0, l1);
-      most = omega (arith, b, l, high, f0, f1, l0, l1);
+      least = omega (arith, b, s, low, first, last);
+      most = omega (arith, b, l, high, first, last);
     }
 
 -- the sides of three edges in a row
@@ -126,10 +115,7 @@ pub pair-is-short : (bounds : Bounds) (spread late later cells samples : ℕ) �
 pair-is-short bounds spread late later cells samples f long few =
     let most = long.most in
     let all = fewer bounds.high cells 6 few in
-    let high = f.longest in
-    let near = f.near in
-    let ordered = f.ordered in
-    omega (arith, most, all, high, near, ordered)
+    omega (arith, most, all, f)
 
 pub pair-of : (bounds : Bounds) (spread late later : ℕ) (places cells runs : List ℕ) (i n : ℕ)
     → AreDisplaced bounds spread late later places cells runs → IsFindable bounds spread late later → i + 1 < length runs
@@ -140,9 +126,7 @@ pair-of bounds spread late later places cells runs i n line f within count few =
 
 pub six-of : (bounds : Bounds) (spread samples : ℕ) → IsLong bounds spread 6 samples → IsSix bounds spread samples
 six-of bounds spread samples long =
-    let l = long.least in
-    let m = long.most in
-    record { least = omega (arith, l); most = omega (arith, m) }
+    record { least = omega (arith, long); most = omega (arith, long) }
 
 -- a pair that is no shorter than six cells has six
 pub no-shorter : (bounds : Bounds) (spread late later n samples longest : ℕ) → IsFindable bounds spread late later
@@ -155,9 +139,7 @@ no-shorter bounds spread late later n samples longest f long six h few = by (cas
         let five = fewer bounds.high n 5 (omega (arith, less)) in
         let most = long.most in
         let least = six.least in
-        let near = f.near in
-        let ordered = f.ordered in
-        absurd (omega (arith, five, most, least, h, near, ordered))
+        absurd (omega (arith, five, most, least, h, f))
 
 -- no pair is shorter than a quarter of six cells, and few are longer than four fifths
 pub not-too-short : (bounds : Bounds) (spread late later n samples longest : ℕ) → IsFindable bounds spread late later
@@ -166,10 +148,7 @@ not-too-short bounds spread late later n samples longest f long six many =
     let two = fewer bounds.low 2 n many in
     let least = long.least in
     let most = six.most in
-    let near = f.near in
-    let ordered = f.ordered in
-    let alike = f.alike in
-    omega (arith, two, least, most, near, ordered, alike)
+    omega (arith, two, least, most, f)
 
 pub not-too-long : (bounds : Bounds) (spread late later n samples longest : ℕ) → IsFindable bounds spread late later
     → IsLong bounds spread n samples → IsSix bounds spread longest → n ≤ 4 → samples ≤ longest - longest / 5
@@ -177,79 +156,29 @@ not-too-long bounds spread late later n samples longest f long six few =
     let four = fewer bounds.high n 4 few in
     let most = long.most in
     let least = six.least in
-    let near = f.near in
-    let ordered = f.ordered in
-    let alike = f.alike in
-    omega (arith, four, most, least, near, ordered, alike)
+    omega (arith, four, most, least, f)
 
 -- six cells have 12 samples at least, and at most 65,536
 pub six-in-range : (bounds : Bounds) (spread late later longest : ℕ) → IsFindable bounds spread late later
     → IsSix bounds spread longest → (12 ≤ longest) × (longest ≤ 65536)
 six-in-range bounds spread late later longest f six =
-    let least = six.least in
-    let most = six.most in
-    let near = f.near in
-    let ordered = f.ordered in
-    let alike = f.alike in
-    let short = f.shortest in
-    let long = f.longest in
-    (omega (arith, least, near, ordered, alike, short), omega (arith, most, near, ordered, long))
+    (omega (arith, six, f), omega (arith, six, f))
 
 -- three cells are no longer than two thirds of six, and longer than two of the same side
 pub three-not-too-long : (bounds : Bounds) (spread late later i samples longest : ℕ) → IsFindable bounds spread late later
     → IsRunLong bounds spread (lateness late later i) (lateness late later (i + 1)) 3 samples → IsSix bounds spread longest
     → 3 * samples ≤ 2 * longest
-three-not-too-long bounds spread late later i samples longest f run six =
-    let most = run.most in
-    let least = six.least in
-    let near = f.near in
-    let ordered = f.ordered in
-    let alike = f.alike in
-    let later_half = f.later_half in
-    let late_half = f.late_half in
-    by (lateness-between late later i) most least near ordered alike later_half late_half
-  where
-    by : ◌⊎◌ ((lateness late later i ≡ late) × (lateness late later (i + 1) ≡ later))
-        ((lateness late later i ≡ later) × (lateness late later (i + 1) ≡ late))
-        → 65536 * samples + lateness late later i ≤ bounds.high * 3 + lateness late later (i + 1) + spread
-        → 6 * bounds.low ≤ 65536 * longest + spread
-        → 1025 * spread + 259072 * bounds.high + 259325 ≤ 259325 * bounds.low → bounds.low ≤ bounds.high
-        → 2048 * (bounds.high + 1) ≤ 2049 * bounds.low
-        → 2 * later ≤ 2 * late + bounds.low → 2 * late ≤ 2 * later + bounds.low → 3 * samples ≤ 2 * longest
-    by (inl e) most least near ordered alike a b =
-        let e0 = e.0 in
-        let e1 = e.1 in
-        omega (arith, e0, e1, most, least, near, ordered, alike, a, b)
-    by (inr e) most least near ordered alike a b =
-        let e0 = e.0 in
-        let e1 = e.1 in
-        omega (arith, e0, e1, most, least, near, ordered, alike, a, b)
+three-not-too-long bounds spread late later i samples longest f run six = elim (lateness-between late later i) [
+  | inl e ↦ omega (arith, e, run, six, f)
+  | inr e ↦ omega (arith, e, run, six, f)
+]
 
 pub three-is-some : (bounds : Bounds) (spread late later i samples : ℕ) → IsFindable bounds spread late later
     → IsRunLong bounds spread (lateness late later i) (lateness late later (i + 1)) 3 samples → 0 < samples
-three-is-some bounds spread late later i samples f run =
-    let least = run.least in
-    let near = f.near in
-    let ordered = f.ordered in
-    let short = f.shortest in
-    let later_half = f.later_half in
-    let late_half = f.late_half in
-    by (lateness-between late later i) least near ordered short later_half late_half
-  where
-    by : ◌⊎◌ ((lateness late later i ≡ late) × (lateness late later (i + 1) ≡ later))
-        ((lateness late later i ≡ later) × (lateness late later (i + 1) ≡ late))
-        → bounds.low * 3 + lateness late later (i + 1) ≤ 65536 * samples + lateness late later i + spread
-        → 1025 * spread + 259072 * bounds.high + 259325 ≤ 259325 * bounds.low → bounds.low ≤ bounds.high
-        → 25362624 + spread ≤ 192 * bounds.low
-        → 2 * later ≤ 2 * late + bounds.low → 2 * late ≤ 2 * later + bounds.low → 0 < samples
-    by (inl e) least near ordered short a b =
-        let e0 = e.0 in
-        let e1 = e.1 in
-        omega (arith, e0, e1, least, near, ordered, short, a, b)
-    by (inr e) least near ordered short a b =
-        let e0 = e.0 in
-        let e1 = e.1 in
-        omega (arith, e0, e1, least, near, ordered, short, a, b)
+three-is-some bounds spread late later i samples f run = elim (lateness-between late later i) [
+  | inl e ↦ omega (arith, e, run, f)
+  | inr e ↦ omega (arith, e, run, f)
+]
 
 pub longest-has-three : (bounds : Bounds) (spread late later i j n samples longest : ℕ) → IsFindable bounds spread late later
     → IsRunLong bounds spread (lateness late later i) (lateness late later (i + 1)) 3 samples
@@ -263,11 +192,9 @@ longest-has-three bounds spread late later i j n samples longest f three run sam
         let two = fewer bounds.high n 2 (omega (arith, less)) in
         let most = run.most in
         let least = three.least in
-        let near = f.near in
-        let ordered = f.ordered in
         let here = same-lateness late later i j same in
         let next = same-lateness late later (i + 1) (j + 1) (omega (arith, same)) in
-        absurd (omega (arith, two, most, least, h, near, ordered, here, next))
+        absurd (omega (arith, two, most, least, h, f, here, next))
 
 -- What the longest pair of a capture is: six cells, of which the first three begin a preamble.
 pub record IsOfSix (bounds : Bounds) (spread side samples at : ℕ) : Type 0 where
@@ -290,11 +217,8 @@ longest-is-six bounds spread late later place side places line runs samples at c
     let within_runs : x.run + 1 < length runs = omega (arith, within, cells) in
     let six = pair-of bounds spread late later places line runs x.run 6 displaced findable within_runs x.cells (omega arith) in
     let six_long = six.least in
-    let near = findable.near in
-    let ordered = findable.ordered in
-    let shortest = findable.shortest in
     let no_longer = most x.run within_runs in
-    let v = value (omega (arith, six_long, near, ordered, shortest, no_longer)) in
+    let v = value (omega (arith, six_long, findable, no_longer)) in
     let in_runs = v.0 in
     let in_line : at + 1 < length line = omega (arith, in_runs, cells) in
     let a = many.few_cells at (omega (arith, in_line)) in

@@ -60,16 +60,7 @@ whole-between place line i k h within more some first last =
 pub subframes-right : (bounds : Bounds) (spread late later k samples longest : ℕ) → IsFindable bounds spread late later
     → IsSix bounds spread longest → IsLong bounds spread (64 * k) samples → 1 ≤ k → k ≤ 3
     → (12 * samples + 64 * longest) / (128 * longest) ≡ k
-subframes-right bounds spread late later k samples longest f six long some few =
-    let n = f.near in
-    let o = f.ordered in
-    let a = f.alike in
-    let s = f.shortest in
-    let s0 = six.least in
-    let s1 = six.most in
-    let l0 = long.least in
-    let l1 = long.most in
-    by-count k n o a s s0 s1 l0 l1 some few
+subframes-right bounds spread late later k samples longest f six long some few = by-count k long some few
   where
     quotient : (x y q : ℕ) → 0 < y → q * y ≤ x → x < (q + 1) * y → x / y ≡ q
     quotient x y q p h g =
@@ -77,19 +68,16 @@ subframes-right bounds spread late later k samples longest f six long some few =
         let most = div_below x y (q + 1) p g in
         omega (arith, least, most)
 
-    by-count : (k : ℕ) → 1025 * spread + 259072 * bounds.high + 259325 ≤ 259325 * bounds.low → bounds.low ≤ bounds.high
-        → 2048 * (bounds.high + 1) ≤ 2049 * bounds.low → 25362624 + spread ≤ 192 * bounds.low
-        → 6 * bounds.low ≤ 65536 * longest + spread → 65536 * longest ≤ 6 * bounds.high + spread
-        → bounds.low * (64 * k) ≤ 65536 * samples + spread → 65536 * samples ≤ bounds.high * (64 * k) + spread → 1 ≤ k → k ≤ 3
+    by-count : (k : ℕ) → IsLong bounds spread (64 * k) samples → 1 ≤ k → k ≤ 3
         → (12 * samples + 64 * longest) / (128 * longest) ≡ k
-    by-count zero n o a s s0 s1 l0 l1 some few = absurd (omega (arith, some))
-    by-count (suc zero) n o a s s0 s1 l0 l1 some few = quotient _ (128 * longest) 1 (omega (arith, n, o, s, s0))
-        (omega (arith, n, o, a, s0, s1, l0, l1)) (omega (arith, n, o, a, s0, s1, l0, l1))
-    by-count (suc (suc zero)) n o a s s0 s1 l0 l1 some few = quotient _ (128 * longest) 2 (omega (arith, n, o, s, s0))
-        (omega (arith, n, o, a, s0, s1, l0, l1)) (omega (arith, n, o, a, s0, s1, l0, l1))
-    by-count (suc (suc (suc zero))) n o a s s0 s1 l0 l1 some few = quotient _ (128 * longest) 3 (omega (arith, n, o, s, s0))
-        (omega (arith, n, o, a, s0, s1, l0, l1)) (omega (arith, n, o, a, s0, s1, l0, l1))
-    by-count (suc (suc (suc (suc k)))) n o a s s0 s1 l0 l1 some few = absurd (omega (arith, few))
+    by-count zero long some few = absurd (omega (arith, some))
+    by-count (suc zero) long some few = quotient _ (128 * longest) 1 (omega (arith, f, six)) (omega (arith, f, six, long))
+        (omega (arith, f, six, long))
+    by-count (suc (suc zero)) long some few = quotient _ (128 * longest) 2 (omega (arith, f, six)) (omega (arith, f, six, long))
+        (omega (arith, f, six, long))
+    by-count (suc (suc (suc zero))) long some few = quotient _ (128 * longest) 3 (omega (arith, f, six)) (omega (arith, f, six, long))
+        (omega (arith, f, six, long))
+    by-count (suc (suc (suc (suc k)))) long some few = absurd (omega (arith, few))
 
 pub first-of : (bounds : Bounds) (spread late later place side : ℕ) (places line runs : List ℕ) (longest from run samples : ℕ)
     → AreCapturedRuns bounds spread late later place side places line runs → IsSix bounds spread longest → from + 64 ≤ 256
@@ -161,22 +149,16 @@ next-of bounds spread late later place side places line runs longest from i j si
     let findable = captured.findable in
     let count = many.count in
     let cells_count = displaced.cells_count in
-    let i0 = a.least in
-    let i1 = a.most in
-    let j0 = b.least in
-    let j1 = b.most in
     let k = j - i in
-    let e : i + (j - i) ≡ j = omega (arith, i1, j0) in
-    let below : i + (j - i) < length line = omega (arith, i1, j0, j1, within, count) in
+    let e : i + (j - i) ≡ j = omega (arith, a, b) in
+    let below : i + (j - i) < length line = omega (arith, a, b, within, count) in
     let b_begins : place_at place line (i + (j - i)) ≡ 0 = rw e (b.begins) in
-    let whole = whole-between place line i (j - i) many.subframes.within below (omega (arith, i1, j0)) many.some_cells a.begins b_begins in
+    let whole = whole-between place line i (j - i) many.subframes.within below (omega (arith, a, b)) many.some_cells a.begins b_begins in
     let n = whole.subframes in
     let some = whole.some in
     let cells = whole.cells in
-    let most = many.few i (i + (j - i)) (omega arith) (omega (arith, i0, j1)) below a.begins b_begins in
+    let most = many.few i (i + (j - i)) (omega arith) (omega (arith, a, b)) below a.begins b_begins in
     let few : n ≤ 3 = omega (arith, cells, most) in
-    let si_is = a.samples_is in
-    let sj_is = b.samples_is in
     let i_side = many.side_is i (omega (arith, below)) a.begins in
     let j_side = many.side_is (i + (j - i)) below b_begins in
     let grows = sum-grows runs i (j - i) (omega (arith, below, cells_count)) in
@@ -186,7 +168,7 @@ next-of bounds spread late later place side places line runs longest from i j si
     let right = subframes-right bounds spread late later n (sum_to runs (i + (j - i)) - sum_to runs i) longest findable six long some few in
     let ends : sum_to runs (i + (j - i)) ≡ sum_to runs j = ap (sum_to runs) e in
     let line_end : sum_to line (i + (j - i)) ≡ sum_to line j = ap (sum_to line) e in
-    let samples : sj - si ≡ sum_to runs (i + (j - i)) - sum_to runs i = omega (arith, si_is, sj_is, ends) in
+    let samples : sj - si ≡ sum_to runs (i + (j - i)) - sum_to runs i = omega (arith, a, b, ends) in
     record {
       cells = rw (samples, right) (omega (arith, cells, line_end));
       few = rw (samples, right) few;
@@ -225,17 +207,13 @@ next-found place line runs found g more before value other some within from is n
     let first_is : get_or (set found g value) 0 other ≡ get_or found 0 other =
     get_or-set_other found g 0 value other (omega (arith, some)) in
     let last_is : get_or (set found g value) (g + 1 - 1) other ≡ value = ap (λ k. get_or (set found g value) k other) e ∙ there in
-    let few_before = from.few in
-    let few_more = next.few in
-    let cells_before = from.cells in
-    let cells_more = next.cells in
     let all : AreFrom place line runs (g + 1) value (get_or found 0 other) value = record {
       last_is = refl;
       first_at = from.first_at;
       last_at = rw e is;
       none = from.none;
-      few = omega (arith, sum, few_before, few_more, some);
-      cells = omega (arith, sum, cells_before, cells_more);
+      few = omega (arith, sum, from, next, some);
+      cells = omega (arith, sum, from, next);
     } in
     rw (first_is, last_is) all
 

@@ -139,9 +139,7 @@ followed-edge {R = R} {E = E} {taken = taken} old mid new a b v begun front firs
     let s : Level = level_if old.edges.high in
     let short = w.short in
     let edge : ℕ = w.past + run in
-    let count = e.count in
-    let run_is = e.run_is in
-    let exact : run ≡ old.edges.run + e.samples = omega (arith, few, short, count, run_is) in
+    let exact : run ≡ old.edges.run + e.samples = omega (arith, few, short, e) in
     let sum : edge ≡ w.past + old.edges.run + e.samples = omega (arith, exact) in
     let ended : level_if high ≡ s
     = ap level_if high_is ∙ level-not mid.edges.high ∙ ap other e.turned ∙ other-other s in

@@ -16,6 +16,7 @@ use Rattle.aes3_capture_recovery.specs.RecoverySteps.{Gave, RunsCounted}
 use Rattle.aes3_capture_recovery.specs.Runs.{runs_behind}
 use Rattle.aes3_capture_recovery.specs.Turns.{gaps, last_place, turns}
 use Rattle.aes3_capture_recovery.specs.declared.line_follower.LineFollower.{LineFollower}
+use Rattle.aes3_capture_recovery.proofs.Ahead.{ArePlaced}
 use Rattle.aes3_capture_recovery.proofs.RunsToEnd.{after-as-many}
 use Rattle.aes3_capture_recovery.proofs.Steady.{counted-append}
 use Rattle.aes3_capture_recovery.proofs.Telling.{cells-runs, counted-many, gave-chain, gave-none, gave-puts, line-runs}
@@ -141,16 +142,14 @@ split-ahead s t past run from behind levels more runs near are is level =
 
 pub followed-ahead : {A : Type 0} {taken : A → Option (List ℕ)} (old mid new : LineFollower) (a b : A)
     (begun : List ℕ) (front : List Level) (first : Follower) (before : Level) (seen levels : List Level) (high : Bool)
-    (runs : List ℕ) (from behind : ℕ) → from + old.edges.run ≡ 128
-    → runs ≡ gaps from (turns (level_if old.edges.high) 128 levels)
-    → behind ≡ (128 + length levels) - last_place from (turns (level_if old.edges.high) 128 levels)
+    (runs : List ℕ) (from behind : ℕ) → ArePlaced old.edges levels runs from behind
     → RunsCounted taken old mid a b (other (level_if old.edges.high)) runs
     → level_if high ≡ other (after (other (level_if old.edges.high)) runs)
     → new.follower ≡ mid.follower → new.queue ≡ mid.queue → new.edges.high ≡ high → new.edges.run ≡ behind
     → new.edges.run < 2 ^ 31 → Followed (taken a) begun front old first before seen []
     → Followed (taken b) begun front new first before (seen ++ levels) []
-followed-ahead {taken = taken} old mid new a b begun front first before seen levels high runs from behind near are is c
-    level follower queue high_is run short w = go runs c.counts are level c.counted c.gave
+followed-ahead {taken = taken} old mid new a b begun front first before seen levels high runs from behind p c
+    level follower queue high_is run short w = go runs c.counts p.runs_are level c.counted c.gave
   where
     s : Level
     s = level_if old.edges.high
@@ -174,7 +173,7 @@ followed-ahead {taken = taken} old mid new a b begun front first before seen lev
     split runs more are level =
         ap (runs_behind (other before) 0) (append_assoc seen levels more) ∙ w.split (levels ++ more)
         ∙ ap (λ l. w.runs ++ l)
-        (split-ahead s (level_if new.edges.high) w.past old.edges.run from behind levels more runs near are is
+        (split-ahead s (level_if new.edges.high) w.past old.edges.run from behind levels more runs p.near are p.behind_is
         (ap level_if high_is ∙ level))
 
     go : (runs counts : List ℕ) → runs ≡ gaps from (turns s 128 levels) → level_if high ≡ other (after (other s) runs)

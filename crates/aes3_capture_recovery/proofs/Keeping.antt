@@ -1,16 +1,15 @@
 -- A line whose edges lie near their places stays followed, edge by edge.
 use Rattle.std.proofs.Common.{ℕ, List, [], ◌∷◌, ◌≡◌, ◌<◌, ◌≤◌, ◌+◌, ◌-◌, ◌*◌, ◌/◌, inl, inr, arith, max, min, zero-add, ◌∙◌, sym, subst}
-use Rattle.std.specs.Prelude.{nat_le, if◌then◌else◌}
 use Rattle.std.proofs.Math.Nat.{mul-le-mul_left, mul-le-mul_right}
 use Rattle.std.proofs.lemmas.Bool.{cases_lt}
 use Rattle.aes3_capture.specs.declared.follower.Bounds.{Bounds}
 use Rattle.aes3_capture.specs.declared.follower.Follower.{Follower}
-use Rattle.aes3_capture.specs.Captures.{IsBetween, IsPlaced, IsRun, SpreadsLate, mean_with, wander}
+use Rattle.aes3_capture.specs.Captures.{IsBetween, IsPlaced, IsRun, SpreadsLate, mean_with}
 use Rattle.aes3_capture.specs.Directions.{IsBorne, IsWider}
 use Rattle.aes3_capture.specs.Following.{Counted, Follows, last_cell, middle_of}
-use Rattle.aes3_capture.proofs.Edges.{decided}
+use Rattle.aes3_capture.proofs.Edges.{decided, on-grids}
 use Rattle.aes3_capture.proofs.Mirror.{placed-wider, mean-between}
-use Rattle.aes3_capture.proofs.Steps.{longest-cells, other-near, place-moves, place-near, steps-near}
+use Rattle.aes3_capture.proofs.Steps.{longest-cells, place-moves}
 use Rattle.aes3_capture.proofs.Whole.{counted-counts, passed-passes, last-late, last-early}
 use Rattle.aes3_capture_recovery.specs.Keeping.{AreNear, IsCalm, IsKeepable, IsKept, drift, off_middle}
 use Rattle.aes3_capture_recovery.specs.RecoverySteps.{apart_of, distance_of}
@@ -47,22 +46,9 @@ goes-near : (f g : Follower) (narrow : Bounds) (drift same other before run give
     → AreNear g drift (mean_with other displaced) same displaced (far - far / 16) near
 goes-near f g narrow drift same other before run given cells displaced told near far shortest longest follows is_run placed close
     places since bounds grid_is other_is =
-    let steps : (is_run.placed.step ≤ cells * f.period + wander f.bounds)
-    × (cells * f.period ≤ is_run.placed.step + wander f.bounds) =
-    steps-near cells f.bounds.low f.bounds.high f.period is_run.placed.step is_run.placed.few shortest longest
-    is_run.placed.longest is_run.placed.shortest in
-    let place : (cells * f.period + f.bounds.low < run + f.other)
-    × (run + f.other < cells * f.period + 2 * f.bounds.low) =
-    place-near f.bounds.low (wander f.bounds) is_run.placed.step (cells * f.period)
-    run before displaced other f.other steps.0 steps.1 is_run.placed.between
-    follows.other_place.below follows.other_place.above is_run.mean_near.below is_run.mean_near.above in
-    let slim : 32 * wander f.bounds + 32 < f.bounds.low / 2
-    = omega (arith, is_run.mean_near.below, is_run.mean_near.above) in
-    let apart : (cells * f.period ≤ run + f.same) × (run + f.same ≤ cells * f.period + 3 * f.bounds.low) =
-    other-near f.bounds.low (wander f.bounds) is_run.placed.step (cells * f.period)
-    run before displaced same f.same steps.0 steps.1 is_run.placed.between
-    is_run.before_near.below is_run.before_near.above follows.same_place.below follows.same_place.above
-    follows.mean_near.below follows.mean_near.above slim in
+    let grids = on-grids f same other before run given cells displaced shortest longest follows is_run in
+    let place = grids.place in
+    let apart = grids.apart in
     let at_is : f.elapsed + f.other - told + cells * f.period ≡ run + f.other = omega (arith, since, place.0) in
     let moved : (f.elapsed + f.other - told + other
     ≤ f.bounds.low + f.bounds.low / 2 + displaced + (31 * drift + 32 + far + drift))
@@ -129,17 +115,10 @@ mean-costs : (late spread mean displaced : ℕ) → IsBetween late mean spread �
     + 40 * off_middle late spread (mean_with mean displaced)
     ≤ 40 * off_middle late spread mean + 10 * spread + 90
 mean-costs late spread mean displaced m d =
-    let a = m.least in
-    let b = m.most in
-    let x = d.least in
-    let y = d.most in
-    omega (arith, a, b, x, y)
+    omega (arith, m, d)
 
 pub off-most : (late spread place : ℕ) → IsBetween late place spread → off_middle late spread place ≤ spread
-off-most late spread place b =
-    let x = b.least in
-    let y = b.most in
-    omega (arith, x, y)
+off-most late spread place b = omega (arith, b)
 
 distance-most : (a : ℕ) → 3840 * (a / 256 + a / 256 / 15) ≤ 16 * a
 distance-most a = omega arith
@@ -173,14 +152,11 @@ edge-costs edge apart way second second' spread drift far a b c = omega arith
 keepable-borne : (bounds narrow : Bounds) (spread late later most : ℕ) → IsKeepable bounds narrow spread late later most
     → IsBorne bounds spread late later
 keepable-borne bounds narrow spread late later most k =
-    let n = k.near in
-    let a = k.above in
-    let b = k.below in
     let ordered = narrow.ordered in
     record {
-      narrow = omega (arith, n, ordered);
-      above = omega (arith, a, n, ordered);
-      below = omega (arith, b, n, ordered);
+      narrow = omega (arith, k, ordered);
+      above = omega (arith, k, ordered);
+      below = omega (arith, k, ordered);
     }
 
 -- what the watch over a line asks of its latest edge
@@ -196,23 +172,10 @@ pub record KeptNext (g : Follower) (next : ℕ) (narrow : Bounds) (spread : ℕ)
 calm-fine : (f : Follower) (distance : ℕ) (narrow : Bounds) (spread late later most displaced : ℕ)
     → IsCalm f distance narrow spread late later most displaced → IsUnsuspected f distance
 calm-fine f distance narrow spread late later most displaced calm =
-    let small = calm.small in
     let shortest = f.shortest in
-    let above = calm.keepable.above in
-    let below = calm.keepable.below in
-    let s0 = calm.places.same_place.below in
-    let s1 = calm.places.same_place.above in
-    let o0 = calm.places.other_place.below in
-    let o1 = calm.places.other_place.above in
-    let f0 = calm.first_side.least in
-    let f1 = calm.first_side.most in
-    let g0 = calm.second_side.least in
-    let g1 = calm.second_side.most in
-    let n = calm.near_most in
-    let r = calm.far_most in
     record {
-      near = omega (arith, small, shortest);
-      together = omega (arith, above, below, s0, s1, o0, o1, f0, f1, g0, g1, n, r);
+      near = omega (arith, calm, shortest);
+      together = omega (arith, calm.keepable, calm.places, calm.first_side, calm.second_side, calm);
     }
 
 -- An edge behind a run that is counted: its direction's mean goes with it, and the grids are near the line's.
@@ -289,19 +252,10 @@ pub run-ahead : (f : Follower) (narrow : Bounds) (spread late later second befor
     → IsBetween late before spread → IsBetween later displaced spread → IsPlaced narrow before m run displaced
     → IsRun f.bounds second before m run displaced
 run-ahead f narrow spread late later second before m run displaced borne wide mean b d placed =
-    let slim = borne.narrow in
-    let above = borne.above in
-    let below = borne.below in
-    let m0 = mean.least in
-    let m1 = mean.most in
-    let b0 = b.least in
-    let b1 = b.most in
-    let d0 = d.least in
-    let d1 = d.most in
     record {
       placed = placed-wider narrow f.bounds before m run displaced wide.low wide.high placed;
-      mean_near = record { below = omega (arith, d1, m0, slim); above = omega (arith, m1, d0, slim) };
-      before_near = record { below = omega (arith, d1, b0, below); above = omega (arith, b1, d0, above) };
+      mean_near = record { below = omega (arith, d, mean, borne); above = omega (arith, d, mean, borne) };
+      before_near = record { below = omega (arith, d, b, borne); above = omega (arith, d, b, borne) };
     }
 
 pub kept-next : (f g : Follower) (distance next : ℕ) (narrow : Bounds) (spread run n : ℕ) (ahead : List ℕ)
@@ -344,13 +298,5 @@ kept-short f distance narrow spread run ahead k = go k.counts k.captured
         → 1024 * run < f.bounds.low
     go [] captured = absurd captured
     go (m ∷ counts) captured =
-        let before = captured.1.least in
-        let behind = captured.2.most in
-        let between = captured.3.between in
-        let longest = captured.3.longest in
-        let below = k.calm.keepable.below in
-        let wide = k.calm.keepable.wide.high in
-        let slim = f.bounds.slim in
-        let least = f.bounds.least in
         let few = cells m narrow.high captured.3.few in
-        omega (arith, before, behind, between, longest, below, wide, slim, least, few)
+        omega (arith, captured.1, captured.2, captured.3, k.calm.keepable, f.bounds, few)

@@ -128,19 +128,12 @@ lasting-keepable : (bounds narrow : Bounds) (spread late later period most : ℕ
     → IsPeriodOf narrow spread 253 period → IsAbout bounds period 1024 → IsWider bounds narrow
     → most ≤ 31 * wander bounds / 2048 + 16 → IsKeepable bounds narrow spread late later most
 lasting-keepable bounds narrow spread late later period most lasting measured about wide few =
-    let n = lasting.near in
-    let a = lasting.above in
-    let b = lasting.below in
-    let m0 = measured.most in
-    let m1 = measured.least in
-    let low = about.low in
-    let high = about.high in
     let ordered = narrow.ordered in
     record {
       wide = wide;
-      near = omega (arith, n, m0, m1, low, high, few, ordered);
-      above = omega (arith, a, n, m0, m1, low, high, few, ordered);
-      below = omega (arith, b, n, m0, m1, low, high, few, ordered);
+      near = omega (arith, lasting, measured, about, few, ordered);
+      above = omega (arith, lasting, measured, about, few, ordered);
+      below = omega (arith, lasting, measured, about, few, ordered);
     }
 
 -- no edge was noted yet
@@ -184,10 +177,6 @@ found-along f known narrow spread late later displaced places counts ahead found
     let at = found.starts.at in
     let follows : Follows f at.first at.second displaced 0 0
     = subst (λ n. Follows f at.first at.second n 0 0) is at.follows in
-    let s0 = follows.same_place.below in
-    let s1 = follows.same_place.above in
-    let o0 = follows.other_place.below in
-    let o1 = follows.other_place.above in
     record {
       late = late;
       later = later;
@@ -201,8 +190,8 @@ found-along f known narrow spread late later displaced places counts ahead found
       first_side = at.first_side;
       second_side = at.second_side;
       places = record {
-        same_place = record { below = omega (arith, s0); above = omega (arith, s1) };
-        other_place = record { below = omega (arith, o0); above = omega (arith, o1) };
+        same_place = record { below = omega (arith, follows.same_place); above = omega (arith, follows.same_place) };
+        other_place = record { below = omega (arith, follows.other_place); above = omega (arith, follows.other_place) };
       };
       counts = counts;
       captured = captured;
@@ -282,10 +271,8 @@ spreads-short narrow spread late later before apart run [] [] ahead s a b = absu
 spreads-short narrow spread late later before apart run (m ∷ counts) [] ahead s a b =
     let least = s.1.least in
     let most = s.2.most in
-    let between = s.3.between in
-    let longest = s.3.longest in
     let few : m * narrow.high ≤ 3 * narrow.high = mul-le-mul_right narrow.high s.3.few in
-    omega (arith, least, most, between, longest, few, a)
+    omega (arith, least, most, s.3, few, a)
 spreads-short narrow spread late later before apart run [] (r ∷ runs) ahead s a b = absurd s
 spreads-short narrow spread late later before apart run (m ∷ counts) (r ∷ runs) ahead s a b =
     spreads-short narrow spread later late s.0 apart run counts runs ahead s.4 b a
@@ -293,15 +280,12 @@ spreads-short narrow spread late later before apart run (m ∷ counts) (r ∷ ru
 pub lasting-short : (known : Option ℕ) (narrow : Bounds) (spread : ℕ) (counts window others ahead : List ℕ) (run : ℕ)
     → IsLastingLine known narrow spread counts window (others ++ run ∷ ahead) → 65536 * run < 63 * narrow.low
 lasting-short known narrow spread counts window others ahead run l =
-    let n = l.lasting.near in
-    let a = l.lasting.above in
-    let b = l.lasting.below in
     let least = narrow.least in
     let apart : ℕ = (l.late - l.later) + (l.later - l.late) in
     let short = spreads-short narrow spread l.late l.later l.displaced apart run counts (window ++ others) ahead
     (subst (λ (x : List ℕ). SpreadsLate narrow spread l.late l.later l.displaced counts x)
     (sym (append_assoc window others (run ∷ ahead))) l.captured) (omega arith) (omega arith) in
-    omega (arith, n, a, b, least, short)
+    omega (arith, l.lasting, least, short)
 
 -- so few samples that a line which is kept does not count as dead
 pub kept-awake : (f : Follower) (distance : ℕ) (narrow : Bounds) (spread behind : ℕ) (ahead : List ℕ)

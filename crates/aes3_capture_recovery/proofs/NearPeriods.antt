@@ -87,11 +87,9 @@ pub near-of : (bounds : Bounds) (spread cells samples period : ℕ) → IsLong b
 near-of bounds spread cells samples period long some is =
     let most = quotient-most (samples * 65536) cells in
     let least = quotient-least (samples * 65536) cells some in
-    let l0 = long.least in
-    let l1 = long.most in
     let high = turn bounds.high in
     let low = turn bounds.low in
-    rw is record { most = omega (arith, most, l1, high); least = omega (arith, least, l0, low) }
+    rw is record { most = omega (arith, most, long, high); least = omega (arith, least, long, low) }
   where
     turn : (x : ℕ) → x * cells ≡ cells * x
     turn x = grind arith
@@ -109,64 +107,32 @@ fits-of : (bounds narrow : Bounds) (spread late later period part : ℕ) → IsA
     → 2 * spread + narrow.low + 14 * (period / part) < 2 * period
     → Fits bounds narrow spread late later
 fits-of bounds narrow spread late later period part about less low high middle l0 l1 apart =
-    let bl = about.low in
-    let bh = about.high in
     record {
-      wide = record { low = omega (arith, bl, low); high = omega (arith, bh, high) };
+      wide = record { low = omega (arith, about, low); high = omega (arith, about, high) };
       borne = record {
-        narrow = omega (arith, bl, bh, less, middle);
-        above = omega (arith, bl, bh, less, l0, apart);
-        below = omega (arith, bl, bh, less, l1, apart);
+        narrow = omega (arith, about, less, middle);
+        above = omega (arith, about, less, l0, apart);
+        below = omega (arith, about, less, l1, apart);
       };
     }
 
 pub fits-192 : (bounds narrow : Bounds) (spread late later period : ℕ) → IsFindable narrow spread late later
     → IsPeriodOf narrow spread 192 period → IsAbout bounds period 768 → Fits bounds narrow spread late later
 fits-192 bounds narrow spread late later period f near about =
-    let n = f.near in
-    let o = f.ordered in
-    let a = f.alike in
-    let s = f.shortest in
-    let m = near.most in
-    let l = near.least in
-    fits-of bounds narrow spread late later period 768 about (omega arith) (omega (arith, n, o, a, m, l)) (omega (arith, n, o, a, m, l))
-    (omega (arith, n, o, a, s, m, l)) f.late_half f.later_half (omega (arith, n, o, a, s, m, l))
+    fits-of bounds narrow spread late later period 768 about (omega arith) (omega (arith, f, near)) (omega (arith, f, near))
+    (omega (arith, f, near)) f.late_half f.later_half (omega (arith, f, near))
 
 pub fits-256 : (bounds narrow : Bounds) (spread late later period : ℕ) → IsFindable narrow spread late later
     → IsPeriodOf narrow spread 256 period → IsAbout bounds period 896 → Fits bounds narrow spread late later
 fits-256 bounds narrow spread late later period f near about =
-    let n = f.near in
-    let o = f.ordered in
-    let a = f.alike in
-    let s = f.shortest in
-    let m = near.most in
-    let l = near.least in
-    fits-of bounds narrow spread late later period 896 about (omega arith) (omega (arith, n, o, a, m, l)) (omega (arith, n, o, a, m, l))
-    (omega (arith, n, o, a, s, m, l)) f.late_half f.later_half (omega (arith, n, o, a, s, m, l))
-
-pub fits-320 : (bounds narrow : Bounds) (spread late later period : ℕ) → IsFindable narrow spread late later
-    → IsPeriodOf narrow spread 320 period → IsAbout bounds period 1024 → Fits bounds narrow spread late later
-fits-320 bounds narrow spread late later period f near about =
-    let n = f.near in
-    let o = f.ordered in
-    let a = f.alike in
-    let s = f.shortest in
-    let m = near.most in
-    let l = near.least in
-    fits-of bounds narrow spread late later period 1024 about (omega arith) (omega (arith, n, o, a, m, l)) (omega (arith, n, o, a, m, l))
-    (omega (arith, n, o, a, s, m, l)) f.late_half f.later_half (omega (arith, n, o, a, s, m, l))
+    fits-of bounds narrow spread late later period 896 about (omega arith) (omega (arith, f, near)) (omega (arith, f, near))
+    (omega (arith, f, near)) f.late_half f.later_half (omega (arith, f, near))
 
 pub fits-253 : (bounds narrow : Bounds) (spread late later period : ℕ) → IsFindable narrow spread late later
     → IsPeriodOf narrow spread 253 period → IsAbout bounds period 1024 → Fits bounds narrow spread late later
 fits-253 bounds narrow spread late later period f near about =
-    let n = f.near in
-    let o = f.ordered in
-    let a = f.alike in
-    let s = f.shortest in
-    let m = near.most in
-    let l = near.least in
-    fits-of bounds narrow spread late later period 1024 about (omega arith) (omega (arith, n, o, a, m, l)) (omega (arith, n, o, a, m, l))
-    (omega (arith, n, o, a, s, m, l)) f.late_half f.later_half (omega (arith, n, o, a, s, m, l))
+    fits-of bounds narrow spread late later period 1024 about (omega arith) (omega (arith, f, near)) (omega (arith, f, near))
+    (omega (arith, f, near)) f.late_half f.later_half (omega (arith, f, near))
 
 -- by three subframes or more
 pub fits-first : (bounds narrow : Bounds) (spread late later period m part : ℕ) → IsFindable narrow spread late later
@@ -181,57 +147,30 @@ fits-first bounds narrow spread late later period (suc (suc (suc (suc zero)))) p
     fits-256 bounds narrow spread late later period f near (rw is at about)
 fits-first bounds narrow spread late later period (suc (suc (suc (suc (suc m))))) part f near some is about =
     let e : part ≡ 1024 = omega (arith, is) in
-    let n = near-fewer narrow spread _ 320 period (omega arith) (omega arith) near in
-    fits-320 bounds narrow spread late later period f n (rw e at about)
+    let n = near-fewer narrow spread _ 253 period (omega arith) (omega arith) near in
+    fits-253 bounds narrow spread late later period f n (rw e at about)
 
 -- by a period that is known
 pub fits-known : (bounds narrow : Bounds) (spread late later period : ℕ) → IsFindable narrow spread late later → HasCells period narrow
     → IsAbout bounds period 1024 → Fits bounds narrow spread late later
 fits-known bounds narrow spread late later period f has about =
-    let n = f.near in
-    let o = f.ordered in
-    let s = f.shortest in
-    let low = has.low in
-    let high = has.high in
-    fits-of bounds narrow spread late later period 1024 about (omega arith) low high (omega (arith, n, o, s, low, high)) f.late_half
-    f.later_half (omega (arith, n, o, s, low, high))
+    fits-of bounds narrow spread late later period 1024 about (omega arith) has.low has.high (omega (arith, f, has)) f.late_half
+    f.later_half (omega (arith, f, has))
 
 -- such periods are possible
 pub in-range-192 : (narrow : Bounds) (spread late later period : ℕ) → IsFindable narrow spread late later
     → IsPeriodOf narrow spread 192 period → (132096 ≤ period) × (period ≤ 524288000)
-in-range-192 narrow spread late later period f near =
-    let s = f.shortest in
-    let l = f.longest in
-    let n0 = near.least in
-    let n1 = near.most in
-    (omega (arith, s, n0), omega (arith, l, n1))
-
-pub in-range-253 : (narrow : Bounds) (spread late later period : ℕ) → IsFindable narrow spread late later
-    → IsPeriodOf narrow spread 253 period → (132096 ≤ period) × (period ≤ 524288000)
-in-range-253 narrow spread late later period f near =
-    let s = f.shortest in
-    let l = f.longest in
-    let n0 = near.least in
-    let n1 = near.most in
-    (omega (arith, s, n0), omega (arith, l, n1))
+in-range-192 narrow spread late later period f near = (omega (arith, f, near), omega (arith, f, near))
 
 -- in round numbers
 pub findable : (narrow : Bounds) (cell spread late later : ℕ) → IsAbout narrow cell 65536 → IsTolerable cell spread late later
     → IsFindable narrow spread late later
-findable narrow cell spread late later about tolerable =
-    let low = about.low in
-    let high = about.high in
-    let least = tolerable.least in
-    let most = tolerable.most in
-    let near = tolerable.near in
-    let late_third = tolerable.late_third in
-    let later_third = tolerable.later_third in
-    record {
-      ordered = omega (arith, low, high);
-      alike = omega (arith, low, high, least);
-      near = omega (arith, low, high, least, near);
-      shortest = omega (arith, low, high, least, near);
-      longest = omega (arith, low, high, most, near);
-      late_half = omega (arith, low, high, least, late_third);
-      later_half = omega (arith, low, high, least, later_third);
-    }
+findable narrow cell spread late later about tolerable = record {
+  ordered = omega (arith, about);
+  alike = omega (arith, about, tolerable);
+  near = omega (arith, about, tolerable);
+  shortest = omega (arith, about, tolerable);
+  longest = omega (arith, about, tolerable);
+  late_half = omega (arith, about, tolerable);
+  later_half = omega (arith, about, tolerable);
+}

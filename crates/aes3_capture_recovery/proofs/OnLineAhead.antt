@@ -10,9 +10,9 @@ use Rattle.aes3_capture_recovery.specs.Distances.{distance_at, spread_after}
 use Rattle.aes3_capture_recovery.specs.Endings.{level_if}
 use Rattle.aes3_capture_recovery.specs.Keeping.{IsKept, IsOnLine, StaysKept, StaysOnLine}
 use Rattle.aes3_capture_recovery.specs.Recovering.{runs_to_end}
-use Rattle.aes3_capture_recovery.specs.Turns.{gaps, last_place, turns}
 use Rattle.aes3_capture_recovery.specs.declared.recovery.Recovery.{Recovery}
 use Rattle.aes3_capture_recovery.specs.declared.recovery.State.TheVariants.{Following}
+use Rattle.aes3_capture_recovery.proofs.Ahead.{ArePlaced}
 use Rattle.aes3_capture_recovery.proofs.OnLine.{end-some, kept-tracked}
 use Rattle.aes3_capture_recovery.proofs.Turning.{turned-runs}
 
@@ -122,23 +122,21 @@ split-ahead s n xs (t ∷ taken) (r ∷ runs) behind e =
     record { rest = a.rest; runs_are = ap₂ (λ x l. x ∷ l) head a.runs_are; rest_are = a.rest_are }
 
 pub on-line-ahead : (old mid new : Recovery) (narrow : Bounds) (spread : ℕ) (levels more : List Level) (runs : List ℕ)
-    (from behind : ℕ) → from + old.line.edges.run ≡ 128
-    → runs ≡ gaps from (turns (level_if old.line.edges.high) 128 levels)
-    → behind ≡ (128 + length levels) - last_place from (turns (level_if old.line.edges.high) 128 levels)
+    (from behind : ℕ) → ArePlaced old.line.edges levels runs from behind
     → level_if new.line.edges.high ≡ other (after (other (level_if old.line.edges.high)) runs)
     → new.line.edges.run ≡ behind → new.line.follower ≡ mid.line.follower → new.spread ≡ mid.spread → new.state ≡ mid.state
     → new.figures.measured ≡ mid.figures.measured → 1 ≤ new.figures.samples
     → ((ahead : List ℕ) → IsKept old.line.follower old.spread narrow spread (runs ++ ahead)
     → StaysKept narrow spread ahead old mid)
     → IsOnLine narrow spread (levels ++ more) old → StaysOnLine narrow spread more old new
-on-line-ahead old mid new narrow spread levels more runs from behind near runs_are behind_is high run follower distance state measured
-    some step w =
+on-line-ahead old mid new narrow spread levels more runs from behind p high run follower distance state measured some step w =
+    let near = p.near in
     let s : Level = level_if old.line.edges.high in
     let t : Level = level_if new.line.edges.high in
     let all : runs_to_end s old.line.edges.run (levels ++ more) ≡ runs ++ runs_to_end t new.line.edges.run more
     = ap (λ n. runs_to_end s n (levels ++ more)) (let e : old.line.edges.run ≡ 128 - from = omega (arith, near) in e)
     ∙ turned-runs s 128 from levels more (omega (arith, near))
-    ∙ ap₂ (λ l n. l ++ runs_to_end (other (after (other s) l)) n more) (sym runs_are) (sym behind_is ∙ sym run)
+    ∙ ap₂ (λ l n. l ++ runs_to_end (other (after (other s) l)) n more) (sym p.runs_are) (sym p.behind_is ∙ sym run)
     ∙ ap (λ l. runs ++ runs_to_end l new.line.edges.run more) (sym high) in
     let a = split-ahead t new.line.edges.run more runs w.runs w.behind (sym all ∙ w.runs_are) in
     let stays = step a.rest (subst (λ (l : List ℕ). IsKept old.line.follower old.spread narrow spread l) a.runs_are w.kept) in

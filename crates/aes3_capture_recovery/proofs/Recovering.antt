@@ -29,6 +29,21 @@ use Rattle.aes3_level.proofs.WordCells.{length-low_cells}
 use Rattle.aes3_capture_recovery.specs.declared.edges.Edges.{Edges}
 use Rattle.aes3_capture.proofs.Whole.{passed-none}
 
+-- all that was told is as it was, and so is what it was told by
+pub keeps-told : (old new : Recovery) → new.found ≡ old.found → new.known ≡ old.known → new.held ≡ old.held
+    → new.count ≡ old.count → new.runs ≡ old.runs → new.figures.measured ≡ old.figures.measured
+    → new.line.queue ≡ old.line.queue → new.line.follower ≡ old.line.follower → KeepsTold old new
+keeps-told old new found known held count runs measured queue follower = record {
+  found_is = found;
+  known_is = known;
+  held_is = held;
+  count_is = count;
+  runs_are = runs;
+  measured_is = measured;
+  queue_is = queue;
+  follower_is = follower;
+}
+
 -- the same holds, whatever changed besides
 pub holds-keeps : (told : Option (List ℕ)) (setting : Setting) (level : Level) (done : List ℕ) (past : ℕ)
     (old new : Recovery) → KeepsTold old new → new.state ≡ old.state → Holds told setting level done past old
@@ -234,15 +249,13 @@ unfoldable pub recovered-edge : (told told' : Option (List ℕ)) (setting : Sett
     → Recovered told setting seen (levels_in piece) old → Recovered told' setting seen (levels_in left) new
 recovered-edge told told' setting seen piece left run old mid new few e k state edges same edge w =
     let s = w.stands in
-    let count = e.count in
-    let run_is = e.run_is in
     let short = w.short in
     let sum = s.samples_are in
     let u = level_if old.line.edges.high in
     let t = level_if mid.line.edges.high in
     let waits : runs_waiting mid ≡ runs_waiting old = waits-keep old mid k in
     let runs : s.done ++ runs_waiting mid ≡ w.runs = ap (λ x. s.done ++ x) waits ∙ s.runs_are in
-    let all : s.past + run ≡ w.behind + e.samples = omega (arith, few, short, count, run_is, sum) in
+    let all : s.past + run ≡ w.behind + e.samples = omega (arith, few, short, e, sum) in
     let stood = edge w.level s.done s.past (holds-keeps told setting w.level s.done s.past old mid k state s.holds)
     (s.turns ∙ ap (λ x. other (after w.level x)) (sym runs)) in
     let one : new.line.edges.run ≡ 1 = ap (λ x. x.run) edges ∙ e.next in
@@ -322,15 +335,13 @@ recovered-level told told' setting [] n old mid new some few same run k state hi
     absurd (omega (arith, some, was))
 recovered-level told told' setting (x ∷ seen) n old mid new some few same run k state high samples short rest w =
     let s = w.stands in
-    let was = w.samples in
-    let was_short = w.short in
     let sum = s.samples_are in
     let u : Level = level_if old.line.edges.high in
     let stood : StandsOn told setting w.level w.runs (w.behind + n) mid = record {
       done = s.done;
       past = s.past;
       runs_are = ap (λ x. s.done ++ x) (waits-keep old mid k) ∙ s.runs_are;
-      samples_are = omega (arith, few, was_short, run, sum);
+      samples_are = omega (arith, few, w, run, sum);
       turns = ap level_if same ∙ s.turns;
       holds = holds-keeps told setting w.level s.done s.past old mid k state s.holds;
     } in
@@ -345,7 +356,7 @@ recovered-level told told' setting (x ∷ seen) n old mid new some few same run 
           (end-same u w.behind n more ∙ ap (λ l. runs_to_end l (w.behind + n) more) (sym (ap level_if (high ∙ same))));
       first = w.first;
       samples = let both = length-append (x ∷ seen) (replicate n u) in
-          let many = length-replicate n u in omega (arith, samples, was, both, many);
+          let many = length-replicate n u in omega (arith, samples, w, both, many);
       short = short;
       stands = rest w.level w.runs (w.behind + n) stood;
     }

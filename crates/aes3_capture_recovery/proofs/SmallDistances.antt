@@ -30,18 +30,15 @@ small-more middle places each i left n most sum sum_of_squares most' sum' square
     let all = all-more middle places i n (omega (arith, below, long)) is in
     let square = small-square n few in
     let slim = small.slim in
-    let most_was = small.are.most_is in
-    let sum_was = small.are.sum_is in
-    let squares_was = small.are.squares_is in
     let g = all.0 in
     let s = all.1 in
     let q = all.2 in
     record {
       are = record {
         each_is = each-more middle places each i n (omega (arith, below, long)) (omega (arith, below, room)) is small.are.each_is;
-        most_is = omega (arith, g, most_was, most_is);
-        sum_is = omega (arith, s, sum_was, sum_is);
-        squares_is = omega (arith, q, squares_was, squares_is, square, slim, below);
+        most_is = omega (arith, g, small.are, most_is);
+        sum_is = omega (arith, s, small.are, sum_is);
+        squares_is = omega (arith, q, small.are, squares_is, square, slim, below);
       };
       slim = omega (arith, squares_is, square, slim, below);
     }

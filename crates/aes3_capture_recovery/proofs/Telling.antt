@@ -333,38 +333,6 @@ pub after-odd : (s : Level) (runs : List ℕ) → length runs % 2 ≡ 1 → afte
 after-odd s [] e = absurd (omega (arith, e))
 after-odd s (x ∷ runs) e = after-even (other s) runs (omega (arith, e))
 
--- the same told, whatever changed besides
-pub told-keeps : (told : Option (List ℕ)) (setting : Setting) (level : Level) (done : List ℕ) (past : ℕ)
-    (old new : Recovery) → AreTold told setting level done past old → new.found ≡ old.found → new.known ≡ old.known
-    → new.held ≡ old.held → new.figures.measured ≡ old.figures.measured → new.line.queue ≡ old.line.queue
-    → new.line.follower ≡ old.line.follower → AreTold told setting level done past new
-told-keeps told setting level done past old new w found known held measured queue follower = record {
-  form_is = ap (λ q. q.form) queue ∙ w.form_is;
-  known_is = known ∙ w.known_is;
-  either = elim w.either [
-    | inl u ↦ inl (record {
-      found_is = found ∙ u.found_is;
-      none = measured ∙ u.none;
-      held = held ∙ u.held;
-      cells = rw queue u.cells;
-    })
-    | inr f ↦ inr (record {
-      found_is = found ∙ f.found_is;
-      before = f.before;
-      behind = f.behind;
-      runs_are = f.runs_are;
-      start = f.start;
-      at = f.at;
-      starts = f.starts;
-      counts = f.counts;
-      counted = f.counted;
-      given = f.given;
-      passed = rw follower f.passed;
-      cells = rw queue f.cells;
-    })
-  ];
-}
-
 -- cells given behind others
 pub gave-chain : {A : Type 0} {taken : A → Option (List ℕ)} (old mid new : LineFollower) (a b d : A) (xs ys : List Level)
     → Gave taken old mid a b xs → Gave taken mid new b d ys → Gave taken old new a d (xs ++ ys)
@@ -518,6 +486,35 @@ found-same {taken = taken} old new a b setting level done past [] w found c gave
       cells = subst (λ (x : List Level). Queued (taken b) setting.begun new.line.queue.form (waiting new.line.queue) x)
           (append-nil cells) (gave.each setting.begun cells w.cells);
     }
+
+-- the same told, of which words were passed on
+pub told-gave : {A : Type 0} {taken : A → Option (List ℕ)} (old new : Recovery) (a b : A) (setting : Setting)
+    (level : Level) (done : List ℕ) (past : ℕ) → Gave taken old.line new.line a b []
+    → AreTold (taken a) setting level done past old → new.found ≡ old.found → new.known ≡ old.known
+    → new.held ≡ old.held → new.figures.measured ≡ old.figures.measured → new.line.follower ≡ old.line.follower
+    → AreTold (taken b) setting level done past new
+told-gave old new a b setting level done past gave w found known held measured follower = record {
+  form_is = gave.form_is ∙ w.form_is;
+  known_is = known ∙ w.known_is;
+  either = elim w.either [
+    | inl u ↦ inl (record {
+      found_is = found ∙ u.found_is;
+      none = measured ∙ u.none;
+      held = held ∙ u.held;
+      cells = gave.each setting.begun [] u.cells;
+    })
+    | inr f ↦ inr (found-same old new a b setting level done past [] f (found ∙ f.found_is) follower gave)
+  ];
+}
+
+-- the same told, whatever changed besides
+pub told-keeps : (told : Option (List ℕ)) (setting : Setting) (level : Level) (done : List ℕ) (past : ℕ)
+    (old new : Recovery) → AreTold told setting level done past old → new.found ≡ old.found → new.known ≡ old.known
+    → new.held ≡ old.held → new.figures.measured ≡ old.figures.measured → new.line.queue ≡ old.line.queue
+    → new.line.follower ≡ old.line.follower → AreTold told setting level done past new
+told-keeps told setting level done past old new w found known held measured queue follower =
+    told-gave {taken = λ t. t} old new told told setting level done past (gave-none old.line new.line told told queue refl) w
+    found known held measured follower
 
 -- all runs that waited told, where no sample of the one behind them was
 pub told-all : {A : Type 0} {taken : A → Option (List ℕ)} (old new : Recovery) (a b : A) (setting : Setting)
@@ -732,44 +729,6 @@ stands-waiting told setting level old new done run w few turns found known held 
   where
     unlike : Measuring ≡ Following → ⊥
     unlike e = cc
-
--- the same told, of which words were passed on
-pub told-gave : {A : Type 0} {taken : A → Option (List ℕ)} (old new : Recovery) (a b : A) (setting : Setting)
-    (level : Level) (done : List ℕ) (past : ℕ) → Gave taken old.line new.line a b []
-    → AreTold (taken a) setting level done past old → new.found ≡ old.found → new.known ≡ old.known
-    → new.held ≡ old.held → new.figures.measured ≡ old.figures.measured → new.line.follower ≡ old.line.follower
-    → AreTold (taken b) setting level done past new
-told-gave {taken = taken} old new a b setting level done past gave w found known held measured follower = record {
-  form_is = gave.form_is ∙ w.form_is;
-  known_is = known ∙ w.known_is;
-  either = elim w.either [
-    | inl u ↦ inl (record {
-      found_is = found ∙ u.found_is;
-      none = measured ∙ u.none;
-      held = held ∙ u.held;
-      cells = gave.each setting.begun [] u.cells;
-    })
-    | inr f ↦
-        let cells : List Level = first_cells level f.before f.start
-        ++ (line (after level f.before) f.counts ++ replicate f.given (other (after level done))) in
-        inr (record {
-          found_is = found ∙ f.found_is;
-          before = f.before;
-          behind = f.behind;
-          runs_are = f.runs_are;
-          start = f.start;
-          at = f.at;
-          starts = f.starts;
-          counts = f.counts;
-          counted = f.counted;
-          given = f.given;
-          passed = rw follower f.passed;
-          cells = subst (λ (x : List Level).
-              Queued (taken b) setting.begun new.line.queue.form (waiting new.line.queue) x)
-              (append-nil cells) (gave.each setting.begun cells f.cells);
-        })
-  ];
-}
 
 pub ok-const : {R E : Type 0} (r : Result R E) (P : Type 0) → P → IfOk r (λ x. P)
 ok-const (Ok v) P p = p

@@ -32,31 +32,23 @@ first-period bounds spread late later place side places line runs first last sub
     let l = ends.last_is in
     let i = first.run in
     let j = last.run in
-    let f1 = f.most in
-    let l0 = l.least in
-    let l1 = l.most in
     let count_is = many.count in
     let cells_count = displaced.cells_count in
-    let e : i + (j - i) ≡ j = omega (arith, f1, l0) in
-    let within : i + (j - i) ≤ length runs = omega (arith, f1, l0, l1, count_is, cells_count) in
-    let below : j < length line = omega (arith, l1, count_is) in
-    let first_below : i < length line = omega (arith, f1, count_is) in
-    let cells = ends.cells in
-    let none = ends.none in
-    let few_subframes = ends.few in
-    let enough = many.many i j (omega (arith, f1, l0)) below f.begins l.begins in
-    let some : 3 ≤ subframes = omega (arith, count, none, cells, enough) in
-    let few : subframes ≤ 9 = omega (arith, count, few_subframes) in
+    let e : i + (j - i) ≡ j = omega (arith, f, l) in
+    let within : i + (j - i) ≤ length runs = omega (arith, f, l, count_is, cells_count) in
+    let below : j < length line = omega (arith, l, count_is) in
+    let first_below : i < length line = omega (arith, f, count_is) in
+    let enough = many.many i j (omega (arith, f, l)) below f.begins l.begins in
+    let some : 3 ≤ subframes = omega (arith, count, ends, enough) in
+    let few : subframes ≤ 9 = omega (arith, count, ends) in
     let line_end : sum_to line (i + (j - i)) ≡ sum_to line j = ap (sum_to line) e in
     let runs_end : sum_to runs (i + (j - i)) ≡ sum_to runs j = ap (sum_to runs) e in
     let grows = sum-grows runs i (j - i) within in
-    let first_samples = f.samples_is in
-    let last_samples = l.samples_is in
     let i_side = many.side_is i first_below f.begins in
     let j_side = many.side_is j below l.begins in
     let long = between-edges bounds spread late later places line runs i (j - i) (64 * subframes) samples displaced within
-    (omega (arith, e, i_side, j_side)) (omega (arith, line_end, cells, count, none))
-    (omega (arith, runs_end, time, first_samples, last_samples, grows)) in
+    (omega (arith, e, i_side, j_side)) (omega (arith, line_end, ends, count))
+    (omega (arith, runs_end, time, f, l, grows)) in
     let long_most = long.most in
     let at_most = fewer bounds.high (64 * subframes) 576 (omega (arith, few)) in
     let longest = findable.longest in
@@ -85,24 +77,17 @@ like-a-preamble bounds spread late later place side places line runs from run sa
     let four = many.fourth run in_line is.begins in
     let eight = four-long bounds spread late later places line runs run 8 _ displaced (omega (arith, within))
     (omega (arith, three, one, four)) refl in
-    let e0 = eight.least in
-    let e1 = eight.most in
     let first = run-long bounds spread late later places line runs run 3 displaced (omega (arith, within)) three in
     let third = run-long bounds spread late later places line runs (run + 2) 1 displaced (omega (arith, within)) one in
     let f0 = first.least in
     let t1 = third.most in
     let here = same-lateness late later run (run + 2) (omega arith) in
     let next = same-lateness late later (run + 1) (run + 2 + 1) (omega arith) in
-    let n = findable.near in
-    let o = findable.ordered in
     let a = findable.alike in
-    let s = findable.shortest in
-    let m = near.most in
-    let l = near.least in
     record {
-      few = omega (arith, e1, n, o, a, s, m, l);
-      many = omega (arith, e0, n, o, a, s, m, l);
-      longer = omega (arith, f0, t1, here, next, n, o, a, s, m, l);
+      few = omega (arith, eight, findable, a, near);
+      many = omega (arith, eight, findable, a, near);
+      longer = omega (arith, f0, t1, here, next, findable, a, near);
     }
 
 -- Sums of cells and of samples before some early edges, and before as many late ones, each as far as one of its direction.
@@ -115,17 +100,10 @@ two-edges : (bounds : Bounds) (spread late later : ℕ) (places line runs : List
     → AreSums bounds spread (sum_to line i) (sum_to line (i + k)) (sum_to runs i) (sum_to runs (i + k))
 two-edges bounds spread late later places line runs i k displaced within same =
     let a = apart bounds spread late later places line runs i k displaced within in
-    let b = a.between in
-    let l = a.longest in
-    let s = a.shortest in
     let e = same-lateness late later i (i + k) same in
     let first = displaced.side i (omega (arith, within)) in
     let last = displaced.side (i + k) within in
-    let f0 = first.least in
-    let f1 = first.most in
-    let l0 = last.least in
-    let l1 = last.most in
-    record { least = omega (arith, b, s, e, f0, f1, l0, l1); most = omega (arith, b, l, e, f0, f1, l0, l1) }
+    record { least = omega (arith, a, e, first, last); most = omega (arith, a, e, first, last) }
 
 product : (low a b c n : ℕ) → n ≡ a + b + c → low * n ≡ low * a + low * b + low * c
 product low a b c n e = rw e (omega arith)
@@ -134,17 +112,11 @@ add-sums : (bounds : Bounds) (s0 s1 s2 s a0 b0 c0 d0 a1 b1 c1 d1 a2 b2 c2 d2 a b
     → AreSums bounds s1 a1 b1 c1 d1 → AreSums bounds s2 a2 b2 c2 d2
     → s ≡ s0 + s1 + s2 → a ≡ a0 + a1 + a2 → b ≡ b0 + b1 + b2 → c ≡ c0 + c1 + c2 → d ≡ d0 + d1 + d2 → AreSums bounds s a b c d
 add-sums bounds s0 s1 s2 s a0 b0 c0 d0 a1 b1 c1 d1 a2 b2 c2 d2 a b c d x y z se ae be ce de =
-    let x0 = x.least in
-    let x1 = x.most in
-    let y0 = y.least in
-    let y1 = y.most in
-    let z0 = z.least in
-    let z1 = z.most in
     let la = product bounds.low a0 a1 a2 a ae in
     let ha = product bounds.high a0 a1 a2 a ae in
     let lb = product bounds.low b0 b1 b2 b be in
     let hb = product bounds.high b0 b1 b2 b be in
-    record { least = omega (arith, x0, y0, z0, la, lb, se, ce, de); most = omega (arith, x1, y1, z1, ha, hb, se, ce, de) }
+    record { least = omega (arith, x, y, z, la, lb, se, ce, de); most = omega (arith, x, y, z, ha, hb, se, ce, de) }
 
 two-more : (xs : List ℕ) (i k : ℕ) → sums_to xs i (k + 2) ≡ sums_to xs i k + sum_to xs (i + k) + sum_to xs (i + k + 1)
 two-more xs i k =
@@ -191,36 +163,26 @@ pub second-period : (bounds : Bounds) (spread late later place side : ℕ) (plac
     → period ≡ (sums_to runs 241 16 - sums_to runs 0 16) * 65536 / max (sums_to line 241 16 - sums_to line 0 16) 1
     → IsPeriodOf bounds spread 253 period
 second-period bounds spread late later place side places line runs period captured is =
-    let many = captured.many in
     let displaced = captured.displaced in
-    let findable = captured.findable in
-    let line_count = many.count in
     let cells_count = displaced.cells_count in
-    let count : length runs ≡ 256 = omega (arith, line_count, cells_count) in
+    let count : length runs ≡ 256 = omega (arith, captured, cells_count) in
     let sums = sums-apart bounds spread late later places line runs 8 16 displaced count (omega arith) (omega arith) in
-    let s0 = sums.least in
-    let s1 = sums.most in
-    let enough = many.cells in
     let cells = sums_to line 241 16 - sums_to line 0 16 in
-    let cells_are : sums_to line 241 16 ≡ sums_to line 0 16 + (sums_to line 241 16 - sums_to line 0 16) = omega (arith, enough) in
-    let some : max (sums_to line 241 16 - sums_to line 0 16) 1 ≡ sums_to line 241 16 - sums_to line 0 16 = omega (arith, enough) in
+    let cells_are : sums_to line 241 16 ≡ sums_to line 0 16 + (sums_to line 241 16 - sums_to line 0 16) = omega (arith, captured) in
+    let some : max (sums_to line 241 16 - sums_to line 0 16) 1 ≡ sums_to line 241 16 - sums_to line 0 16 = omega (arith, captured) in
     let high = difference bounds.high (sums_to line 0 16) _ (sums_to line 241 16) cells_are in
     let low = difference bounds.low (sums_to line 0 16) _ (sums_to line 241 16) cells_are in
-    let at_least = fewer bounds.low 4048 (sums_to line 241 16 - sums_to line 0 16) (omega (arith, enough)) in
-    let n = findable.near in
-    let o = findable.ordered in
-    let later_is : sums_to runs 0 16 ≤ sums_to runs 241 16 = omega (arith, s0, low, at_least, n, o) in
+    let at_least = fewer bounds.low 4048 (sums_to line 241 16 - sums_to line 0 16) (omega (arith, captured)) in
+    let later_is : sums_to runs 0 16 ≤ sums_to runs 241 16 = omega (arith, sums, low, at_least, captured) in
     let long : IsLong bounds (16 * spread) (sums_to line 241 16 - sums_to line 0 16) (sums_to runs 241 16 - sums_to runs 0 16) = record {
-      least = omega (arith, s0, low, later_is);
-      most = omega (arith, s1, high, later_is);
+      least = omega (arith, sums, low, later_is);
+      most = omega (arith, sums, high, later_is);
     } in
     let near = near-of bounds (16 * spread) (sums_to line 241 16 - sums_to line 0 16) (sums_to runs 241 16 - sums_to runs 0 16) period long
-    (omega (arith, enough)) (rw some at is) in
-    let fewer_cells = near-fewer bounds (16 * spread) (sums_to line 241 16 - sums_to line 0 16) 4048 period (omega (arith, enough))
+    (omega (arith, captured)) (rw some at is) in
+    let fewer_cells = near-fewer bounds (16 * spread) (sums_to line 241 16 - sums_to line 0 16) 4048 period (omega (arith, captured))
     (omega arith) near in
-    let m = fewer_cells.most in
-    let l = fewer_cells.least in
-    record { most = omega (arith, m); least = omega (arith, l) }
+    record { most = omega (arith, fewer_cells); least = omega (arith, fewer_cells) }
 
 pub second-period-of : (bounds : Bounds) (spread late later place side : ℕ) (places line runs cells : List ℕ) (period : ℕ)
     → AreCapturedRuns bounds spread late later place side places line runs → length cells ≡ 256 → take (length runs) cells ≡ line

@@ -12,9 +12,8 @@ returns-clause-mean c = λ counts displaced captures.
 pub returns-clause-spread : goal.returns-clause-spread
 returns-clause-spread c = λ counts spread displaced narrow spreads.
     let first : displaced ≤ spread = first-below c.args.bounds spread displaced counts c.args.runs.now spreads in
-    c.count_cells_behind.ensures.mean counts displaced displaced displaced (c.new.ensures.line displaced)
-    (rw c.new.ensures.bounds (captures-spread c.args.bounds spread displaced displaced displaced counts c.args.runs.now
-    narrow first first spreads))
+    returns-clause-mean c counts displaced
+    (captures-spread c.args.bounds spread displaced displaced displaced counts c.args.runs.now narrow first first spreads)
 
 pub returns-clause-tolerance : goal.returns-clause-tolerance
 returns-clause-tolerance c = λ counts cell part displaced about enough spreads.

@@ -38,9 +38,6 @@ returns-clause-mean c = λ counts same other displaced follows captures.
 
 pub returns-clause-late : goal.returns-clause-late
 returns-clause-late c = λ counts spread late later same other displaced narrow above below follows s o spreads.
-    counted-all c.loop-i.follower c.args.follower.bounds c.loop-i.cells counts c.args.runs.now c.loop-i.i
-    (c.loop-i.auto.cells ∙ sym c.requires.room)
-    (omega (arith, c.loop-i-test.false, c.loop-i.auto.i-end))
-    (c.loop-i.invariant.1 counts same other displaced follows
+    returns-clause-mean c counts same other displaced follows
     (captures-late c.args.follower.bounds spread late later same other displaced counts c.args.runs.now narrow above
-    below s o spreads))
+    below s o spreads)

@@ -18,20 +18,15 @@ loop-i-preserved c =
     let square = square-small distance some in
     let product : c.from.result * c.from-in-loop-i.result ≡ distance * distance
     = ap₂ (λ a b. a * b) c.from.ensures c.from-in-loop-i.ensures in
-    let sum_is = v.sum in
-    let squares_is = v.squares in
-    let greatest_is = v.greatest in
-    let sum_few = v.few in
-    let squares_few = v.slim in
     let most = c.max-greatest.ensures in
     let long = v.long in
     record {
       long = length-set c.loop-i.each c.loop-i.i distance ∙ long;
       each = each-more c.args.middle c.args.places.now c.loop-i.each c.loop-i.i distance
           (omega (arith, below, few)) (omega (arith, below, few, long)) is v.each;
-      greatest = let g = all.0 in omega (arith, g, greatest_is, most);
-      sum = let s = all.1 in omega (arith, s, sum_is);
-      squares = let s = all.2 in omega (arith, s, squares_is, product);
-      few = omega (arith, sum_few, some);
-      slim = omega (arith, squares_few, square, product);
+      greatest = let g = all.0 in omega (arith, g, v, most);
+      sum = let s = all.1 in omega (arith, s, v);
+      squares = let s = all.2 in omega (arith, s, v, product);
+      few = omega (arith, v, some);
+      slim = omega (arith, v, square, product);
     }

@@ -14,13 +14,11 @@ loop-i-preserved c =
     let next : i - 1 + 1 ≡ i = omega (arith, from) in
     let pair : c.saturating_add-pair.result ≡ pair_at runs (i - 1) = rw next c.saturating_add-pair.ensures in
     let within : i - 1 + 1 < length runs = omega (arith, from, below) in
-    let some = v.some in
-    let many = v.many in
     let short_one = one-at-most c.saturating_add-pair.result c.div_ceil-least.result c.from-short.result c.from-short.ensures in
     let long_one = one-at-most _ c.saturating_add-pair.result c.from-long.result c.from-long.ensures in
     record {
-      some = omega (arith, some, short_one);
-      many = omega (arith, many, long_one);
+      some = omega (arith, v, short_one);
+      many = omega (arith, v, long_one);
       within = λ h. omega (arith, below);
       none = λ h.
           let no = v.none h in

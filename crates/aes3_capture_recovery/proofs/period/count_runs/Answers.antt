@@ -18,8 +18,6 @@ loop-i-preserved c =
     let below = c.loop-i-test.true in
     let few = c.requires.few in
     let before = take c.loop-i.i c.loop-i.cells in
-    let steady = v.steady in
-    let least = v.few in
     let next-cells : take (c.loop-i.i + 1) (set c.loop-i.cells c.loop-i.i n) ≡ before ++ n ∷ []
     = take_more_set c.loop-i.cells c.loop-i.i n (omega (arith, below, few)) in
     let more = of-a-line-more before n in
@@ -27,14 +25,14 @@ loop-i-preserved c =
     elim c.if-count-ge1.branch [
       | then-count-ge1+then-count-le3 w ↦
           let one = of-a-line n w.if-count-ge1.true w.if-count-le3.true in
-          (omega (arith, more, one, steady, w.steady-is), omega (arith, least, w.steady-is))
+          (omega (arith, more, one, v, w.steady-is), omega (arith, v, w.steady-is))
       | else-count-ge1 w ↦ elim w.else-count-ge1.branch [
         | else-count-ge1-via-then-count-ge1+else-count-le3 x ↦
             let none = of-none-above n x.if-count-le3.false in
-            (omega (arith, more, none, steady, w.steady-is), omega (arith, least, w.steady-is))
+            (omega (arith, more, none, v, w.steady-is), omega (arith, v, w.steady-is))
         | else-count-ge1-via-else-count-ge1 x ↦
             let none = of-none-below n x.if-count-ge1.false in
-            (omega (arith, more, none, steady, w.steady-is), omega (arith, least, w.steady-is))
+            (omega (arith, more, none, v, w.steady-is), omega (arith, v, w.steady-is))
       ]
     ] in
     record {
@@ -53,8 +51,6 @@ loop-i-preserved c =
           let next = at-next c.loop-i.follower c.run-count.new.self narrow spread late later places line c.args.runs.now c.loop-i.i n
           are.displaced (rw b wide) (rw b borne) below c.run-count.ensures.line w.2 in
           let placed = are.displaced.placed c.loop-i.i below in
-          let some = placed.some in
-          let less = placed.few in
           let is = next.0 in
           let steady_is = w.0 in
           let one : c.if-count-ge1.steady ≡ c.loop-i.steady + 1 =
@@ -62,9 +58,9 @@ loop-i-preserved c =
             | then-count-ge1+then-count-le3 x ↦ x.steady-is
             | else-count-ge1 x ↦ elim x.else-count-ge1.branch [
               | else-count-ge1-via-then-count-ge1+else-count-le3 y ↦
-                  let no = y.if-count-le3.false in absurd (omega (arith, is, some, less, no))
+                  let no = y.if-count-le3.false in absurd (omega (arith, is, placed, no))
               | else-count-ge1-via-else-count-ge1 y ↦
-                  let no = y.if-count-ge1.false in absurd (omega (arith, is, some, less, no))
+                  let no = y.if-count-ge1.false in absurd (omega (arith, is, placed, no))
             ]
           ] in
           let counts = are.displaced.cells_count in (

@@ -44,12 +44,6 @@ loop-i-preserved c =
     let next_cell = sum-next cells i (omega (arith, below, few, told)) in
     let at_next : c.loop-i.at + c.from-at.result ≡ sum_to runs (i + 1) = omega (arith, at, run_is, next) in
     let cell_next : c.loop-i.cell + c.from-cell.result ≡ sum_to cells (i + 1) = omega (arith, cell, cell_is, next_cell) in
-    let at_few = v.at_few in
-    let cell_few = v.cell_few in
-    let early_few = v.early_few in
-    let early_cells_few = v.early_cells_few in
-    let late_few = v.late_few in
-    let late_cells_few = v.late_cells_few in
     record {
       at_is = at_next;
       cell_is = cell_next;
@@ -69,23 +63,23 @@ loop-i-preserved c =
         | then-i-runs w ↦ late-more cells (length runs) i c.loop-i.late_cells (c.loop-i.cell + c.from-cell.result) c.if-i-runs.late_cells (omega (arith, many)) w.if-i-runs.true v.late_cells_is cell_next w.late_cells-is
         | else-i-runs w ↦ late-stays cells (length runs) i c.loop-i.late_cells c.if-i-runs.late_cells w.if-i-runs.false v.late_cells_is w.late_cells-is
       ];
-      at_few = let f = c.from-at.type_inv in omega (arith, at_few, run_is, f);
-      cell_few = let f = c.from-cell.type_inv in omega (arith, cell_few, cell_is, f);
+      at_few = let f = c.from-at.type_inv in omega (arith, v, run_is, f);
+      cell_few = let f = c.from-cell.type_inv in omega (arith, v, cell_is, f);
       early_few = elim c.if-i-lt-ENDS.branch [
-        | then-i-lt-ENDS w ↦ let e = w.early-is in omega (arith, early_few, at_few, e, below, few)
-        | else-i-lt-ENDS w ↦ let e = w.early-is in omega (arith, early_few, e)
+        | then-i-lt-ENDS w ↦ let e = w.early-is in omega (arith, v, e, below, few)
+        | else-i-lt-ENDS w ↦ let e = w.early-is in omega (arith, v, e)
       ];
       early_cells_few = elim c.if-i-lt-ENDS.branch [
-        | then-i-lt-ENDS w ↦ let e = w.early_cells-is in omega (arith, early_cells_few, cell_few, e, below, few)
-        | else-i-lt-ENDS w ↦ let e = w.early_cells-is in omega (arith, early_cells_few, e)
+        | then-i-lt-ENDS w ↦ let e = w.early_cells-is in omega (arith, v, e, below, few)
+        | else-i-lt-ENDS w ↦ let e = w.early_cells-is in omega (arith, v, e)
       ];
       late_few = elim c.if-i-runs.branch [
-        | then-i-runs w ↦ let e = w.late-is in let f = c.from-at.type_inv in omega (arith, late_few, at_few, run_is, f, e, below, few)
-        | else-i-runs w ↦ let e = w.late-is in omega (arith, late_few, e)
+        | then-i-runs w ↦ let e = w.late-is in let f = c.from-at.type_inv in omega (arith, v, run_is, f, e, below, few)
+        | else-i-runs w ↦ let e = w.late-is in omega (arith, v, e)
       ];
       late_cells_few = elim c.if-i-runs.branch [
-        | then-i-runs w ↦ let e = w.late_cells-is in let f = c.from-cell.type_inv in omega (arith, late_cells_few, cell_few, cell_is, f, e, below, few)
-        | else-i-runs w ↦ let e = w.late_cells-is in omega (arith, late_cells_few, e)
+        | then-i-runs w ↦ let e = w.late_cells-is in let f = c.from-cell.type_inv in omega (arith, v, cell_is, f, e, below, few)
+        | else-i-runs w ↦ let e = w.late_cells-is in omega (arith, v, e)
       ];
     }
 

@@ -20,12 +20,10 @@ loop-i-preserved c =
     let v = c.loop-i.invariant in
     let put = c.put_places-count.ensures in
     let most = v.most in
-    let more = put.most in
-    let least = put.least in
     let within = c.loop-i-test.true in
-    let same : c.put_places-count.result - 1 + 1 ≡ c.put_places-count.result = omega (arith, least) in
+    let same : c.put_places-count.result - 1 + 1 ≡ c.put_places-count.result = omega (arith, put) in
     record {
-      most = omega (arith, most, more);
+      most = omega (arith, most, put);
       bit = omega arith;
       level = level-next (level_if c.args.high) c.args.words.now c.loop-i.i within
           (let f = c.type_inv.words c.loop-i.i in omega (arith, f));

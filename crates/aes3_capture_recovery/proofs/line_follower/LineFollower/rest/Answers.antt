@@ -6,7 +6,5 @@ pub returns-then-from-period-clause-told : goal.returns-then-from-period-clause-
 returns-then-from-period-clause-told g c =
     let f = c.args.self.now.follower in
     let longest = f.longest in
-    let slim = f.bounds.slim in
-    let most = f.bounds.most in
     none-told c.args.self.now c.args.sink.now tt
-    (omega (arith, c.if-from-period.true, c.from.ensures, c.waiting.ensures, c.period.ensures, longest, slim, most))
+    (omega (arith, c.if-from-period.true, c.from.ensures, c.waiting.ensures, c.period.ensures, longest, f.bounds))

@@ -1,5 +1,8 @@
-use Rattle.std.proofs.Common.{◌≡◌, ◌<◌, ◌+◌, ◌^◌, ◌++◌, [], inl, inr, refl, sym, ap, ◌∙◌, not, arith}
+use Rattle.std.proofs.Common.{ℕ, List, IfOk, ◌≡◌, ◌<◌, ◌+◌, ◌^◌, ◌++◌, [], inl, inr, refl, sym, ap, ◌∙◌, not, arith}
+use Rattle.aes3_level.specs.declared.level.Level.{Level}
 use Rattle.aes3_level.specs.Words.{low_cells}
+use Rattle.aes3_capture.specs.declared.follower.Follower.{Follower}
+use Rattle.aes3_capture_recovery.specs.LineFollowing.{Followed}
 use Rattle.aes3_capture_recovery.specs.Runs.{levels_in}
 use Rattle.aes3_capture_recovery.specs.declared.recovery.State.TheVariants.{Following}
 use Rattle.aes3_capture_recovery.proofs.Awaiting.{awaits-edge, awaits-finds, awaits-joins, awaits-rest-ok, awaits-starts, awaits-word, measured-once}
@@ -8,8 +11,10 @@ use Rattle.aes3_capture_recovery.proofs.Beginning.{began-edge, began-ok, began-o
 use Rattle.aes3_capture_recovery.proofs.Followed.{captured-late, followed-begins, followed-edge, followed-rest, gives-ok}
 use Rattle.aes3_capture_recovery.proofs.Joining.{joined-gives, lasting-ok}
 use Rattle.aes3_capture_recovery.proofs.OnLine.{on-line-edge, on-line-end, on-line-same}
-use Rattle.aes3_capture_recovery.proofs.Recovering.{recovered-edge, recovered-rest-ok, recovered-word, turned-ended}
+use Rattle.aes3_capture_recovery.proofs.Recovering.{keeps-told, recovered-edge, recovered-rest-ok, recovered-word, turned-ended}
 use Rattle.aes3_capture_recovery.proofs.States.{begun-more, following-or}
+use Rattle.aes3_capture_recovery.proofs.recovery.Recovery.take.Given.{Over}
+use Rattle.aes3_capture_recovery.proofs.recovery.Recovery.take.Goals.{After-rest, In_ok-edge}
 use Rattle.aes3_capture_recovery.proofs.recovery.Recovery.take.Goals as goal
 
 pub loop-run-init : goal.loop-run-init
@@ -50,6 +55,17 @@ loop-run-init g c = record {
       });
 }
 
+edge-followed : (g : Over) (c : In_ok-edge g) → c.loop-run.self.state ≡ Following
+    → (begun : List ℕ) (front : List Level) (first : Follower) (before : Level) (since : List Level)
+    → Followed (g.T.Sink.taken c.loop-run.sink) begun front c.loop-run.self.line first before since (levels_in c.loop-run.piece)
+    → Followed (g.T.Sink.taken c.edge.new.sink) begun front c.edge.new.self.line first before since
+    (levels_in c.next_edge.new.piece)
+edge-followed g c follows begun front first before since f =
+    followed-edge c.loop-run.self.line c.next_edge.new.self c.edge.new.self.line c.loop-run.sink c.edge.new.sink tt begun front
+    first before since c.loop-run.piece c.next_edge.new.piece c.in-Some.run' c.loop-run.piece.few c.in-Some.ensures.edge
+    c.next_edge.ensures.follower c.next_edge.ensures.queue (not c.is_high-high.result) (ap not c.is_high-high.ensures)
+    (c.in_ok-edge.ensures.told follows) f
+
 pub loop-run-preserved : goal.loop-run-preserved
 loop-run-preserved g c =
     let up1 = c.loop-run.invariant.up in
@@ -72,11 +88,7 @@ loop-run-preserved g c =
             | inl e ↦ e
             | inr n ↦ let more = c.edge.ensures.begun n is room2 in absurd (omega (arith, more, same, kept))
           ] in
-          followed-edge c.loop-run.self.line c.next_edge.new.self c.edge.new.self.line c.loop-run.sink c.edge.new.sink
-          tt begun front first before (seen ++ low_cells c.args.len c.args.levels) c.loop-run.piece
-          c.next_edge.new.piece c.in-Some.run' c.loop-run.piece.few c.in-Some.ensures.edge
-          c.next_edge.ensures.follower c.next_edge.ensures.queue
-          (not c.is_high-high.result) (ap not c.is_high-high.ensures) (c.in_ok-edge.ensures.told follows)
+          edge-followed g (goal.at.loop-run-preserved g c).In_ok-edge follows begun front first before (seen ++ low_cells c.args.len c.args.levels)
           (c.loop-run.invariant.followed was follows kept room some begun front first before seen w);
       recovered = λ setting seen w.
           let old = c.loop-run.self in
@@ -86,16 +98,7 @@ loop-run-preserved g c =
           recovered-edge (g.T.Sink.taken c.loop-run.sink) (g.T.Sink.taken c.edge.new.sink) setting
           (seen ++ low_cells c.args.len c.args.levels) c.loop-run.piece c.next_edge.new.piece c.in-Some.run' old _
           c.edge.new.self c.loop-run.piece.few edge
-          (record {
-            found_is = refl;
-            known_is = refl;
-            held_is = refl;
-            count_is = refl;
-            runs_are = refl;
-            measured_is = refl;
-            queue_is = c.next_edge.ensures.queue;
-            follower_is = c.next_edge.ensures.follower;
-          })
+          (keeps-told _ _ refl refl refl refl refl refl c.next_edge.ensures.queue c.next_edge.ensures.follower)
           refl c.edge.ensures.edges c.edge.ensures.samples
           (λ level done past h e. c.in_ok-edge.ensures.stands setting level done past h (turned.0 ∙ e) turned.1)
           (c.loop-run.invariant.recovered setting seen w);
@@ -114,16 +117,7 @@ loop-run-preserved g c =
                 c.next_edge.new.piece c.in-Some.run' (not c.is_high-high.result) edge (ap not c.is_high-high.ensures) in
                 began-edge (g.T.Sink.taken c.loop-run.sink) (g.T.Sink.taken c.edge.new.sink) setting levels
                 c.loop-run.piece c.next_edge.new.piece c.in-Some.run' old _ c.edge.new.self c.loop-run.piece.few edge
-                (record {
-                  found_is = refl;
-                  known_is = refl;
-                  held_is = refl;
-                  count_is = refl;
-                  runs_are = refl;
-                  measured_is = refl;
-                  queue_is = c.next_edge.ensures.queue;
-                  follower_is = c.next_edge.ensures.follower;
-                })
+                (keeps-told _ _ refl refl refl refl refl refl c.next_edge.ensures.queue c.next_edge.ensures.follower)
                 refl c.edge.ensures.edges
                 (λ level done past h e. c.in_ok-edge.ensures.begins unfound is setting level done past h (turned.0 ∙ e)
                 turned.1)
@@ -141,12 +135,7 @@ loop-run-preserved g c =
                 ] in
                 began-on (g.T.Sink.taken c.loop-run.sink) (g.T.Sink.taken c.edge.new.sink) setting levels
                 (levels_in c.loop-run.piece) (levels_in c.next_edge.new.piece) old c.edge.new.self
-                (λ front first before since f.
-                followed-edge old.line c.next_edge.new.self c.edge.new.self.line c.loop-run.sink c.edge.new.sink
-                tt setting.begun front first before since c.loop-run.piece
-                c.next_edge.new.piece c.in-Some.run' c.loop-run.piece.few c.in-Some.ensures.edge
-                c.next_edge.ensures.follower c.next_edge.ensures.queue
-                (not c.is_high-high.result) (ap not c.is_high-high.ensures) (c.in_ok-edge.ensures.told follows) f)
+                (edge-followed g (goal.at.loop-run-preserved g c).In_ok-edge follows setting.begun)
                 (c.loop-run.invariant.begins none follows once setting seen w)
           ];
       awaits = λ setting seen a.
@@ -157,28 +146,14 @@ loop-run-preserved g c =
           awaits-edge (g.T.Sink.taken c.loop-run.sink) (g.T.Sink.taken c.edge.new.sink) setting
           (seen ++ low_cells c.args.len c.args.levels) c.loop-run.piece c.next_edge.new.piece c.in-Some.run' old _
           c.edge.new.self c.edge.ensures.within c.loop-run.piece.few edge
-          (record {
-            found_is = refl;
-            known_is = refl;
-            held_is = refl;
-            count_is = refl;
-            runs_are = refl;
-            measured_is = refl;
-            queue_is = c.next_edge.ensures.queue;
-            follower_is = c.next_edge.ensures.follower;
-          })
+          (keeps-told _ _ refl refl refl refl refl refl c.next_edge.ensures.queue c.next_edge.ensures.follower)
           refl c.edge.ensures.edges c.edge.ensures.samples
           (λ level done past h e. c.in_ok-edge.ensures.stands setting level done past h (turned.0 ∙ e) turned.1)
           c.edge.ensures.still c.edge.ensures.gathers c.edge.ensures.starts c.edge.ensures.up
           (λ unfound is level done past h e. c.in_ok-edge.ensures.begins unfound is setting level done past h (turned.0 ∙ e)
           turned.1)
           (measured-once old c.edge.new.self c.edge.ensures.up c.edge.ensures.begun)
-          (λ follows front first before since f.
-          followed-edge old.line c.next_edge.new.self c.edge.new.self.line c.loop-run.sink c.edge.new.sink
-          tt setting.begun front first before since c.loop-run.piece
-          c.next_edge.new.piece c.in-Some.run' c.loop-run.piece.few c.in-Some.ensures.edge
-          c.next_edge.ensures.follower c.next_edge.ensures.queue
-          (not c.is_high-high.result) (ap not c.is_high-high.ensures) (c.in_ok-edge.ensures.told follows) f)
+          (λ follows. edge-followed g (goal.at.loop-run-preserved g c).In_ok-edge follows setting.begun)
           refl (λ follows narrow spread ahead k. c.in_ok-edge.ensures.stays follows narrow spread ahead k)
           (c.loop-run.invariant.awaits setting seen a);
       stays = λ narrow spread more w.
@@ -189,14 +164,21 @@ loop-run-preserved g c =
           record { on = next.on; measured = next.measured ∙ before.measured };
     }
 
+rest-followed : (g : Over) (c : After-rest g) → c.rest.new.self.state ≡ Following
+    → (begun : List ℕ) (front : List Level) (first : Follower) (before : Level) (since : List Level)
+    → Followed (g.T.Sink.taken c.loop-run.sink) begun front c.loop-run.self.line first before since (levels_in c.loop-run.piece)
+    → IfOk c.rest.result (λ x. Followed (g.T.Sink.taken c.rest.new.sink) begun front c.rest.new.self.line first before since [])
+rest-followed g c is begun front first before since f =
+    followed-rest c.loop-run.self.line c.next_edge.new.self c.rest.new.self.line c.loop-run.sink c.rest.new.sink c.rest.result
+    begun front first before since c.loop-run.piece c.loop-run.piece.few c.in_default.ensures.rest
+    c.next_edge.ensures.follower c.next_edge.ensures.queue (c.rest.ensures.told is) f
+
 pub returns-clause-follows : goal.returns-clause-follows
 returns-clause-follows g c = λ was is same room some begun front first before seen w.
     let kept : c.loop-run.self.figures.measured ≡ c.args.self.now.figures.measured
     = sym c.rest.ensures.measured ∙ same in
-    followed-rest c.loop-run.self.line c.next_edge.new.self c.rest.new.self.line c.loop-run.sink c.rest.new.sink
-    c.rest.result begun front first before (seen ++ low_cells c.args.len c.args.levels) c.loop-run.piece
-    c.loop-run.piece.few c.in_default.ensures.rest c.next_edge.ensures.follower c.next_edge.ensures.queue
-    (c.rest.ensures.told is)
+    rest-followed g (goal.at.returns-clause-follows g c).After-rest is begun front first before
+    (seen ++ low_cells c.args.len c.args.levels)
     (c.loop-run.invariant.followed was (c.rest.ensures.state is) kept room some begun front first before seen w)
 
 pub returns-clause-mean : goal.returns-clause-mean
@@ -219,16 +201,7 @@ returns-clause-recovered g c = λ setting seen w.
     recovered-rest-ok (g.T.Sink.taken c.loop-run.sink) (g.T.Sink.taken c.rest.new.sink) setting
     (seen ++ low_cells c.args.len c.args.levels) c.loop-run.piece c.loop-run.self _ c.rest.new.self c.rest.result
     c.loop-run.piece.few c.in_default.ensures.rest
-    (record {
-      found_is = refl;
-      known_is = refl;
-      held_is = refl;
-      count_is = refl;
-      runs_are = refl;
-      measured_is = refl;
-      queue_is = c.next_edge.ensures.queue;
-      follower_is = c.next_edge.ensures.follower;
-    })
+    (keeps-told _ _ refl refl refl refl refl refl c.next_edge.ensures.queue c.next_edge.ensures.follower)
     refl c.rest.ensures.high c.rest.ensures.samples c.rest.ensures.short (c.rest.ensures.stands setting)
     (c.loop-run.invariant.recovered setting seen w)
 
@@ -241,11 +214,7 @@ returns-clause-begins g c = λ none is one setting seen w.
     let levels = seen ++ low_cells c.args.len c.args.levels in
     began-ok c.rest.result (g.T.Sink.taken c.loop-run.sink) (g.T.Sink.taken c.rest.new.sink) setting levels
     (levels_in c.loop-run.piece) [] c.loop-run.self c.rest.new.self
-    (λ front first before since f.
-    followed-rest c.loop-run.self.line c.next_edge.new.self c.rest.new.self.line c.loop-run.sink c.rest.new.sink
-    c.rest.result setting.begun front first before since c.loop-run.piece
-    c.loop-run.piece.few c.in_default.ensures.rest c.next_edge.ensures.follower c.next_edge.ensures.queue
-    (c.rest.ensures.told is) f)
+    (rest-followed g (goal.at.returns-clause-begins g c).After-rest is setting.begun)
     (c.loop-run.invariant.begins none (c.rest.ensures.state is) (sym c.rest.ensures.measured ∙ one) setting seen w)
 
 pub returns-clause-awaits : goal.returns-clause-awaits
@@ -253,26 +222,10 @@ returns-clause-awaits g c = λ setting seen a.
     awaits-rest-ok (g.T.Sink.taken c.loop-run.sink) (g.T.Sink.taken c.rest.new.sink) setting
     (seen ++ low_cells c.args.len c.args.levels) c.loop-run.piece c.loop-run.self _ c.rest.new.self c.rest.result
     c.loop-run.piece.few c.in_default.ensures.rest
-    (record {
-      found_is = refl;
-      known_is = refl;
-      held_is = refl;
-      count_is = refl;
-      runs_are = refl;
-      measured_is = refl;
-      queue_is = c.next_edge.ensures.queue;
-      follower_is = c.next_edge.ensures.follower;
-    })
+    (keeps-told _ _ refl refl refl refl refl refl c.next_edge.ensures.queue c.next_edge.ensures.follower)
     refl c.rest.ensures.high c.rest.ensures.samples c.rest.ensures.short (c.rest.ensures.stands setting)
     c.rest.ensures.alive c.rest.ensures.still c.rest.ensures.near c.rest.ensures.found c.rest.ensures.measured
-    (λ is. (
-      c.rest.ensures.state is,
-      λ front first before since f.
-          followed-rest c.loop-run.self.line c.next_edge.new.self c.rest.new.self.line c.loop-run.sink c.rest.new.sink
-          c.rest.result setting.begun front first before since c.loop-run.piece
-          c.loop-run.piece.few c.in_default.ensures.rest c.next_edge.ensures.follower c.next_edge.ensures.queue
-          (c.rest.ensures.told is) f,
-    ))
+    (λ is. (c.rest.ensures.state is, rest-followed g (goal.at.returns-clause-awaits g c).After-rest is setting.begun))
     refl c.rest.ensures.awake (c.loop-run.invariant.awaits setting seen a)
 
 pub returns-clause-finds : goal.returns-clause-finds
