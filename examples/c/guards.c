@@ -1,7 +1,8 @@
 /*
  * Each call of aes3.h that takes a pointer, with each object beside a page that nothing may touch. In one run every object ends
  * where such a page begins, in another it begins where such a page ends. An array has as many elements as the call is told or as
- * aes3.h says, some have none. The calls have to put what they put in ordinary memory. Status 1 if they do not.
+ * aes3.h says, some have none. A call that touches such a page ends the program by a signal. The calls have to put what they put
+ * in ordinary memory. Status 1 if they do not.
  */
 #ifndef _GNU_SOURCE
 #define _GNU_SOURCE
@@ -86,7 +87,7 @@ static void take_back(size_t keep) {
 /* ---- What the calls put ---- */
 
 /* All that they put in ordinary memory, one after the other, and how much of it this run put again. */
-static uint8_t known[1 << 26];
+static uint8_t known[1 << 24];
 static size_t known_len, met;
 
 static void note(int line, const void *what, size_t size) {
@@ -96,7 +97,7 @@ static void note(int line, const void *what, size_t size) {
         memcpy(known + known_len, what, size);
         known_len += size;
     } else if (known_len - met < size || memcmp(known + met, what, size) != 0) {
-        fprintf(stderr, "guards.c:%d: it is another beside a page\n", line);
+        fprintf(stderr, "guards.c:%d: beside a page it is something else\n", line);
         exit(1);
     }
     met += size;
@@ -108,11 +109,11 @@ static void note(int line, const void *what, size_t size) {
 static void note_number(int line, uint64_t number) { note(line, &number, sizeof number); }
 #define ANSWER(number) note_number(__LINE__, (number))
 
-static uint32_t number;
+static uint32_t seed;
 
 static uint32_t below(uint32_t limit) {
-    number = number * 1664525u + 1013904223u;
-    return (number >> 8) % limit;
+    seed = seed * 1664525 + 1013904223;
+    return (seed >> 8) % limit;
 }
 
 /* ---- A line ---- */
@@ -120,7 +121,7 @@ static uint32_t below(uint32_t limit) {
 enum { BLOCKS = 2, LINE = 30 * AES3_BLOCK_CELLS };
 
 static uint32_t blocks[BLOCKS][AES3_BLOCK_WORDS];
-static uint8_t line[LINE]; /* a cell each */
+static uint8_t cells_of_line[LINE];
 static size_t line_len;
 static uint8_t octets_of_line[LINE / 8];
 static uint64_t words_of_line[LINE / 64];
@@ -146,26 +147,26 @@ static void make_blocks(void) {
 
 static void add_cells(const char *cells) {
     for (; *cells; cells++)
-        line[line_len++] = *cells == '1';
+        cells_of_line[line_len++] = *cells == '1';
 }
 
 static void add_still(size_t count) {
     for (; count > 0; count--, line_len++)
-        line[line_len] = line[line_len - 1];
+        cells_of_line[line_len] = cells_of_line[line_len - 1];
 }
 
 static void add_noise(size_t count) {
     for (; count > 0; count--)
-        line[line_len++] = (uint8_t)below(2);
+        cells_of_line[line_len++] = (uint8_t)below(2);
 }
 
 /* The cells of a block after a cell of this level. Returns the first. */
 static uint8_t *add_block(int i, uint8_t before) {
     uint64_t cells[AES3_BLOCK_WORDS];
-    uint8_t *const first = line + line_len;
+    uint8_t *const first = cells_of_line + line_len;
     WANT(aes3_encode_block(blocks[i], before, cells) == AES3_BLOCK_WORDS);
     for (int j = 0; j < AES3_BLOCK_CELLS; j++)
-        line[line_len++] = cells[j / 64] >> j % 64 & 1;
+        cells_of_line[line_len++] = cells[j / 64] >> j % 64 & 1;
     return first;
 }
 
@@ -182,7 +183,7 @@ static void make_line(void) {
     add_cells("1010000");
     add_block(1, 0); /* the line slipped */
     lost = add_block(1, 0) + 5000;
-    memmove(lost, lost + 1, (size_t)(line + line_len - lost) - 1);
+    memmove(lost, lost + 1, (size_t)(cells_of_line + line_len - lost) - 1);
     line_len--;
     add_block(1, 0);
     add_block(1, 0)[AES3_BLOCK_CELLS - 1] ^= 1; /* a wrong parity bit: the line is inverted from here on */
@@ -200,8 +201,8 @@ static void make_line(void) {
     while (line_len % 8 == 0)
         line_len--;
     for (size_t i = 0; i < line_len; i++) {
-        octets_of_line[i / 8] = (uint8_t)(octets_of_line[i / 8] | line[i] << (7 - i % 8));
-        words_of_line[i / 64] |= (uint64_t)line[i] << i % 64;
+        octets_of_line[i / 8] = (uint8_t)(octets_of_line[i / 8] | cells_of_line[i] << (7 - i % 8));
+        words_of_line[i / 64] |= (uint64_t)cells_of_line[i] << i % 64;
     }
 }
 
@@ -373,7 +374,7 @@ static void test_line(void (*take)(void)) {
     }
     take();
     for (size_t at = (size_t)aes3_lock_seen(lock); at < line_len; at++)
-        word |= (uint64_t)line[at] << rest++;
+        word |= (uint64_t)cells_of_line[at] << rest++;
     push(word, rest);
     WANT(aes3_lock_seen(lock) == line_len);
     aes3_lock_finish(lock, report);
@@ -568,7 +569,7 @@ static uint8_t capture[2 * A_CELL * CAPTURED];
 static size_t make_capture(uint8_t unit, uint8_t bit) {
     memset(capture, 0, sizeof capture);
     for (size_t i = 0; i < A_CELL * CAPTURED; i++)
-        capture[unit * i + bit / 8] = (uint8_t)(line[i / A_CELL] << bit % 8);
+        capture[unit * i + bit / 8] = (uint8_t)(cells_of_line[i / A_CELL] << bit % 8);
     return (size_t)unit * A_CELL * CAPTURED;
 }
 
@@ -634,7 +635,7 @@ static void test_recovery(uint8_t unit, uint8_t bit, uint64_t period, size_t roo
 
 /* ---- WAV files ---- */
 
-/* A header as far as it is there, to no octet, and with each octet wrong. */
+/* The first octets of a header, from none to all of them; then all, with each of them wrong in turn. */
 static void test_wav_header(uint8_t bits, uint64_t frames) {
     uint8_t *const header = GIVE(uint8_t, AES3_WAV_OCTETS);
     aes3_wav *const wav = GIVE(aes3_wav, 1);
@@ -685,7 +686,7 @@ static void run(enum place where) {
     static void (*const takes[])(void) = {take_octets, take_cells, take_words};
     place = where;
     met = 0;
-    number = 1;
+    seed = 1;
     for (int i = 0; i < 3; i++)
         test_line(takes[i]);
     test_block();
