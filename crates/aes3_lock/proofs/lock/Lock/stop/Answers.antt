@@ -15,14 +15,7 @@ use Rattle.std.proofs.lemmas.Option.{same_Some}
 pub returns-clause-follows : goal.returns-clause-follows
 returns-clause-follows c = λ l f p.
     let s = subst (λ k. Stops k c.args.cell) (sym c.self.view_is) p in
-    (push-last _ (record {
-      seen = c.self.inside.seen + 1;
-      recent = low_cells 8 c.with_cell-self-inside.result;
-      candidate = c.candidate_in-self-inside.result;
-      subframe = c.from-self-inside.result;
-      words = c.self.inside.words;
-    })
-    s.in_hand l c.args.cell (subst (λ k. Follows k l) (sym c.self.view_is) f) c.self.invariant.1 s.is s.stop
+    (push-last _ _ s.in_hand l c.args.cell (subst (λ k. Follows k l) (sym c.self.view_is) f) c.self.invariant.1 s.is s.stop
     refl c.with_cell-self-inside.ensures c.candidate_in-self-inside.ensures.value
     (ap (low_cells 8) (sym c.from-self-inside.ensures)) (let e = c.from-self-inside.ensures in omega (arith, e))).0
 
