@@ -24,52 +24,38 @@ unfolding bytes_field
 fields-back f fits len =
     let bytes = consumer_bytes f in
     let byte0 : get_or bytes 0 0 ≡ 2 * f.payload + 4 * f.copyright + 8 * f.emphasis + 64 * f.mode = refl in
-    let payload-fits : f.payload < 2 = fits.payload in
-    let copyright-fits : f.copyright < 2 = fits.copyright in
-    let emphasis-fits : f.emphasis < 8 = fits.emphasis in
-    let mode-fits : f.mode < 4 = fits.mode in
     let payload-is : payload bytes ≡ f.payload = field-in_byte bytes 0 1 1 (omega arith) (omega arith)
-    ∙ omega (arith, byte0, payload-fits, copyright-fits, emphasis-fits, mode-fits) in
+    ∙ omega (arith, byte0, fits) in
     let copyright-is : copyright bytes ≡ f.copyright = field-in_byte bytes 0 2 1 (omega arith) (omega arith)
-    ∙ omega (arith, byte0, payload-fits, copyright-fits, emphasis-fits, mode-fits) in
+    ∙ omega (arith, byte0, fits) in
     let emphasis-is : emphasis bytes ≡ f.emphasis = field-in_byte bytes 0 3 3 (omega arith) (omega arith)
-    ∙ omega (arith, byte0, payload-fits, copyright-fits, emphasis-fits, mode-fits) in
+    ∙ omega (arith, byte0, fits) in
     let mode-is : mode bytes ≡ f.mode = field-in_byte bytes 0 6 2 (omega arith) (omega arith)
-    ∙ omega (arith, byte0, payload-fits, copyright-fits, emphasis-fits, mode-fits) in
+    ∙ omega (arith, byte0, fits) in
     let byte1 : get_or bytes 1 0 ≡ 1 * f.category + 128 * f.generation = refl in
-    let category-fits : f.category < 128 = fits.category in
-    let generation-fits : f.generation < 2 = fits.generation in
     let category-is : category bytes ≡ f.category = field-in_byte bytes 1 0 7 (omega arith) (omega arith)
-    ∙ omega (arith, byte1, category-fits, generation-fits) in
+    ∙ omega (arith, byte1, fits) in
     let generation-is : generation bytes ≡ f.generation = field-in_byte bytes 1 7 1 (omega arith) (omega arith)
-    ∙ omega (arith, byte1, category-fits, generation-fits) in
+    ∙ omega (arith, byte1, fits) in
     let byte2 : get_or bytes 2 0 ≡ 1 * f.source + 16 * f.number = refl in
-    let source-fits : f.source < 16 = fits.source in
-    let number-fits : f.number < 16 = fits.number in
     let source-is : source bytes ≡ f.source = field-in_byte bytes 2 0 4 (omega arith) (omega arith)
-    ∙ omega (arith, byte2, source-fits, number-fits) in
+    ∙ omega (arith, byte2, fits) in
     let number-is : number bytes ≡ f.number = field-in_byte bytes 2 4 4 (omega arith) (omega arith)
-    ∙ omega (arith, byte2, source-fits, number-fits) in
+    ∙ omega (arith, byte2, fits) in
     let byte3 : get_or bytes 3 0 ≡ 1 * f.rate + 16 * f.accuracy + 64 * f.b3high = refl in
-    let rate-fits : f.rate < 16 = fits.rate in
-    let accuracy-fits : f.accuracy < 4 = fits.accuracy in
-    let b3high-fits : f.b3high < 4 = fits.b3high in
     let rate-is : rate bytes ≡ f.rate = field-in_byte bytes 3 0 4 (omega arith) (omega arith)
-    ∙ omega (arith, byte3, rate-fits, accuracy-fits, b3high-fits) in
+    ∙ omega (arith, byte3, fits) in
     let accuracy-is : accuracy bytes ≡ f.accuracy = field-in_byte bytes 3 4 2 (omega arith) (omega arith)
-    ∙ omega (arith, byte3, rate-fits, accuracy-fits, b3high-fits) in
+    ∙ omega (arith, byte3, fits) in
     let b3high-is : b3high bytes ≡ f.b3high = field-in_byte bytes 3 6 2 (omega arith) (omega arith)
-    ∙ omega (arith, byte3, rate-fits, accuracy-fits, b3high-fits) in
+    ∙ omega (arith, byte3, fits) in
     let byte4 : get_or bytes 4 0 ≡ 1 * f.greatest + 2 * f.word + 16 * f.original = refl in
-    let greatest-fits : f.greatest < 2 = fits.greatest in
-    let word-fits : f.word < 8 = fits.word in
-    let original-fits : f.original < 16 = fits.original in
     let greatest-is : greatest bytes ≡ f.greatest = field-in_byte bytes 4 0 1 (omega arith) (omega arith)
-    ∙ omega (arith, byte4, greatest-fits, word-fits, original-fits) in
+    ∙ omega (arith, byte4, fits) in
     let word-is : word bytes ≡ f.word = field-in_byte bytes 4 1 3 (omega arith) (omega arith)
-    ∙ omega (arith, byte4, greatest-fits, word-fits, original-fits) in
+    ∙ omega (arith, byte4, fits) in
     let original-is : original bytes ≡ f.original = field-in_byte bytes 4 4 4 (omega arith) (omega arith)
-    ∙ omega (arith, byte4, greatest-fits, word-fits, original-fits) in
+    ∙ omega (arith, byte4, fits) in
     let rest-is : rest bytes ≡ f.rest = take_all 19 f.rest (omega (arith, len)) in
     rw (
       payload-is,

@@ -27,9 +27,7 @@ low n = omega arith
 behind-small : (f : Aes3Professional) (check : ℕ) → ProfessionalFits f → check < 256
     → EachSmall (drop 18 (professional_bytes f check))
 behind-small f check fits c =
-    let unreliable-fits : f.unreliable < 16 = fits.unreliable in
-    let b22low-fits : f.b22low < 16 = fits.b22low in
-    let byte22 : 1 * f.b22low + 16 * f.unreliable < 256 = omega (arith, b22low-fits, unreliable-fits) in
+    let byte22 : 1 * f.b22low + 16 * f.unreliable < 256 = omega (arith, fits) in
     (low f.time, (low (f.time / 256), (low (f.time / 256 / 256), (low (f.time / 256 / 256 / 256), (byte22, (c, tt))))))
 
 pub bytes-professional : (f : Aes3Professional) (check : ℕ) → is_professional (professional_bytes f check) ≡ true
@@ -46,35 +44,26 @@ unfolding bytes_field
 fields-back f check fits are small =
     let bytes = professional_bytes f check in
     let byte0 : get_or bytes 0 0 ≡ 1 + 2 * f.payload + 4 * f.emphasis + 32 * f.unlocked + 64 * f.rate = refl in
-    let payload-fits : f.payload < 2 = fits.payload in
-    let emphasis-fits : f.emphasis < 8 = fits.emphasis in
-    let unlocked-fits : f.unlocked < 2 = fits.unlocked in
-    let rate-fits : f.rate < 4 = fits.rate in
     let payload-is : payload bytes ≡ f.payload = field-in_byte bytes 0 1 1 (omega arith) (omega arith)
-    ∙ omega (arith, byte0, payload-fits, emphasis-fits, unlocked-fits, rate-fits) in
+    ∙ omega (arith, byte0, fits) in
     let emphasis-is : emphasis bytes ≡ f.emphasis = field-in_byte bytes 0 2 3 (omega arith) (omega arith)
-    ∙ omega (arith, byte0, payload-fits, emphasis-fits, unlocked-fits, rate-fits) in
+    ∙ omega (arith, byte0, fits) in
     let unlocked-is : unlocked bytes ≡ f.unlocked = field-in_byte bytes 0 5 1 (omega arith) (omega arith)
-    ∙ omega (arith, byte0, payload-fits, emphasis-fits, unlocked-fits, rate-fits) in
+    ∙ omega (arith, byte0, fits) in
     let rate-is : rate bytes ≡ f.rate = field-in_byte bytes 0 6 2 (omega arith) (omega arith)
-    ∙ omega (arith, byte0, payload-fits, emphasis-fits, unlocked-fits, rate-fits) in
+    ∙ omega (arith, byte0, fits) in
     let byte1 : get_or bytes 1 0 ≡ 1 * f.mode + 16 * f.user = refl in
-    let mode-fits : f.mode < 16 = fits.mode in
-    let user-fits : f.user < 16 = fits.user in
     let mode-is : mode bytes ≡ f.mode = field-in_byte bytes 1 0 4 (omega arith) (omega arith)
-    ∙ omega (arith, byte1, mode-fits, user-fits) in
+    ∙ omega (arith, byte1, fits) in
     let user-is : user bytes ≡ f.user = field-in_byte bytes 1 4 4 (omega arith) (omega arith)
-    ∙ omega (arith, byte1, mode-fits, user-fits) in
+    ∙ omega (arith, byte1, fits) in
     let byte2 : get_or bytes 2 0 ≡ 1 * f.aux + 8 * f.word + 64 * f.b2high = refl in
-    let aux-fits : f.aux < 8 = fits.aux in
-    let word-fits : f.word < 8 = fits.word in
-    let b2high-fits : f.b2high < 4 = fits.b2high in
     let aux-is : aux bytes ≡ f.aux = field-in_byte bytes 2 0 3 (omega arith) (omega arith)
-    ∙ omega (arith, byte2, aux-fits, word-fits, b2high-fits) in
+    ∙ omega (arith, byte2, fits) in
     let word-is : word bytes ≡ f.word = field-in_byte bytes 2 3 3 (omega arith) (omega arith)
-    ∙ omega (arith, byte2, aux-fits, word-fits, b2high-fits) in
+    ∙ omega (arith, byte2, fits) in
     let b2high-is : b2high bytes ≡ f.b2high = field-in_byte bytes 2 6 2 (omega arith) (omega arith)
-    ∙ omega (arith, byte2, aux-fits, word-fits, b2high-fits) in
+    ∙ omega (arith, byte2, fits) in
     let b3-is : b3 bytes ≡ f.b3 = field-in_byte bytes 3 0 8 (omega arith) (omega arith)
     ∙ (let n : f.b3 < 256 = are.b3 in let e : f.b3 / 1 % 256 ≡ f.b3 = omega (arith, n) in e) in
     let b4-is : b4 bytes ≡ f.b4 = field-in_byte bytes 4 0 8 (omega arith) (omega arith)
@@ -82,12 +71,10 @@ fields-back f check fits are small =
     let b5-is : b5 bytes ≡ f.b5 = field-in_byte bytes 5 0 8 (omega arith) (omega arith)
     ∙ (let n : f.b5 < 256 = are.b5 in let e : f.b5 / 1 % 256 ≡ f.b5 = omega (arith, n) in e) in
     let byte22 : get_or bytes 22 0 ≡ 1 * f.b22low + 16 * f.unreliable = refl in
-    let b22low-fits : f.b22low < 16 = fits.b22low in
-    let unreliable-fits : f.unreliable < 16 = fits.unreliable in
     let b22low-is : b22low bytes ≡ f.b22low = field-in_byte bytes 22 0 4 (omega arith) (omega arith)
-    ∙ omega (arith, byte22, b22low-fits, unreliable-fits) in
+    ∙ omega (arith, byte22, fits) in
     let unreliable-is : unreliable bytes ≡ f.unreliable = field-in_byte bytes 22 4 4 (omega arith) (omega arith)
-    ∙ omega (arith, byte22, b22low-fits, unreliable-fits) in
+    ∙ omega (arith, byte22, fits) in
     let origin-is : origin bytes ≡ f.origin = sym (all-items 4 f.origin are.origin) in
     let destination-is : destination bytes ≡ f.destination = sym (all-items 4 f.destination are.destination) in
     let tail = behind-small f check fits small in
