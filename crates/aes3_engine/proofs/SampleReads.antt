@@ -791,7 +791,7 @@ module _ (pcm : SampleFormat) (exact : Bool) (form : Words) (change : Change) (s
     grew-none refl,
   )
 
--- bytes put behind the bytes that were held
+-- bytes put after the bytes that were held
 pub put-behind : (at n : ℕ) (begun xs new : List ℕ) → n ≤ length xs → at + n ≤ length begun → new ≡ take n xs
     → (take (at + n) (put_mid at (at + n - at) begun new) ≡ take at begun ++ take n xs)
     × (length (take at begun ++ take n xs) ≡ at + n)
