@@ -24,85 +24,38 @@ unfolding bytes_field
 fields-back f fits len =
     let bytes = consumer_bytes f in
     let byte0 : get_or bytes 0 0 ≡ 2 * f.payload + 4 * f.copyright + 8 * f.emphasis + 64 * f.mode = refl in
-    let payload-fits : f.payload < 2 = fits.payload in
-    let copyright-fits : f.copyright < 2 = fits.copyright in
-    let emphasis-fits : f.emphasis < 8 = fits.emphasis in
-    let mode-fits : f.mode < 4 = fits.mode in
     let payload-is : payload bytes ≡ f.payload = field-in_byte bytes 0 1 1 (omega arith) (omega arith)
-    ∙ (let e : get_or bytes 0 0 / 2 % 2 ≡ f.payload = omega (
-      arith,
-      byte0,
-      payload-fits,
-      copyright-fits,
-      emphasis-fits,
-      mode-fits,
-    ) in e) in
+    ∙ omega (arith, byte0, fits) in
     let copyright-is : copyright bytes ≡ f.copyright = field-in_byte bytes 0 2 1 (omega arith) (omega arith)
-    ∙ (let e : get_or bytes 0 0 / 4 % 2 ≡ f.copyright = omega (
-      arith,
-      byte0,
-      payload-fits,
-      copyright-fits,
-      emphasis-fits,
-      mode-fits,
-    ) in e) in
+    ∙ omega (arith, byte0, fits) in
     let emphasis-is : emphasis bytes ≡ f.emphasis = field-in_byte bytes 0 3 3 (omega arith) (omega arith)
-    ∙ (let e : get_or bytes 0 0 / 8 % 8 ≡ f.emphasis = omega (
-      arith,
-      byte0,
-      payload-fits,
-      copyright-fits,
-      emphasis-fits,
-      mode-fits,
-    ) in e) in
+    ∙ omega (arith, byte0, fits) in
     let mode-is : mode bytes ≡ f.mode = field-in_byte bytes 0 6 2 (omega arith) (omega arith)
-    ∙ (let e : get_or bytes 0 0 / 64 % 4 ≡ f.mode = omega (
-      arith,
-      byte0,
-      payload-fits,
-      copyright-fits,
-      emphasis-fits,
-      mode-fits,
-    ) in e) in
+    ∙ omega (arith, byte0, fits) in
     let byte1 : get_or bytes 1 0 ≡ 1 * f.category + 128 * f.generation = refl in
-    let category-fits : f.category < 128 = fits.category in
-    let generation-fits : f.generation < 2 = fits.generation in
     let category-is : category bytes ≡ f.category = field-in_byte bytes 1 0 7 (omega arith) (omega arith)
-    ∙ (let e : get_or bytes 1 0 / 1 % 128 ≡ f.category = omega (arith, byte1, category-fits, generation-fits) in e) in
+    ∙ omega (arith, byte1, fits) in
     let generation-is : generation bytes ≡ f.generation = field-in_byte bytes 1 7 1 (omega arith) (omega arith)
-    ∙ (let e : get_or bytes 1 0 / 128 % 2 ≡ f.generation = omega (arith, byte1, category-fits, generation-fits) in e) in
+    ∙ omega (arith, byte1, fits) in
     let byte2 : get_or bytes 2 0 ≡ 1 * f.source + 16 * f.number = refl in
-    let source-fits : f.source < 16 = fits.source in
-    let number-fits : f.number < 16 = fits.number in
     let source-is : source bytes ≡ f.source = field-in_byte bytes 2 0 4 (omega arith) (omega arith)
-    ∙ (let e : get_or bytes 2 0 / 1 % 16 ≡ f.source = omega (arith, byte2, source-fits, number-fits) in e) in
+    ∙ omega (arith, byte2, fits) in
     let number-is : number bytes ≡ f.number = field-in_byte bytes 2 4 4 (omega arith) (omega arith)
-    ∙ (let e : get_or bytes 2 0 / 16 % 16 ≡ f.number = omega (arith, byte2, source-fits, number-fits) in e) in
+    ∙ omega (arith, byte2, fits) in
     let byte3 : get_or bytes 3 0 ≡ 1 * f.rate + 16 * f.accuracy + 64 * f.b3high = refl in
-    let rate-fits : f.rate < 16 = fits.rate in
-    let accuracy-fits : f.accuracy < 4 = fits.accuracy in
-    let b3high-fits : f.b3high < 4 = fits.b3high in
     let rate-is : rate bytes ≡ f.rate = field-in_byte bytes 3 0 4 (omega arith) (omega arith)
-    ∙ (let e : get_or bytes 3 0 / 1 % 16 ≡ f.rate = omega (arith, byte3, rate-fits, accuracy-fits, b3high-fits) in e) in
+    ∙ omega (arith, byte3, fits) in
     let accuracy-is : accuracy bytes ≡ f.accuracy = field-in_byte bytes 3 4 2 (omega arith) (omega arith)
-    ∙ (let e : get_or bytes 3 0 / 16 % 4 ≡ f.accuracy = omega (arith, byte3, rate-fits, accuracy-fits, b3high-fits) in
-    e) in
+    ∙ omega (arith, byte3, fits) in
     let b3high-is : b3high bytes ≡ f.b3high = field-in_byte bytes 3 6 2 (omega arith) (omega arith)
-    ∙ (let e : get_or bytes 3 0 / 64 % 4 ≡ f.b3high = omega (arith, byte3, rate-fits, accuracy-fits, b3high-fits) in
-    e) in
+    ∙ omega (arith, byte3, fits) in
     let byte4 : get_or bytes 4 0 ≡ 1 * f.greatest + 2 * f.word + 16 * f.original = refl in
-    let greatest-fits : f.greatest < 2 = fits.greatest in
-    let word-fits : f.word < 8 = fits.word in
-    let original-fits : f.original < 16 = fits.original in
     let greatest-is : greatest bytes ≡ f.greatest = field-in_byte bytes 4 0 1 (omega arith) (omega arith)
-    ∙ (let e : get_or bytes 4 0 / 1 % 2 ≡ f.greatest = omega (arith, byte4, greatest-fits, word-fits, original-fits)
-    in e) in
+    ∙ omega (arith, byte4, fits) in
     let word-is : word bytes ≡ f.word = field-in_byte bytes 4 1 3 (omega arith) (omega arith)
-    ∙ (let e : get_or bytes 4 0 / 2 % 8 ≡ f.word = omega (arith, byte4, greatest-fits, word-fits, original-fits) in e)
-    in
+    ∙ omega (arith, byte4, fits) in
     let original-is : original bytes ≡ f.original = field-in_byte bytes 4 4 4 (omega arith) (omega arith)
-    ∙ (let e : get_or bytes 4 0 / 16 % 16 ≡ f.original = omega (arith, byte4, greatest-fits, word-fits, original-fits)
-    in e) in
+    ∙ omega (arith, byte4, fits) in
     let rest-is : rest bytes ≡ f.rest = take_all 19 f.rest (omega (arith, len)) in
     rw (
       payload-is,
@@ -142,7 +95,6 @@ unfolding bytes_field
 bytes-back bytes h small kind =
     let none : get_or bytes 0 0 / 1 % 2 ≡ 0 = even (get_or bytes 0 0 / 1)
     (ap (λ n. eqb n 1) (sym (field-in_byte bytes 0 0 1 (omega arith) (omega arith))) ∙ kind) in
-    let small0 : get_or bytes 0 0 < 256 = small 0 in
     let payload-is : payload bytes ≡ get_or bytes 0 0 / 2 % 2 = field-in_byte bytes 0 1 1 (omega arith) (omega arith) in
     let copyright-is : copyright bytes ≡ get_or bytes 0 0 / 4 % 2
     = field-in_byte bytes 0 2 1 (omega arith) (omega arith) in
@@ -150,33 +102,29 @@ bytes-back bytes h small kind =
     = field-in_byte bytes 0 3 3 (omega arith) (omega arith) in
     let mode-is : mode bytes ≡ get_or bytes 0 0 / 64 % 4 = field-in_byte bytes 0 6 2 (omega arith) (omega arith) in
     let e0 : get_or bytes 0 0 ≡ 2 * payload bytes + 4 * copyright bytes + 8 * emphasis bytes + 64 * mode bytes
-    = omega (arith, none, payload-is, copyright-is, emphasis-is, mode-is, small0) in
-    let small1 : get_or bytes 1 0 < 256 = small 1 in
+    = omega (arith, none, payload-is, copyright-is, emphasis-is, mode-is, small 0) in
     let category-is : category bytes ≡ get_or bytes 1 0 / 1 % 128
     = field-in_byte bytes 1 0 7 (omega arith) (omega arith) in
     let generation-is : generation bytes ≡ get_or bytes 1 0 / 128 % 2
     = field-in_byte bytes 1 7 1 (omega arith) (omega arith) in
     let e1 : get_or bytes 1 0 ≡ 1 * category bytes + 128 * generation bytes
-    = omega (arith, category-is, generation-is, small1) in
-    let small2 : get_or bytes 2 0 < 256 = small 2 in
+    = omega (arith, category-is, generation-is, small 1) in
     let source-is : source bytes ≡ get_or bytes 2 0 / 1 % 16 = field-in_byte bytes 2 0 4 (omega arith) (omega arith) in
     let number-is : number bytes ≡ get_or bytes 2 0 / 16 % 16 = field-in_byte bytes 2 4 4 (omega arith) (omega arith) in
-    let e2 : get_or bytes 2 0 ≡ 1 * source bytes + 16 * number bytes = omega (arith, source-is, number-is, small2) in
-    let small3 : get_or bytes 3 0 < 256 = small 3 in
+    let e2 : get_or bytes 2 0 ≡ 1 * source bytes + 16 * number bytes = omega (arith, source-is, number-is, small 2) in
     let rate-is : rate bytes ≡ get_or bytes 3 0 / 1 % 16 = field-in_byte bytes 3 0 4 (omega arith) (omega arith) in
     let accuracy-is : accuracy bytes ≡ get_or bytes 3 0 / 16 % 4
     = field-in_byte bytes 3 4 2 (omega arith) (omega arith) in
     let b3high-is : b3high bytes ≡ get_or bytes 3 0 / 64 % 4 = field-in_byte bytes 3 6 2 (omega arith) (omega arith) in
     let e3 : get_or bytes 3 0 ≡ 1 * rate bytes + 16 * accuracy bytes + 64 * b3high bytes
-    = omega (arith, rate-is, accuracy-is, b3high-is, small3) in
-    let small4 : get_or bytes 4 0 < 256 = small 4 in
+    = omega (arith, rate-is, accuracy-is, b3high-is, small 3) in
     let greatest-is : greatest bytes ≡ get_or bytes 4 0 / 1 % 2
     = field-in_byte bytes 4 0 1 (omega arith) (omega arith) in
     let word-is : word bytes ≡ get_or bytes 4 0 / 2 % 8 = field-in_byte bytes 4 1 3 (omega arith) (omega arith) in
     let original-is : original bytes ≡ get_or bytes 4 0 / 16 % 16
     = field-in_byte bytes 4 4 4 (omega arith) (omega arith) in
     let e4 : get_or bytes 4 0 ≡ 1 * greatest bytes + 2 * word bytes + 16 * original bytes
-    = omega (arith, greatest-is, word-is, original-is, small4) in
+    = omega (arith, greatest-is, word-is, original-is, small 4) in
     let rest-is : drop 5 bytes ≡ rest bytes = sym (take_all 19 (drop 5 bytes) (let l = length-drop 5 bytes in
     omega (arith, l, h))) in
     five bytes (omega arith) ∙ cons e0 (cons e1 (cons e2 (cons e3 (cons e4 rest-is))))

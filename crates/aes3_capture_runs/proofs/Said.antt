@@ -1,5 +1,5 @@
 -- What a run answered, and what is said of it.
-use Rattle.std.proofs.Common.{◌≡◌, inl, inr, ℕ, ◌<◌, ap, sym, subst, refl}
+use Rattle.std.proofs.Common.{◌≡◌, inl, inr, ℕ, ◌<◌, ◌≤◌, ap, sym, subst, refl, arith}
 use Rattle.std.proofs.Common.{Bool, List, [], ◌++◌, Option, Some, None, Ok, Err}
 use Rattle.std.specs.List.{concat}
 use Rattle.aes3_cell.specs.Ends.{Grew}
@@ -79,19 +79,20 @@ pub record SaidUpTo (job : Job) (found : Option ℕ) (told told_now : Option (Li
   pub is_before : IsSaidBefore job found text
   pub grew : Grew told told_now text
 
-pub bit-and-lines : {job : Job} {found : Option ℕ} {told told_now told_next : Option (List ℕ)}
-    → Grew told told_now (bit_line found) → LinesTold job.rate job.tell_each told_now told_next
-    → SaidUpTo job found told told_next
-bit-and-lines {found = found} bit lines = record {
-  text = bit_line found ++ concat lines.lines;
-  is_before = record {
-    lines = lines.lines;
-    are = lines.are;
-    none = lines.none;
-    is = refl;
-  };
-  grew = grew-join bit lines.grew;
-}
+-- the line of the bit and those of the lines, if nothing failed up to the last messages
+pub bit-and-lines : (job : Job) (found : Option ℕ) {told told_now told_next : Option (List ℕ)} {failed f1 f2 f3 : ℕ}
+    → failed ≤ f1 → f1 ≤ f2 → f2 ≤ f3 → (f1 ≡ failed → Grew told told_now (bit_line found))
+    → (f2 ≡ f1 → LinesTold job.rate job.tell_each told_now told_next)
+    → f3 ≡ failed → (f3 ≡ f2) × SaidUpTo job found told told_next
+bit-and-lines job found up1 up2 up3 bit lines quiet =
+    let told = lines (omega arith) in (
+      omega arith,
+      record {
+        text = bit_line found ++ concat told.lines;
+        is_before = record { lines = told.lines; are = told.are; none = told.none; is = refl };
+        grew = grew-join (bit (omega arith)) told.grew;
+      },
+    )
 
 -- messages behind these
 module _ (job : Job) (found : Option ℕ) (told told_now told_next : Option (List ℕ)) (failed failed_now failed_next : ℕ)

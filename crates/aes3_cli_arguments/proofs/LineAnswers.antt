@@ -2,10 +2,10 @@
 use Rattle.std.proofs.Common.{◌≡◌, ◌∙◌, List, [], Option, Some, None, true, inl, inr, refl, sym, ap, subst, true≢false}
 use Rattle.std.proofs.Common.{is_some}
 use Rattle.std.specs.Option.{option_map}
-use Rattle.clap.specs.Faults.{is_simple_and_free}
+use Rattle.clap.specs.Faults.{fault_of, is_simple_and_free}
 use Rattle.clap.specs.Kinds.{HasKind}
 use Rattle.clap.specs.Matches.{subcommand_name_of}
-use Rattle.clap.specs.Simple.{HasMatchesOf, is_simple, subcommand_rows_of}
+use Rattle.clap.specs.Simple.{App, HasMatchesOf, is_simple, subcommand_rows_of}
 use Rattle.clap.specs.Values.{kind_of}
 use Rattle.clap.specs.Walk.{Row, Text}
 use Rattle.clap.specs.declared.error.Error.{Error}
@@ -108,9 +108,12 @@ both_parts f g None name options named rows = absurd (true≢false (ap is_some n
 both_parts f g (Some x) name options named rows = λ i. Some (sym (some_inj _ _ named) i, sym (some_inj _ _ rows) i)
 
 -- the command that the matches hold is the one that stands in the words
-pub command_stands : (words : List Text) (m : ArgMatches) (name : Text) (options : List Row) → faults_in words ≡ []
-    → HasMatchesOf command_line words m
+pub command_stands : (a : App) (words : List Text) (m : ArgMatches) (name : Text) (options : List Row) → a ≡ command_line
+    → (is_simple_and_free a ≡ true → fault_of a words ≡ []) → HasMatchesOf a words m
     → Some name ≡ subcommand_name_of m → Some options ≡ option_map (λ (p : Text × List Row). p.1) (subcommand_rows_of m)
     → StandsIn words name options
-command_stands words m name options none matches named rows =
-    (none, sym (matches line_is_simple).1 ∙ both_parts _ _ (out-ArgMatches m).subcommand name options named rows)
+command_stands a words m name options is none matches named rows = (
+  subst (λ (x : App). fault_of x words ≡ []) is (none (ap is_simple_and_free is ∙ line_is_free)),
+  sym (subst (λ (x : App). HasMatchesOf x words m) is matches line_is_simple).1
+      ∙ both_parts _ _ (out-ArgMatches m).subcommand name options named rows,
+)

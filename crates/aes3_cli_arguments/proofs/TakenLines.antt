@@ -1,5 +1,6 @@
 -- What holds of the command that stands in words that the definitions take.
 use Rattle.std.proofs.Common.{◌≡◌, ◌∙◌, ◌⊎◌, ◌<◌, ◌≤◌, ℕ, Bool, List, [], ◌∷◌, length, Option, Some, None, true, false}
+use Rattle.std.proofs.Common.{drop, get_or, map}
 use Rattle.std.proofs.Common.{not, codes, refl, sym, ap, subst, cond, inl, inr, arith, is_some, true≢false, ◌||◌}
 use Rattle.std.specs.Prelude.{⊤, option_and_then, slice_get}
 use Rattle.std.specs.List.{find}
@@ -16,6 +17,9 @@ use Rattle.clap.specs.Simple.{App, Shape, argument_words, built, built_leaf, ent
 use Rattle.clap.specs.Simple.{names_of, rows_at, subcommand_of, with_leaf_noted}
 use Rattle.clap.specs.Walk.{Row, Rule, Text, answers_to, arg_by_id, nothing_held, one_of, reading_by, row_text}
 use Rattle.clap.specs.Walk.{rows_after, stop_after}
+use Rattle.clap.specs.declared.builder.action.ArgAction.{ArgAction}
+use Rattle.clap.specs.declared.builder.action.ArgAction.TheVariants.{Append, Help, Set, SetTrue}
+use Rattle.clap.specs.declared.builder.range.ValueRange.{ValueRange}
 use Rattle.clap.specs.declared.builder.value_parser.ValueParser.{ValueParser}
 use Rattle.clap.specs.declared.builder.value_parser.ValueParser.TheVariants as vp
 use Rattle.aes3_cli.specs.CommandLine.{check, command_line, cut, decode, encode, from_pcm, normal, reader, rewrite}
@@ -23,8 +27,8 @@ use Rattle.aes3_cli.specs.CommandLine.{from_wav, greatest, info, show, to_bits, 
 use Rattle.aes3_cli_arguments.specs.Jobs.{IsNumber, MayBeFlag, Options, StandsIn, number_in}
 use Rattle.aes3_cli_arguments.proofs.LineWalks.{level_checked, level_fits}
 use Rattle.aes3_cli_arguments.proofs.OptionReads.{bounded_in}
-use Rattle.aes3_cli_arguments.proofs.OptionRows.{FitAll, Fits, SoundAll, flag_sound, help_sound, or_nil, some_inj}
-use Rattle.aes3_cli_arguments.proofs.OptionRows.{value_sound, values_sound}
+use Rattle.aes3_cli_arguments.proofs.OptionRows.{FitAll, Fits, IsSound, SoundAll, exactly, flag_sound, help_sound}
+use Rattle.aes3_cli_arguments.proofs.OptionRows.{or_nil, some_inj, value_sound, values_sound}
 
 -- ---- the options by their definitions
 
@@ -173,9 +177,39 @@ found_shape P (x ∷ xs) p s each e = go (p x) (λ rest. found_shape P xs p s ea
     go true later same = subst P (some_inj _ _ same) each.0
     go false later same = later same
 
--- a command that is not called `cut`
-pub other_name : {X : Type 0} (name : Text) → bytes_eq name (codes "cut") ≡ false → name ≡ codes "cut" → X
-other_name name differs same = absurd (true≢false (sym (ap (λ t. bytes_eq t (codes "cut")) same) ∙ differs))
+-- what is known of a definition: whether its action is one of four, and which one has its id
+record Told : Type 0 where
+  usual : Bool
+  own : Option Rule
+  range : Option ValueRange
+  missing : List Text
+
+abbrev told : List Rule → Rule → Told
+told c a = record { usual = true; own = arg_by_id c a.id; range = a.range; missing = a.missing }
+
+-- what it has to be by the action
+abbrev wanted : Option ArgAction → Rule → Told
+wanted (Some Set) a = record { usual = true; own = Some a; range = Some (exactly 1); missing = a.missing }
+wanted (Some Append) a = record { usual = true; own = Some a; range = Some (exactly 1); missing = a.missing }
+wanted (Some SetTrue) a = record { usual = true; own = Some a; range = Some (exactly 0); missing = codes "true" ∷ [] }
+wanted (Some Help) a = record { usual = true; own = Some a; range = a.range; missing = a.missing }
+wanted action a = record { usual = false; own = Some a; range = a.range; missing = a.missing }
+
+one_sound : (c : List Rule) (a : Rule) → told c a ≡ wanted a.action a → IsSound c a
+one_sound c a e = go a.action refl e
+  where
+    go : (action : Option ArgAction) → a.action ≡ action → told c a ≡ wanted action a → IsSound c a
+    go (Some Set) is e = value_sound c a (ap (λ (t : Told). t.own) e) is (ap (λ (t : Told). t.range) e)
+    go (Some Append) is e = values_sound c a (ap (λ (t : Told). t.own) e) is (ap (λ (t : Told). t.range) e)
+    go (Some SetTrue) is e =
+        flag_sound c a (codes "true") (ap (λ (t : Told). t.own) e) is (ap (λ (t : Told). t.range) e)
+        (ap (λ (t : Told). t.missing) e)
+    go (Some Help) is e = help_sound c a (ap (λ (t : Told). t.own) e) is
+    go action is e = absurd (true≢false (ap (λ (t : Told). t.usual) e))
+
+all_sound : (c rules : List Rule) → map (told c) rules ≡ map (λ a. wanted a.action a) rules → SoundAll c rules
+all_sound c [] e = tt
+all_sound c (a ∷ rest) e = (one_sound c a (ap (λ xs. get_or xs 0 (told c a)) e), all_sound c rest (ap (drop 1) e))
 
 -- one more fact before others
 pub also : {A B : Type 0} → A → B → A × B
@@ -185,103 +219,18 @@ also a b = (a, b)
 abbrev pub leaf : Shape → Shape
 leaf s = built_leaf (inherited (with_leaf_noted (marked_built command_line.top)) s)
 
-encode_known : IsKnown (leaf encode)
-encode_known = record {
-  sound =
-      also (flag_sound _ _ (codes "true") refl refl refl refl)
-      (also (flag_sound _ _ (codes "true") refl refl refl refl) (also (value_sound _ _ refl refl refl)
-      (also (value_sound _ _ refl refl refl) (also (value_sound _ _ refl refl refl) (also (help_sound _ _ refl refl) tt)))));
-  numbers = λ rows name fit passed. other_name (codes "encode") refl name;
-}
-
-decode_known : IsKnown (leaf decode)
-decode_known = record {
-  sound =
-      also (flag_sound _ _ (codes "true") refl refl refl refl)
-      (also (flag_sound _ _ (codes "true") refl refl refl refl)
-      (also (flag_sound _ _ (codes "true") refl refl refl refl) (also (value_sound _ _ refl refl refl)
-      (also (value_sound _ _ refl refl refl) (also (value_sound _ _ refl refl refl) (also (value_sound _ _ refl refl refl) (also (help_sound _ _ refl refl) tt)))))));
-  numbers = λ rows name fit passed. other_name (codes "decode") refl name;
-}
-
-reader_known : (name : Text) → bytes_eq name (codes "cut") ≡ false → IsKnown (leaf (reader name))
-reader_known name differs = record {
-  sound =
-      also (flag_sound _ _ (codes "true") refl refl refl refl)
-      (also (flag_sound _ _ (codes "true") refl refl refl refl)
-      (also (flag_sound _ _ (codes "true") refl refl refl refl) (also (value_sound _ _ refl refl refl)
-      (also (value_sound _ _ refl refl refl) (also (value_sound _ _ refl refl refl) (also (help_sound _ _ refl refl) tt))))));
-  numbers = λ rows same fit passed. other_name name differs same;
-}
-
-check_known : IsKnown (leaf check)
-check_known = record {
-  sound =
-      also (flag_sound _ _ (codes "true") refl refl refl refl)
-      (also (flag_sound _ _ (codes "true") refl refl refl refl)
-      (also (flag_sound _ _ (codes "true") refl refl refl refl)
-      (also (flag_sound _ _ (codes "true") refl refl refl refl)
-      (also (flag_sound _ _ (codes "true") refl refl refl refl) (also (value_sound _ _ refl refl refl)
-      (also (value_sound _ _ refl refl refl) (also (value_sound _ _ refl refl refl) (also (help_sound _ _ refl refl) tt))))))));
-  numbers = λ rows name fit passed. other_name (codes "check") refl name;
-}
-
-watch_known : IsKnown (leaf watch)
-watch_known = record {
-  sound =
-      also (flag_sound _ _ (codes "true") refl refl refl refl)
-      (also (flag_sound _ _ (codes "true") refl refl refl refl)
-      (also (flag_sound _ _ (codes "true") refl refl refl refl)
-      (also (flag_sound _ _ (codes "true") refl refl refl refl) (also (value_sound _ _ refl refl refl)
-      (also (value_sound _ _ refl refl refl) (also (value_sound _ _ refl refl refl)
-      (also (value_sound _ _ refl refl refl) (also (value_sound _ _ refl refl refl) (also (value_sound _ _ refl refl refl) (also (help_sound _ _ refl refl) tt))))))))));
-  numbers = λ rows name fit passed. other_name (codes "watch") refl name;
-}
-
-info_known : IsKnown (leaf info)
-info_known = record {
-  sound =
-      also (flag_sound _ _ (codes "true") refl refl refl refl)
-      (also (flag_sound _ _ (codes "true") refl refl refl refl)
-      (also (flag_sound _ _ (codes "true") refl refl refl refl)
-      (also (flag_sound _ _ (codes "true") refl refl refl refl) (also (value_sound _ _ refl refl refl)
-      (also (value_sound _ _ refl refl refl) (also (value_sound _ _ refl refl refl) (also (help_sound _ _ refl refl) tt)))))));
-  numbers = λ rows name fit passed. other_name (codes "info") refl name;
-}
-
-show_known : IsKnown (leaf show)
-show_known = record {
-  sound =
-      also (flag_sound _ _ (codes "true") refl refl refl refl)
-      (also (flag_sound _ _ (codes "true") refl refl refl refl)
-      (also (flag_sound _ _ (codes "true") refl refl refl refl)
-      (also (flag_sound _ _ (codes "true") refl refl refl refl)
-      (also (flag_sound _ _ (codes "true") refl refl refl refl)
-      (also (flag_sound _ _ (codes "true") refl refl refl refl)
-      (also (flag_sound _ _ (codes "true") refl refl refl refl) (also (value_sound _ _ refl refl refl)
-      (also (value_sound _ _ refl refl refl) (also (value_sound _ _ refl refl refl) (also (help_sound _ _ refl refl) tt))))))))));
-  numbers = λ rows name fit passed. other_name (codes "show") refl name;
-}
-
-normal_known : IsKnown (leaf normal)
-normal_known = record {
-  sound =
-      also (flag_sound _ _ (codes "true") refl refl refl refl)
-      (also (flag_sound _ _ (codes "true") refl refl refl refl)
-      (also (flag_sound _ _ (codes "true") refl refl refl refl)
-      (also (flag_sound _ _ (codes "true") refl refl refl refl) (also (value_sound _ _ refl refl refl)
-      (also (value_sound _ _ refl refl refl) (also (value_sound _ _ refl refl refl) (also (help_sound _ _ refl refl) tt)))))));
-  numbers = λ rows name fit passed. other_name (codes "normal") refl name;
+-- a command that is not called `cut`
+known : (s : Shape) → bytes_eq s.name (codes "cut") ≡ false
+    → map (told s.rules) s.rules ≡ map (λ a. wanted a.action a) s.rules → IsKnown s
+known s differs sound = record {
+  sound = all_sound s.rules s.rules sound;
+  numbers = λ rows same fit passed. absurd
+      (true≢false (sym (ap (λ t. bytes_eq t (codes "cut")) same) ∙ differs));
 }
 
 cut_known : IsKnown (leaf cut)
 cut_known = record {
-  sound =
-      also (flag_sound _ _ (codes "true") refl refl refl refl)
-      (also (flag_sound _ _ (codes "true") refl refl refl refl)
-      (also (flag_sound _ _ (codes "true") refl refl refl refl)
-      (also (flag_sound _ _ (codes "true") refl refl refl refl) (also (value_sound _ _ refl refl refl)
-      (also (value_sound _ _ refl refl refl) (also (value_sound _ _ refl refl refl) (also (value_sound _ _ refl refl refl) (also (help_sound _ _ refl refl) tt))))))));
+  sound = all_sound (leaf cut).rules (leaf cut).rules refl;
   numbers = λ rows name fit passed.
       let given = both_given (is_given (codes "FROM") rows) (is_given (codes "COUNT") rows)
       (nothing_wanted false false _ passed) in
@@ -290,94 +239,14 @@ cut_known = record {
       ((from.0, from.1), (count.0, count.1));
 }
 
-rewrite_known : IsKnown (leaf rewrite)
-rewrite_known = record {
-  sound =
-      also (flag_sound _ _ (codes "true") refl refl refl refl)
-      (also (flag_sound _ _ (codes "true") refl refl refl refl)
-      (also (flag_sound _ _ (codes "true") refl refl refl refl)
-      (also (flag_sound _ _ (codes "true") refl refl refl refl) (also (value_sound _ _ refl refl refl)
-      (also (value_sound _ _ refl refl refl) (also (value_sound _ _ refl refl refl)
-      (also (values_sound _ _ refl refl refl) (also (values_sound _ _ refl refl refl)
-      (also (values_sound _ _ refl refl refl) (also (flag_sound _ _ (codes "true") refl refl refl refl)
-      (also (value_sound _ _ refl refl refl) (also (value_sound _ _ refl refl refl)
-      (also (flag_sound _ _ (codes "true") refl refl refl refl)
-      (also (flag_sound _ _ (codes "true") refl refl refl refl)
-      (also (flag_sound _ _ (codes "true") refl refl refl refl) (also (value_sound _ _ refl refl refl)
-      (also (value_sound _ _ refl refl refl) (also (value_sound _ _ refl refl refl) (also (help_sound _ _ refl refl) tt)))))))))))))))))));
-  numbers = λ rows name fit passed. other_name (codes "rewrite") refl name;
-}
-
-to_pcm_known : IsKnown (leaf to_pcm)
-to_pcm_known = record {
-  sound =
-      also (flag_sound _ _ (codes "true") refl refl refl refl)
-      (also (flag_sound _ _ (codes "true") refl refl refl refl)
-      (also (flag_sound _ _ (codes "true") refl refl refl refl) (also (value_sound _ _ refl refl refl)
-      (also (flag_sound _ _ (codes "true") refl refl refl refl) (also (value_sound _ _ refl refl refl)
-      (also (flag_sound _ _ (codes "true") refl refl refl refl)
-      (also (flag_sound _ _ (codes "true") refl refl refl refl) (also (value_sound _ _ refl refl refl)
-      (also (value_sound _ _ refl refl refl) (also (value_sound _ _ refl refl refl) (also (help_sound _ _ refl refl) tt)))))))))));
-  numbers = λ rows name fit passed. other_name (codes "to-pcm") refl name;
-}
-
-to_bits_known : IsKnown (leaf to_bits)
-to_bits_known = record {
-  sound =
-      also (flag_sound _ _ (codes "true") refl refl refl refl)
-      (also (flag_sound _ _ (codes "true") refl refl refl refl)
-      (also (flag_sound _ _ (codes "true") refl refl refl refl) (also (value_sound _ _ refl refl refl)
-      (also (value_sound _ _ refl refl refl) (also (value_sound _ _ refl refl refl) (also (value_sound _ _ refl refl refl) (also (value_sound _ _ refl refl refl) (also (help_sound _ _ refl refl)
-      tt))))))));
-  numbers = λ rows name fit passed. other_name (codes "to-bits") refl name;
-}
-
-from_pcm_known : IsKnown (leaf from_pcm)
-from_pcm_known = record {
-  sound =
-      also (value_sound _ _ refl refl refl) (also (value_sound _ _ refl refl refl)
-      (also (value_sound _ _ refl refl refl) (also (value_sound _ _ refl refl refl)
-      (also (values_sound _ _ refl refl refl) (also (values_sound _ _ refl refl refl)
-      (also (values_sound _ _ refl refl refl) (also (flag_sound _ _ (codes "true") refl refl refl refl)
-      (also (flag_sound _ _ (codes "true") refl refl refl refl) (also (value_sound _ _ refl refl refl)
-      (also (value_sound _ _ refl refl refl) (also (value_sound _ _ refl refl refl) (also (value_sound _ _ refl refl refl) (also (value_sound _ _ refl refl refl) (also (help_sound _ _ refl refl)
-      tt))))))))))))));
-  numbers = λ rows name fit passed. other_name (codes "from-pcm") refl name;
-}
-
-to_wav_known : IsKnown (leaf to_wav)
-to_wav_known = record {
-  sound =
-      also (flag_sound _ _ (codes "true") refl refl refl refl)
-      (also (flag_sound _ _ (codes "true") refl refl refl refl)
-      (also (flag_sound _ _ (codes "true") refl refl refl refl) (also (value_sound _ _ refl refl refl)
-      (also (value_sound _ _ refl refl refl) (also (flag_sound _ _ (codes "true") refl refl refl refl)
-      (also (value_sound _ _ refl refl refl) (also (flag_sound _ _ (codes "true") refl refl refl refl)
-      (also (flag_sound _ _ (codes "true") refl refl refl refl) (also (value_sound _ _ refl refl refl)
-      (also (value_sound _ _ refl refl refl) (also (value_sound _ _ refl refl refl) (also (help_sound _ _ refl refl)
-      tt))))))))))));
-  numbers = λ rows name fit passed. other_name (codes "to-wav") refl name;
-}
-
-from_wav_known : IsKnown (leaf from_wav)
-from_wav_known = record {
-  sound =
-      also (value_sound _ _ refl refl refl) (also (value_sound _ _ refl refl refl) (also (value_sound _ _ refl refl refl)
-      (also (value_sound _ _ refl refl refl) (also (value_sound _ _ refl refl refl)
-      (also (value_sound _ _ refl refl refl) (also (value_sound _ _ refl refl refl)
-      (also (values_sound _ _ refl refl refl) (also (values_sound _ _ refl refl refl)
-      (also (values_sound _ _ refl refl refl) (also (flag_sound _ _ (codes "true") refl refl refl refl)
-      (also (flag_sound _ _ (codes "true") refl refl refl refl) (also (value_sound _ _ refl refl refl)
-      (also (value_sound _ _ refl refl refl) (also (value_sound _ _ refl refl refl) (also (value_sound _ _ refl refl refl) (also (help_sound _ _ refl refl) tt))))))))))))))));
-  numbers = λ rows name fit passed. other_name (codes "from-wav") refl name;
-}
-
 pub all_known : EachShape IsKnown (built command_line).subs
 all_known =
-    also (encode_known) (also (decode_known) (also (normal_known) (also (check_known)
-    (also (watch_known) (also (info_known) (also (show_known) (also (reader_known (codes "scan") refl) (also (cut_known)
-    (also (rewrite_known) (also (to_pcm_known) (also (from_pcm_known) (also (to_wav_known) (also (from_wav_known)
-    (also (to_bits_known) tt))))))))))))))
+    also (known (leaf encode) refl refl) (also (known (leaf decode) refl refl) (also (known (leaf normal) refl refl)
+    (also (known (leaf check) refl refl) (also (known (leaf watch) refl refl) (also (known (leaf info) refl refl)
+    (also (known (leaf show) refl refl) (also (known (leaf (reader (codes "scan"))) refl refl) (also cut_known
+    (also (known (leaf rewrite) refl refl) (also (known (leaf to_pcm) refl refl)
+    (also (known (leaf from_pcm) refl refl) (also (known (leaf to_wav) refl refl)
+    (also (known (leaf from_wav) refl refl) (also (known (leaf to_bits) refl refl) tt))))))))))))))
 
 -- ---- the command that stands in the words
 

@@ -9,6 +9,7 @@ use Rattle.std.proofs.lemmas.Bool.{cases_Bool, cases_eq, cases_lt}
 use Rattle.std.proofs.lemmas.Grind.{flat_map-append}
 use Rattle.std.proofs.lemmas.List.{append_cancel_left, drop_at, drop_all, map-append, get_or-append_right}
 use Rattle.std.proofs.lemmas.List.{get_or_append_left, take-append-drop, length-take-le, length-drop, drop_more}
+use Rattle.std.proofs.lemmas.Slice.{take-put_mid}
 use Rattle.std.proofs.Math.Seq.{take-append-add}
 use Rattle.std.proofs.lemmas.List.{take-replicate}
 use Rattle.std.proofs.lemmas.List.{drop-drop, get_or-take, get_or_past, nil_from_length}
@@ -789,6 +790,19 @@ module _ (pcm : SampleFormat) (exact : Bool) (form : Words) (change : Change) (s
     any b,
     grew-none refl,
   )
+
+-- bytes put after the bytes that were held
+pub put-behind : (at n : ℕ) (begun xs new : List ℕ) → n ≤ length xs → at + n ≤ length begun → new ≡ take n xs
+    → (take (at + n) (put_mid at (at + n - at) begun new) ≡ take at begun ++ take n xs)
+    × (length (take at begun ++ take n xs) ≡ at + n)
+put-behind at n begun xs new some room d =
+    let l = length-take-le n xs some in
+    let y = ap length d in
+    let h = length-take-le at begun (omega arith) in
+    let j = length-append (take at begun) (take n xs) in (
+      take-put_mid at (at + n - at) begun new (at + n) (omega arith) (omega arith) ∙ ap (λ v. take at begun ++ v) d,
+      omega arith,
+    )
 
 -- zeros put behind the bytes that were held, up to the end of a block
 pub fill-front : (n len k : ℕ) (begun ys : List ℕ) → length begun ≡ 1536 → n ≤ len → len ≤ 1536

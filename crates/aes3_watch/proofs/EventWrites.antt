@@ -1,12 +1,20 @@
 -- Events that are written.
-use Rattle.std.proofs.Common.{◌≡◌, ℕ, zero, suc, ◌<◌, List, [], ◌∷◌, ◌++◌, Result, Ok, Err, IfOk, length}
+use Rattle.std.proofs.Common.{◌≡◌, ℕ, zero, suc, ◌<◌, List, [], ◌∷◌, ◌++◌, Option, Result, Ok, Err, IfOk, length}
 use Rattle.std.proofs.Common.{take, drop, get_or, refl, sym, ap, ◌∙◌, ◌+◌, append-nil, append_assoc, arith}
 use Rattle.std.proofs.lemmas.Grind.{flat_map-append}
 use Rattle.std.proofs.lemmas.List.{take_more}
+use Rattle.aes3_cell.specs.Ends.{GrewFront}
+use Rattle.aes3_cell.specs.Writes.{Wrote}
 use Rattle.aes3_text_lines.specs.declared.event.Event.{Event}
 use Rattle.aes3_status.specs.declared.style.Style.{Style}
 use Rattle.aes3_text_lines.specs.Events.{event_line}
 use Rattle.aes3_watch.specs.Watching.{event_lines}
+
+-- bytes of which a front was taken, before a failure
+pub wrote-failed : {A R E : Type 0} {taken : A → Option (List ℕ)} {failed : A → ℕ} {old new : A} {x : List ℕ} {e : E}
+    → failed new ≡ failed old + 1 → GrewFront (taken old) (taken new) x
+    → Wrote {R = R} taken failed old new x (Err e)
+wrote-failed q f = record { grew = tt; no_failure = tt; err = (q, f) }
 
 -- what follows from two facts of a call's answer
 pub if-both : {R E A B C : Type 0} (r : Result R E) → (A → B → C) → IfOk r (λ (_ : R). A) → IfOk r (λ (_ : R). B)

@@ -1,5 +1,6 @@
-use Rattle.std.proofs.Common.{◌≡◌, ℕ, ◌+◌, ◌-◌, ◌*◌, ◌/◌, ◌%◌, ◌≤◌, ◌++◌, [], List, length, drop, subst, arith, sym, ap}
+use Rattle.std.proofs.Common.{◌≡◌, ℕ, ◌+◌, ◌-◌, ◌*◌, ◌/◌, ◌%◌, ◌≤◌, ◌++◌, [], List, length, subst, arith, sym, ap}
 use Rattle.std.proofs.Common.{◌∙◌}
+use Rattle.std.specs.List.{between}
 use Rattle.std.specs.Prelude.{Option, option_to_list}
 use Rattle.std.proofs.lemmas.Slice.{between_to_end}
 use Rattle.aes3_level.specs.declared.level.Level.{Level}
@@ -15,9 +16,10 @@ use Rattle.aes3_c.proofs.octet_calls.aes3_lock_take_octets.Goals as goal
 
 -- the cells of all octets, by those of the octets from the first cell's on
 there : (octets : List ℕ) (first n : ℕ) → first / 8 ≤ length octets
-    → cells_from (drop (first / 8) octets) (first % 8) n ≡ cells_from octets first n
+    → cells_from (between (first / 8) (length octets) octets) (first % 8) n ≡ cells_from octets first n
 there octets first n h =
-    cells-behind octets (first / 8) (first % 8) n h
+    ap (λ o. cells_from o (first % 8) n) (between_to_end octets (first / 8) (length octets) (omega arith))
+    ∙ cells-behind octets (first / 8) (first % 8) n h
     ∙ ap (λ i. cells_from octets i n) (let e : 8 * (first / 8) + first % 8 ≡ first = omega arith in e)
 
 pub returns-then-len-eq0-clause-codes : goal.returns-then-len-eq0-clause-codes
@@ -30,27 +32,18 @@ returns-clause-all c = λ none.
 
 pub returns-clause-follows : goal.returns-clause-follows
 returns-clause-follows c = λ l f.
-    let octets = c.args.octets.now in
-    let first = c.args.first in
-    let n = c.take_cells-taken.result.cells in
-    let len = c.most_cells-len.ensures in
-    let some = c.if-len-eq0.false in
-    let rest = between_to_end octets (first / 8) (length octets) (omega arith) in
-    let path = ap (λ o. cells_from o (first % 8) n) rest ∙ there octets first n (omega (arith, len, some)) in
+    let path = there c.args.octets.now c.args.first c.take_cells-taken.result.cells
+    (omega (arith, c.most_cells-len.ensures, c.if-len-eq0.false)) in
     let before = subst (λ (k : LockState). Follows k l) (sym c.lock_of-state.ensures) f in
-    subst (λ (k : LockState). Follows k (l ++ cells_from octets first n)) (sym c.keep.ensures)
+    subst (λ (k : LockState). Follows k (l ++ cells_from c.args.octets.now c.args.first c.take_cells-taken.result.cells))
+    (sym c.keep.ensures)
     (subst (λ (d : List Level). Follows c.take_cells-taken.new.state (l ++ d)) path
     (c.take_cells-taken.ensures.follows l before))
 
 pub returns-clause-report : goal.returns-clause-report
 returns-clause-report c = λ l f.
-    let octets = c.args.octets.now in
-    let first = c.args.first in
-    let n = c.take_cells-taken.result.cells in
-    let len = c.most_cells-len.ensures in
-    let some = c.if-len-eq0.false in
-    let rest = between_to_end octets (first / 8) (length octets) (omega arith) in
-    let path = ap (λ o. cells_from o (first % 8) n) rest ∙ there octets first n (omega (arith, len, some)) in
+    let path = there c.args.octets.now c.args.first c.take_cells-taken.result.cells
+    (omega (arith, c.most_cells-len.ensures, c.if-len-eq0.false)) in
     let before = subst (λ (k : LockState). Follows k l) (sym c.lock_of-state.ensures) f in
     let slots = read_words c.take_cells-taken.new.state.words in
     let told = ap (λ (k : LockState). told_of (block_in k) c.put_ending-2.new.out) c.keep.ensures
@@ -60,13 +53,8 @@ returns-clause-report c = λ l f.
 
 pub returns-clause-last : goal.returns-clause-last
 returns-clause-last c = λ told l f.
-    let octets = c.args.octets.now in
-    let first = c.args.first in
-    let n = c.take_cells-taken.result.cells - 1 in
-    let len = c.most_cells-len.ensures in
-    let some = c.if-len-eq0.false in
-    let rest = between_to_end octets (first / 8) (length octets) (omega arith) in
-    let path = ap (λ o. cells_from o (first % 8) n) rest ∙ there octets first n (omega (arith, len, some)) in
+    let path = there c.args.octets.now c.args.first (c.take_cells-taken.result.cells - 1)
+    (omega (arith, c.most_cells-len.ensures, c.if-len-eq0.false)) in
     let before = subst (λ (k : LockState). Follows k l) (sym c.lock_of-state.ensures) f in
     let ended = none-told-of _ c.put_ending-2.new.out c.take_cells-taken.result.ending told
     (c.put_ending-2.ensures.codes []) in

@@ -1,8 +1,8 @@
-use Rattle.std.proofs.Common.{◌≡◌, Ok, Err, arith, refl, rules, subst}
+use Rattle.std.proofs.Common.{Ok, Err, refl, rules, subst}
 use Rattle.aes3_input.specs.Running.{movement_of}
 use Rattle.aes3_capture_recovery.specs.declared.edges.Unit.{Unit}
 use Rattle.aes3_capture_runs.specs.Runs.{AnswerRan, refusal_text, setting_of}
-use Rattle.aes3_capture_runs.proofs.Said.{IsNew, SaidUpTo, bit-and-lines, done, end-joined, grew-said, refused}
+use Rattle.aes3_capture_runs.proofs.Said.{IsNew, bit-and-lines, done, end-joined, grew-said, refused}
 use Rattle.aes3_capture_runs.proofs.job_run.run_job.Goals as goal
 
 pub returns-in-Ok-clause-ran : goal.returns-in-Ok-clause-ran
@@ -18,16 +18,8 @@ returns-in-Ok-clause-ran g c =
       recovered = λ begun. c.new-recovery.ensures.recovered (setting_of job begun) refl (search rules);
       awaits = λ none begun. c.new-recovery.ensures.awaits (setting_of job begun) refl (search rules) none;
     } in
-    let up1 = c.say_bit.ensures.no_fewer_failures in
-    let up2 = run.ensures.no_fewer_failures in
-    let up3 = c.say_end.ensures.no_fewer_failures in
-    let grown : g.E.Sink.failed c.say_end.new.messages ≡ g.E.Sink.failed c.args.messages.now
-    → (g.E.Sink.failed c.say_end.new.messages ≡ g.E.Sink.failed run.new.messages)
-    × SaidUpTo job c.args.found (g.E.Sink.taken c.args.messages.now) (g.E.Sink.taken run.new.messages) = λ quiet. (
-      omega (arith, quiet, up1, up2, up3),
-      bit-and-lines (c.say_bit.ensures.text (omega (arith, quiet, up1, up2, up3)))
-          (run.ensures.text (omega (arith, quiet, up1, up2, up3))),
-    ) in
+    let grown = bit-and-lines job c.args.found c.say_bit.ensures.no_fewer_failures run.ensures.no_fewer_failures
+    c.say_end.ensures.no_fewer_failures c.say_bit.ensures.text run.ensures.text in
     record {
       octets = read.octets;
       given = read.given;
@@ -55,16 +47,8 @@ returns-in-Err-clause-ran g c =
       recovered = λ begun. c.new-recovery.ensures.recovered (setting_of job begun) refl (search rules);
       awaits = λ none begun. c.new-recovery.ensures.awaits (setting_of job begun) refl (search rules) none;
     } in
-    let up1 = c.say_bit.ensures.no_fewer_failures in
-    let up2 = run.ensures.no_fewer_failures in
-    let up3 = c.say_refusal.ensures.no_fewer_failures in
-    let grown : g.E.Sink.failed c.say_refusal.new.messages ≡ g.E.Sink.failed c.args.messages.now
-    → (g.E.Sink.failed c.say_refusal.new.messages ≡ g.E.Sink.failed run.new.messages)
-    × SaidUpTo job c.args.found (g.E.Sink.taken c.args.messages.now) (g.E.Sink.taken run.new.messages) = λ quiet. (
-      omega (arith, quiet, up1, up2, up3),
-      bit-and-lines (c.say_bit.ensures.text (omega (arith, quiet, up1, up2, up3)))
-          (run.ensures.text (omega (arith, quiet, up1, up2, up3))),
-    ) in
+    let grown = bit-and-lines job c.args.found c.say_bit.ensures.no_fewer_failures run.ensures.no_fewer_failures
+    c.say_refusal.ensures.no_fewer_failures c.say_bit.ensures.text run.ensures.text in
     record {
       octets = read.octets;
       given = read.given;

@@ -1,8 +1,8 @@
-use Rattle.std.proofs.Common.{◌≡◌, ◌∙◌, [], ap, subst, map}
+use Rattle.std.proofs.Common.{◌∙◌, ap, subst, map}
 use Rattle.std.proofs.lemmas.Result.{IfErr-weaker, IfOk-weaker}
 use Rattle.clap.specs.Faults.{fault_of, is_simple_and_free}
 use Rattle.clap.specs.Kinds.{HasKind}
-use Rattle.clap.specs.Simple.{App, HasMatchesOf}
+use Rattle.clap.specs.Simple.{App}
 use Rattle.aes3_cli_arguments.specs.Jobs.{StandsIn, options_of}
 use Rattle.aes3_cli_arguments.proofs.Files.{none_read, none_written, some_read, some_written}
 use Rattle.aes3_cli_arguments.proofs.LineAnswers.{bad_option_told, command_stands, error_told, line_is_free}
@@ -19,13 +19,8 @@ returns-in-Err-clause-fault c =
 stands : (c : goal.In-Some)
     → StandsIn (map (λ word. word.now) c.args.words.now) c.in-Some.name.now (options_of c.in-Some.options.now)
 stands c =
-    let words = map (λ word. word.now) c.args.words.now in
-    let is = c.in_ok-command.ensures.0 in
-    let none = subst (λ (a : App). fault_of a words ≡ []) is
-    (c.in-Ok.ensures.kinds (ap is_simple_and_free is ∙ line_is_free)) in
-    let matches = subst (λ (a : App). HasMatchesOf a words c.in-Ok.matches) is c.in-Ok.ensures.matches in
-    command_stands words c.in-Ok.matches c.in-Some.name.now (options_of c.in-Some.options.now)
-    none matches c.in-Some.ensures.name c.in-Some.ensures.rows
+    command_stands _ _ c.in-Ok.matches c.in-Some.name.now (options_of c.in-Some.options.now) c.in_ok-command.ensures.0
+    c.in-Ok.ensures.kinds c.in-Ok.ensures.matches c.in-Some.ensures.name c.in-Some.ensures.rows
 
 pub line_of_command-requires : goal.line_of_command-requires
 line_of_command-requires c = (map (λ word. word.now) c.args.words.now, stands c)
@@ -33,13 +28,8 @@ line_of_command-requires c = (map (λ word. word.now) c.args.words.now, stands c
 stood : (c : goal.Joined-matches)
     → StandsIn (map (λ word. word.now) c.args.words.now) c.in-Some.name.now (options_of c.in-Some.options.now)
 stood c =
-    let words = map (λ word. word.now) c.args.words.now in
-    let is = c.in_ok-command.ensures.0 in
-    let none = subst (λ (a : App). fault_of a words ≡ []) is
-    (c.in-Ok.ensures.kinds (ap is_simple_and_free is ∙ line_is_free)) in
-    let matches = subst (λ (a : App). HasMatchesOf a words c.in-Ok.matches) is c.in-Ok.ensures.matches in
-    command_stands words c.in-Ok.matches c.in-Some.name.now (options_of c.in-Some.options.now)
-    none matches c.in-Some.ensures.name c.in-Some.ensures.rows
+    command_stands _ _ c.in-Ok.matches c.in-Some.name.now (options_of c.in-Some.options.now) c.in_ok-command.ensures.0
+    c.in-Ok.ensures.kinds c.in-Ok.ensures.matches c.in-Some.ensures.name c.in-Some.ensures.rows
 
 pub returns-in-Some-clause-job : goal.returns-in-Some-clause-job
 returns-in-Some-clause-job c =

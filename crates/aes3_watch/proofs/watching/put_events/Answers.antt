@@ -3,7 +3,7 @@ use Rattle.std.proofs.lemmas.List.{take_all}
 use Rattle.std.proofs.lemmas.Result.{err_from_is_err_and}
 use Rattle.aes3_cell.proofs.Growing.{front-is, front-join, front-more, grew-is, grew-join}
 use Rattle.aes3_watch.specs.Watching.{event_lines}
-use Rattle.aes3_watch.proofs.EventWrites.{more-lines, split-lines}
+use Rattle.aes3_watch.proofs.EventWrites.{more-lines, split-lines, wrote-failed}
 use Rattle.aes3_watch.proofs.watching.put_events.Goals as goal
 
 pub returns-in_err-line_of_event : goal.returns-in_err-line_of_event
@@ -13,15 +13,9 @@ returns-in_err-line_of_event g c =
     let k = c.loop-event.event-index in
     let p = err_from_is_err_and c.from_residual.result c.from_residual.ensures.1 in
     let f = c.in_err-line_of_event.ensures.err in
-    rw p.1 (record {
-      grew = tt;
-      no_failure = tt;
-      err = (
-        f.0 ∙ ap (λ n. n + 1) c.loop-event.invariant.quiet,
-        front-is (split-lines style es k _ (omega arith))
-            (front-more (front-join c.loop-event.invariant.grew f.1) (event_lines style (drop (suc k) es))),
-      );
-    })
+    rw p.1 (wrote-failed (f.0 ∙ ap (λ n. n + 1) c.loop-event.invariant.quiet)
+    (front-is (split-lines style es k _ (omega arith))
+    (front-more (front-join c.loop-event.invariant.grew f.1) (event_lines style (drop (suc k) es)))))
 
 pub loop-event-preserved : goal.loop-event-preserved
 loop-event-preserved g c = record {

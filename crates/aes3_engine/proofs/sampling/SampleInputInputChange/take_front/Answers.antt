@@ -1,13 +1,12 @@
 use Rattle.std.proofs.Common.{◌≡◌, ◌+◌, ◌-◌, ◌<◌, ◌++◌, inl, inr, length, take, drop, refl, sym, ap, ◌∙◌, arith, rules}
-use Rattle.std.proofs.Common.{length-append}
 use borrow.Rule.Slice.PartMut.{put_mid}
 use Rattle.std.proofs.lemmas.List.{length-take-le, get_or-take, take-append-drop}
-use Rattle.std.proofs.lemmas.Slice.{take-put_mid}
 use Rattle.aes3_cell.proofs.Growing.{grew-none, grew-is, front-is}
 use Rattle.aes3_files.specs.Sound.{begins_sound}
 use Rattle.aes3_forms_samples.specs.Formats.{block_len}
 use Rattle.aes3_engine.proofs.PcmWords.{block-room}
 use Rattle.aes3_engine.proofs.SampleReads.{made-short, front-fed, front-header, front-part, front-stopped, block-made}
+use Rattle.aes3_engine.proofs.SampleReads.{put-behind}
 use Rattle.aes3_engine.proofs.sampling.SampleInputInputChange.take_front.Goals as goal
 
 pub returns-in-Some : goal.returns-in-Some
@@ -38,16 +37,12 @@ returns-then-at-len g c =
     let len = c.block_len-block_len.ensures.len in
     let few = s.few in
     let room = block-room s.format in
-    let k = s.at + n - s.at in
     let l : length (take n xs) ≡ n = length-take-le n xs (omega arith) in
-    let d = c.copy_from_slice.ensures.after in
-    let y : length c.copy_from_slice.new.self ≡ n = ap length d ∙ l in
-    let h : length (take s.at s.begun) ≡ s.at = length-take-le s.at s.begun (omega arith) in
-    let j = length-append (take s.at s.begun) (take n xs) in
-    let new = put_mid s.at k s.begun c.copy_from_slice.new.self in
-    let front : take (s.at + n) new ≡ take s.at s.begun ++ take n xs =
-    take-put_mid s.at k s.begun c.copy_from_slice.new.self (s.at + n) (omega arith) (omega arith)
-    ∙ ap (λ v. take s.at s.begun ++ v) d in
+    let new = put_mid s.at (s.at + n - s.at) s.begun c.copy_from_slice.new.self in
+    let put = put-behind s.at n s.begun xs c.copy_from_slice.new.self (omega arith) (omega arith)
+    c.copy_from_slice.ensures.after in
+    let front = put.0 in
+    let all = put.1 in
     let t = c.if-at-len.true in
     let q : s.at + n < block_len s.format = omega arith in (
       omega arith,
@@ -76,16 +71,12 @@ returns-in-Ok g c =
     let len = c.block_len-block_len.ensures.len in
     let few = s.few in
     let room = block-room s.format in
-    let k = s.at + n - s.at in
     let l : length (take n xs) ≡ n = length-take-le n xs (omega arith) in
-    let d = c.copy_from_slice.ensures.after in
-    let y : length c.copy_from_slice.new.self ≡ n = ap length d ∙ l in
-    let h : length (take s.at s.begun) ≡ s.at = length-take-le s.at s.begun (omega arith) in
-    let j = length-append (take s.at s.begun) (take n xs) in
-    let new = put_mid s.at k s.begun c.copy_from_slice.new.self in
-    let front : take (s.at + n) new ≡ take s.at s.begun ++ take n xs =
-    take-put_mid s.at k s.begun c.copy_from_slice.new.self (s.at + n) (omega arith) (omega arith)
-    ∙ ap (λ v. take s.at s.begun ++ v) d in
+    let new = put_mid s.at (s.at + n - s.at) s.begun c.copy_from_slice.new.self in
+    let put = put-behind s.at n s.begun xs c.copy_from_slice.new.self (omega arith) (omega arith)
+    c.copy_from_slice.ensures.after in
+    let front = put.0 in
+    let all = put.1 in
     let t = c.if-at-len.false in
     let q : s.at + n ≡ block_len s.format = omega arith in (
       omega arith,
@@ -113,16 +104,12 @@ returns-in-Err g c =
     let len = c.block_len-block_len.ensures.len in
     let few = s.few in
     let room = block-room s.format in
-    let k = s.at + n - s.at in
     let l : length (take n xs) ≡ n = length-take-le n xs (omega arith) in
-    let d = c.copy_from_slice.ensures.after in
-    let y : length c.copy_from_slice.new.self ≡ n = ap length d ∙ l in
-    let h : length (take s.at s.begun) ≡ s.at = length-take-le s.at s.begun (omega arith) in
-    let j = length-append (take s.at s.begun) (take n xs) in
-    let new = put_mid s.at k s.begun c.copy_from_slice.new.self in
-    let front : take (s.at + n) new ≡ take s.at s.begun ++ take n xs =
-    take-put_mid s.at k s.begun c.copy_from_slice.new.self (s.at + n) (omega arith) (omega arith)
-    ∙ ap (λ v. take s.at s.begun ++ v) d in
+    let new = put_mid s.at (s.at + n - s.at) s.begun c.copy_from_slice.new.self in
+    let put = put-behind s.at n s.begun xs c.copy_from_slice.new.self (omega arith) (omega arith)
+    c.copy_from_slice.ensures.after in
+    let front = put.0 in
+    let all = put.1 in
     let t = c.if-at-len.false in
     let q : s.at + n ≡ block_len s.format = omega arith in (
       c.in-Err.ensures.err.0,
@@ -147,16 +134,12 @@ returns-then-has_header g c =
     let len = c.block_len-block_len.ensures.len in
     let few = s.few in
     let room = block-room s.format in
-    let k = s.at + n - s.at in
     let l : length (take n xs) ≡ n = length-take-le n xs (omega arith) in
-    let d = c.copy_from_slice.ensures.after in
-    let y : length c.copy_from_slice.new.self ≡ n = ap length d ∙ l in
-    let h : length (take s.at s.begun) ≡ s.at = length-take-le s.at s.begun (omega arith) in
-    let j = length-append (take s.at s.begun) (take n xs) in
-    let new = put_mid s.at k s.begun c.copy_from_slice.new.self in
-    let front : take (s.at + n) new ≡ take s.at s.begun ++ take n xs =
-    take-put_mid s.at k s.begun c.copy_from_slice.new.self (s.at + n) (omega arith) (omega arith)
-    ∙ ap (λ v. take s.at s.begun ++ v) d in
+    let new = put_mid s.at (s.at + n - s.at) s.begun c.copy_from_slice.new.self in
+    let put = put-behind s.at n s.begun xs c.copy_from_slice.new.self (omega arith) (omega arith)
+    c.copy_from_slice.ensures.after in
+    let front = put.0 in
+    let all = put.1 in
     let w = c.has_header.ensures.yes c.if-has_header.true in (
       search (
         rules,

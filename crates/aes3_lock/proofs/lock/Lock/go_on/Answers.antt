@@ -60,14 +60,10 @@ refuted c l f =
     (ap (λ (k : LockState). k.candidate) c.self.view_is ∙ c.requires.in_hand) c.self.invariant.1
     (record { cells = c.complete_subframe-cells.ensures; fits = omega (arith, m, h); room = omega (arith, b, o) })
     (omega (arith, m, h))
-    (all-right c.args.candidate c.complete_subframe-cells.result
-    (c.self.inside.seen - c.args.candidate.at) c.wrong_cells.result c.mark_of.result
-    (omega arith) c.mark_of.ensures c.wrong_cells.ensures
-    n (omega arith) (omega (arith, m, h)))
-    (next-wrong c.args.candidate c.complete_subframe-cells.result
-    (c.self.inside.seen - c.args.candidate.at) c.wrong_cells.result c.mark_of.result
-    (omega arith) c.mark_of.ensures c.wrong_cells.ensures
-    n refl (omega (arith, m, h)))
+    (all-right c.args.candidate _ _ _ _ (omega arith) c.mark_of.ensures c.wrong_cells.ensures n (omega arith)
+    (omega (arith, m, h)))
+    (next-wrong c.args.candidate _ _ _ _ (omega arith) c.mark_of.ensures c.wrong_cells.ensures n refl
+    (omega (arith, m, h)))
     (c.refute.ensures.seen ∙ ap (λ (k : LockState). k.seen + (right c + 1)) (sym c.self.view_is))
     (c.refute.ensures.recent
     ∙ ap (λ (k : LockState). drop (right c + 1) (k.recent ++ low_cells (right c + 1) c.args.word))
@@ -128,10 +124,8 @@ goes-next c l f =
     (subst (λ k. Follows k l) (sym c.self.view_is) f)
     (ap (λ (k : LockState). k.candidate) c.self.view_is ∙ c.requires.in_hand)
     (record { cells = c.complete_subframe-cells.ensures; fits = omega (arith, m); room = omega (arith, b, o) })
-    (all-right c.args.candidate c.complete_subframe-cells.result
-    (c.self.inside.seen - c.args.candidate.at) c.wrong_cells.result c.mark_of.result
-    (omega arith) c.mark_of.ensures c.wrong_cells.ensures
-    c.min-taken.result (omega (arith, h)) (omega (arith, m)))
+    (all-right c.args.candidate _ _ _ _ (omega arith) c.mark_of.ensures c.wrong_cells.ensures c.min-taken.result
+    (omega (arith, h)) (omega (arith, m)))
     (next c)
     (ap (λ (k : LockState). k.seen) c.self-2.view_is ∙ c.count.ensures.seen
     ∙ ap (λ (k : LockState). k.seen + c.min-taken.result) (sym c.self.view_is))
@@ -177,10 +171,8 @@ goes-whole c l f =
     (subst (λ k. Follows k l) (sym c.self.view_is) f)
     (ap (λ (k : LockState). k.candidate) c.self.view_is ∙ c.requires.in_hand)
     (record { cells = c.complete_subframe-cells.ensures; fits = omega (arith, m); room = omega (arith, b, o) })
-    (all-right c.args.candidate c.complete_subframe-cells.result
-    (c.self.inside.seen - c.args.candidate.at) c.wrong_cells.result c.mark_of.result
-    (omega arith) c.mark_of.ensures c.wrong_cells.ensures
-    c.min-taken.result (omega (arith, h)) (omega (arith, m)))
+    (all-right c.args.candidate _ _ _ _ (omega arith) c.mark_of.ensures c.wrong_cells.ensures c.min-taken.result
+    (omega (arith, h)) (omega (arith, m)))
     (whole c)
     (ap (λ (k : LockState). k.seen) c.self-2.view_is ∙ c.count.ensures.seen
     ∙ ap (λ (k : LockState). k.seen + c.min-taken.result) (sym c.self.view_is))

@@ -15,28 +15,15 @@ use Rattle.std.proofs.lemmas.Option.{same_Some}
 pub returns-clause-follows : goal.returns-clause-follows
 returns-clause-follows c = λ l f p.
     let s = subst (λ k. Stops k c.args.cell) (sym c.self.view_is) p in
-    (push-last _ (record {
-      seen = c.self.inside.seen + 1;
-      recent = low_cells 8 c.with_cell-self-inside.result;
-      candidate = c.candidate_in-self-inside.result;
-      subframe = c.from-self-inside.result;
-      words = c.self.inside.words;
-    })
-    s.in_hand l c.args.cell (subst (λ k. Follows k l) (sym c.self.view_is) f) c.self.invariant.1 s.is s.stop
-    refl c.with_cell-self-inside.ensures c.candidate_in-self-inside.ensures.value
+    (push-last _ _ s.in_hand l c.args.cell (subst (λ k. Follows k l) (sym c.self.view_is) f) c.self.invariant.1
+    s.is s.stop refl c.with_cell-self-inside.ensures c.candidate_in-self-inside.ensures.value
     (ap (low_cells 8) (sym c.from-self-inside.ensures)) (let e = c.from-self-inside.ensures in omega (arith, e))).0
 
 pub returns-clause-report : goal.returns-clause-report
 returns-clause-report c = λ l f p.
     let s = subst (λ k. Stops k c.args.cell) (sym c.self.view_is) p in
     let e : s.in_hand ≡ c.in-Some.candidate = same_Some _ _ (sym s.is ∙ c.in-Some.is) in
-    (push-last _ (record {
-      seen = c.self.inside.seen + 1;
-      recent = low_cells 8 c.with_cell-self-inside.result;
-      candidate = c.candidate_in-self-inside.result;
-      subframe = c.from-self-inside.result;
-      words = c.self.inside.words;
-    })
+    (push-last _ (record { seen = _; recent = _; candidate = _; subframe = _; words = c.self.inside.words })
     s.in_hand l c.args.cell (subst (λ k. Follows k l) (sym c.self.view_is) f) c.self.invariant.1 s.is s.stop
     refl c.with_cell-self-inside.ensures c.candidate_in-self-inside.ensures.value
     (ap (low_cells 8) (sym c.from-self-inside.ensures)) (let e = c.from-self-inside.ensures in omega (arith, e))).1

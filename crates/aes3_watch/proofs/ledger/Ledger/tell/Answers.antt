@@ -9,6 +9,7 @@ use Rattle.aes3_text_reports.specs.Lines.{told_line}
 use Rattle.aes3_watch.specs.GapLines.{account_lines}
 use Rattle.aes3_watch.proofs.GapWrites.{lines-append}
 use Rattle.aes3_text_reports.proofs.EndingLines.{ending-told}
+use Rattle.aes3_watch.proofs.EventWrites.{wrote-failed}
 use Rattle.aes3_watch.proofs.ledger.Ledger.tell.Goals as goal
 
 pub returns-in_err-tell_before-clause-wrote : goal.returns-in_err-tell_before-clause-wrote
@@ -17,15 +18,9 @@ returns-in_err-tell_before-clause-wrote g c =
     let x = report_in c.args.lock.now c.args.ending in
     let p = err_from_is_err_and c.from_residual.result c.from_residual.ensures.1 in
     let f = c.in_err-tell_before.ensures.wrote.err in
-    rw p.1 (record {
-      grew = tt;
-      no_failure = tt;
-      err = (
-        f.0,
-        front-is (sym (lines-append k.lines (gaps_before c.args.blocks k.account.place x) (reported x ∷ [])))
-            (front-more f.1 (account_lines k.lines (reported x ∷ []))),
-      );
-    })
+    rw p.1 (wrote-failed f.0
+    (front-is (sym (lines-append k.lines (gaps_before c.args.blocks k.account.place x) (reported x ∷ [])))
+    (front-more f.1 (account_lines k.lines (reported x ∷ [])))))
 
 pub returns-clause-wrote : goal.returns-clause-wrote
 returns-clause-wrote g c =

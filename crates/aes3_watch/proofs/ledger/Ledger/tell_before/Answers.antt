@@ -9,6 +9,7 @@ use Rattle.aes3_lock.specs.Reports.{wholes}
 use Rattle.aes3_lock_gaps.specs.Gaps.{is_lost}
 use Rattle.aes3_watch.specs.GapLines.{account_lines}
 use Rattle.aes3_watch.proofs.GapWrites.{due-of, due-place, due-report, ending-with}
+use Rattle.aes3_watch.proofs.EventWrites.{wrote-failed}
 use Rattle.aes3_watch.proofs.ledger.Ledger.tell_before.Goals as goal
 
 pub tell_gaps-requires-clause-few : goal.tell_gaps-requires-clause-few
@@ -28,16 +29,10 @@ returns-in_err-tell_gaps-clause-wrote g c =
     let d = c.before_report.result in
     let p = err_from_is_err_and c.from_residual.result c.from_residual.ensures.1 in
     let f = c.in_err-tell_gaps.ensures.wrote.err in
-    rw p.1 (record {
-      grew = tt;
-      no_failure = tt;
-      err = (
-        f.0,
-        front-is (ap (account_lines k.lines) (due-report c.args._blocks k.account.place k.account.found x d
-            (due-of (read_words c.args.lock.now.words) k.account.found c.args.ending d c.before_report.ensures)
-            c.requires.found)) f.1,
-      );
-    })
+    rw p.1 (wrote-failed f.0
+    (front-is (ap (account_lines k.lines) (due-report c.args._blocks k.account.place k.account.found x d
+    (due-of (read_words c.args.lock.now.words) k.account.found c.args.ending d c.before_report.ensures)
+    c.requires.found)) f.1))
 
 pub returns-clause-found : goal.returns-clause-found
 returns-clause-found g c =

@@ -1,6 +1,7 @@
 use Rattle.std.proofs.Common.{◌≡◌, ◌+◌, None, ap, ◌∙◌, rules}
 use Rattle.std.proofs.lemmas.Result.{err_from_is_err_and}
 use Rattle.aes3_watch.proofs.GapWrites.{gaps-next, gaps-fail, gaps-behind}
+use Rattle.aes3_watch.proofs.EventWrites.{wrote-failed}
 use Rattle.aes3_watch.proofs.ledger.Ledger.tell_gaps.Goals as goal
 
 pub loop-gap-preserved : goal.loop-gap-preserved
@@ -24,14 +25,8 @@ returns-in_err-tell_gap-clause-wrote g c =
     let x = c.in-Some.gap in
     let p = err_from_is_err_and c.from_residual.result c.from_residual.ensures.1 in
     let f = c.in_err-tell_gap.ensures.wrote.err in
-    rw p.1 (record {
-      grew = tt;
-      no_failure = tt;
-      err = (
-        f.0 ∙ ap (λ m. m + 1) v.quiet,
-        gaps-fail _ c.next.new.self.place x v.told (c.next.ensures.gap x c.in-Some.is) (rw v.lines at f.1),
-      );
-    })
+    rw p.1 (wrote-failed (f.0 ∙ ap (λ m. m + 1) v.quiet)
+    (gaps-fail _ c.next.new.self.place x v.told (c.next.ensures.gap x c.in-Some.is) (rw v.lines at f.1)))
 
 pub returns-clause-place : goal.returns-clause-place
 returns-clause-place g c =

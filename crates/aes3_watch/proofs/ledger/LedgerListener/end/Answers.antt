@@ -11,6 +11,7 @@ use Rattle.aes3_watch.specs.GapLines.{account_lines}
 use Rattle.aes3_watch.proofs.Accounts.{close-accounts, close-lines, close_with-accounts, close_with-lines, lost-room}
 use Rattle.aes3_watch.proofs.Accounts.{near-last, reached-is, report-lines}
 use Rattle.aes3_watch.proofs.GapWrites.{due-all}
+use Rattle.aes3_watch.proofs.EventWrites.{wrote-failed}
 use Rattle.aes3_watch.proofs.ledger.LedgerListener.end.Goals as goal
 
 pub tell-requires-clause-few : goal.tell-requires-clause-few
@@ -20,16 +21,14 @@ tell-requires-clause-few g c =
     let e = h.1.follows.seen in
     let l = lost-room h.0 [] n h.2.accounts (e ∙ ap length (sym (append-nil h.0))) c.requires.few in
     let p = near-last h.0 (report_in c.args.lock.now c.in-Some.ending) n (end-one c.in-Some.is h.1) e in
-    let s = c.requires.few in
-    omega (arith, l, p, s)
+    omega (arith, l, p, c.requires.few)
 
 pub tell-requires-clause-near : goal.tell-requires-clause-near
 tell-requires-clause-near g c =
     let h = c.requires.following in
     let p = near-last h.0 (report_in c.args.lock.now c.in-Some.ending) c.args.lock.now.seen (end-one c.in-Some.is h.1)
     h.1.follows.seen in
-    let s = c.requires.few in
-    omega (arith, p, s)
+    omega (arith, p, c.requires.few)
 
 pub tell-requires-clause-found : goal.tell-requires-clause-found
 tell-requires-clause-found g c = let h = c.requires.following in h.2.found_is ∙ ap (ltb 0) (sym h.1.blocks)
@@ -41,21 +40,14 @@ tell_gaps-requires-clause-few g c =
     let e = h.1.follows.seen in
     let l = lost-room h.0 [] n h.2.accounts (e ∙ ap length (sym (append-nil h.0))) c.requires.few in
     let p = near-last h.0 (report_in c.args.lock.now c.in-Some.ending) n (end-one c.in-Some.is h.1) e in
-    let s = c.requires.few in
-    let f = c.in_ok-tell-in-Some.ensures.few in
-    let t = c.end.ensures.to in
-    let v = c.seen.ensures in
-    omega (arith, l, p, s, f, t, v)
+    omega (arith, l, p, c.requires.few, c.in_ok-tell-in-Some.ensures.few, c.end.ensures.to, c.seen.ensures)
 
 pub tell_gaps-requires-in-None-clause-few : goal.tell_gaps-requires-in-None-clause-few
 tell_gaps-requires-in-None-clause-few g c =
     let h = c.requires.following in
     let l = lost-room h.0 [] c.args.lock.now.seen h.2.accounts
     (h.1.follows.seen ∙ ap length (sym (append-nil h.0))) c.requires.few in
-    let s = c.requires.few in
-    let t = c.end-in-None.ensures.to in
-    let v = c.seen-in-None.ensures in
-    omega (arith, l, s, t, v)
+    omega (arith, l, c.requires.few, c.end-in-None.ensures.to, c.seen-in-None.ensures)
 
 pub returns-in_err-tell-in-Some-clause-wrote : goal.returns-in_err-tell-in-Some-clause-wrote
 returns-in_err-tell-in-Some-clause-wrote g c =
@@ -64,16 +56,10 @@ returns-in_err-tell-in-Some-clause-wrote g c =
     let p = err_from_is_err_and c.from_residual.result c.from_residual.ensures.1 in
     let w = c.in_err-tell-in-Some.ensures.wrote in
     rw p.1 (λ d h f.
-    let r = behind_report (accounted d) x in record {
-      grew = tt;
-      no_failure = tt;
-      err = (
-        w.err.0,
-        front-is (close_with-lines k.lines r (length d) d x refl refl (end-one c.in-Some.is h))
-            (front-more (front-is (report-lines k.lines c.args.blocks k.account.place d x h.blocks f.accounts.place_is)
-            w.err.1) (account_lines k.lines (gaps false r (length d)))),
-      );
-    })
+    let r = behind_report (accounted d) x in wrote-failed w.err.0
+    (front-is (close_with-lines k.lines r (length d) d x refl refl (end-one c.in-Some.is h))
+    (front-more (front-is (report-lines k.lines c.args.blocks k.account.place d x h.blocks f.accounts.place_is)
+    w.err.1) (account_lines k.lines (gaps false r (length d))))))
 
 pub returns-in_ok-tell-in-Some-clause-done : goal.returns-in_ok-tell-in-Some-clause-done
 returns-in_ok-tell-in-Some-clause-done g c =

@@ -13,7 +13,7 @@ use Rattle.aes3_watch.specs.Accounting.{accounting}
 use Rattle.aes3_watch.specs.GapLines.{account_lines}
 use Rattle.aes3_watch.proofs.Accounts.{lost-room, more-wholes, near-new, pass-accounts, pass-lines, reached-is}
 use Rattle.aes3_watch.proofs.Accounts.{report-lines, take-accounts, take-lines}
-use Rattle.aes3_watch.proofs.EventWrites.{if-both}
+use Rattle.aes3_watch.proofs.EventWrites.{if-both, wrote-failed}
 use Rattle.aes3_watch.proofs.GapWrites.{due-full}
 use Rattle.aes3_watch.proofs.ledger.LedgerListener.hear.Goals as goal
 
@@ -21,18 +21,15 @@ pub tell-requires-clause-few : goal.tell-requires-clause-few
 tell-requires-clause-few g c =
     let h = c.requires.following in
     let n = c.args.lock.now.seen in
-    let l = lost-room h.0 h.1 n h.3.accounts h.2.follows.seen c.requires.few in
     let p = near-new h.0 h.1 (report_in c.args.lock.now c.in-Some.ending) n (told-one c.in-Some.is h.2) h.2.follows.seen in
-    let s = c.requires.few in
-    omega (arith, l, p, s)
+    omega (arith, lost-room h.0 h.1 n h.3.accounts h.2.follows.seen c.requires.few, p, c.requires.few)
 
 pub tell-requires-clause-near : goal.tell-requires-clause-near
 tell-requires-clause-near g c =
     let h = c.requires.following in
     let p = near-new h.0 h.1 (report_in c.args.lock.now c.in-Some.ending) c.args.lock.now.seen
     (told-one c.in-Some.is h.2) h.2.follows.seen in
-    let s = c.requires.few in
-    omega (arith, p, s)
+    omega (arith, p, c.requires.few)
 
 pub tell-requires-clause-found : goal.tell-requires-clause-found
 tell-requires-clause-found g c = let h = c.requires.following in h.3.found_is ∙ ap (ltb 0) (sym h.2.blocks)
@@ -43,20 +40,13 @@ tell_gaps-requires-clause-few g c =
     let n = c.args.lock.now.seen in
     let l = lost-room h.0 h.1 n h.3.accounts h.2.follows.seen c.requires.few in
     let p = near-new h.0 h.1 (report_in c.args.lock.now c.in-Some.ending) n (told-one c.in-Some.is h.2) h.2.follows.seen in
-    let s = c.requires.few in
-    let f = c.in_ok-tell-in-Some.ensures.few in
-    let t = c.passed.ensures.to in
-    let e = c.seen.ensures in
-    omega (arith, l, p, s, f, t, e)
+    omega (arith, l, p, c.requires.few, c.in_ok-tell-in-Some.ensures.few, c.passed.ensures.to, c.seen.ensures)
 
 pub tell_gaps-requires-in-None-clause-few : goal.tell_gaps-requires-in-None-clause-few
 tell_gaps-requires-in-None-clause-few g c =
     let h = c.requires.following in
     let l = lost-room h.0 h.1 c.args.lock.now.seen h.3.accounts h.2.follows.seen c.requires.few in
-    let s = c.requires.few in
-    let t = c.passed-in-None.ensures.to in
-    let e = c.seen-in-None.ensures in
-    omega (arith, l, s, t, e)
+    omega (arith, l, c.requires.few, c.passed-in-None.ensures.to, c.seen-in-None.ensures)
 
 pub returns-in_err-tell-in-Some-clause-wrote : goal.returns-in_err-tell-in-Some-clause-wrote
 returns-in_err-tell-in-Some-clause-wrote g c =
@@ -66,16 +56,10 @@ returns-in_err-tell-in-Some-clause-wrote g c =
     let w = c.in_err-tell-in-Some.ensures.wrote in
     rw p.1 (λ d e h f.
     let r = behind_report (accounted d) x in
-    let s = length (d ++ e) - block_len in record {
-      grew = tt;
-      no_failure = tt;
-      err = (
-        w.err.0,
-        front-is (take-lines k.lines r s d e x refl refl (told-one c.in-Some.is h))
-            (front-more (front-is (report-lines k.lines c.args.blocks k.account.place d x h.blocks f.accounts.place_is)
-            w.err.1) (account_lines k.lines (full_gaps r (full_count r s)))),
-      );
-    })
+    let s = length (d ++ e) - block_len in wrote-failed w.err.0
+    (front-is (take-lines k.lines r s d e x refl refl (told-one c.in-Some.is h))
+    (front-more (front-is (report-lines k.lines c.args.blocks k.account.place d x h.blocks f.accounts.place_is)
+    w.err.1) (account_lines k.lines (full_gaps r (full_count r s))))))
 
 pub returns-in_ok-tell-in-Some-clause-unchanged : goal.returns-in_ok-tell-in-Some-clause-unchanged
 returns-in_ok-tell-in-Some-clause-unchanged g c =

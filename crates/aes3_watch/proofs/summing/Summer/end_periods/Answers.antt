@@ -4,6 +4,7 @@ use Rattle.aes3_cell.proofs.Growing.{grew-is, grew-join}
 use Rattle.aes3_watch.specs.Sums.{ends_before, notice_lines, periods, periods_told, with_period}
 use Rattle.aes3_watch.proofs.Sums.{ended-front, ended-lines, ends-is, loop-few, loop-near, next-is, period-is}
 use Rattle.aes3_watch.proofs.Sums.{periods-more}
+use Rattle.aes3_watch.proofs.EventWrites.{wrote-failed}
 use Rattle.aes3_watch.proofs.summing.Summer.end_periods.Goals as goal
 
 pub end_period-requires-clause-few : goal.end_period-requires-clause-few
@@ -36,15 +37,9 @@ returns-in_err-end_period-clause-wrote g c =
     let e = ends-is k.every u c.args.to s (s / k.every) c.saturating_sub.ensures refl in
     let p = err_from_is_err_and c.from_residual.result c.from_residual.ensures.1 in
     let f = c.in_err-end_period.ensures.wrote.err in
-    rw p.1 (record {
-      grew = tt;
-      no_failure = tt;
-      err = (
-        f.0 ∙ ap (λ n. n + 1) v.quiet,
-        ended-front k.watcher.style k.every c.ending._told (ends_before k.every u c.args.to) u (omega arith)
-            (period-is v.style v.every v.state) v.grew f.1,
-      );
-    })
+    rw p.1 (wrote-failed (f.0 ∙ ap (λ n. n + 1) v.quiet)
+    (ended-front k.watcher.style k.every c.ending._told (ends_before k.every u c.args.to) u (omega arith)
+    (period-is v.style v.every v.state) v.grew f.1))
 
 pub ending-preserved : goal.ending-preserved
 ending-preserved g c =

@@ -4,6 +4,7 @@ use Rattle.aes3_cell.proofs.Growing.{grew-is, grew-join, front-is, front-join, f
 use Rattle.aes3_watch.specs.Watching.{event_lines, loss_events}
 use Rattle.aes3_watch.specs.Sums.{ends_before, periods, with_period}
 use Rattle.aes3_watch.proofs.Sums.{go-is, go-lines}
+use Rattle.aes3_watch.proofs.EventWrites.{wrote-failed}
 use Rattle.aes3_watch.proofs.summing.Summer.go_to.Goals as goal
 
 pub returns-in_err-end_periods-clause-wrote : goal.returns-in_err-end_periods-clause-wrote
@@ -13,15 +14,9 @@ returns-in_err-end_periods-clause-wrote g c =
     let v = periods k.every (ends_before k.every u c.args.to) u in
     let p = err_from_is_err_and c.from_residual.result c.from_residual.ensures.1 in
     let f = c.in_err-end_periods.ensures.wrote.err in
-    rw p.1 (record {
-      grew = tt;
-      no_failure = tt;
-      err = (
-        f.0,
-        front-is (go-lines k.watcher.style k.every u v c.args.to refl)
-            (front-more f.1 (event_lines k.watcher.style (loss_events v.watched c.args.to))),
-      );
-    })
+    rw p.1 (wrote-failed f.0
+    (front-is (go-lines k.watcher.style k.every u v c.args.to refl)
+    (front-more f.1 (event_lines k.watcher.style (loss_events v.watched c.args.to)))))
 
 pub returns-in_err-go_on-clause-wrote : goal.returns-in_err-go_on-clause-wrote
 returns-in_err-go_on-clause-wrote g c =
@@ -31,15 +26,9 @@ returns-in_err-go_on-clause-wrote g c =
     let v = with_period n.watcher.state n.period in
     let p = err_from_is_err_and c.from_residual-in_err-go_on.result c.from_residual-in_err-go_on.ensures.1 in
     let f = c.in_err-go_on.ensures.wrote.err in
-    rw p.1 (record {
-      grew = tt;
-      no_failure = tt;
-      err = (
-        f.0 ∙ ap (λ m. m + 1) c.in_ok-end_periods.ensures.wrote.no_failure,
-        front-is (go-lines k.watcher.style k.every u v c.args.to c.in_ok-end_periods.ensures.state)
-            (front-join c.in_ok-end_periods.ensures.wrote.grew (rw c.end_periods.ensures.style at f.1)),
-      );
-    })
+    rw p.1 (wrote-failed (f.0 ∙ ap (λ m. m + 1) c.in_ok-end_periods.ensures.wrote.no_failure)
+    (front-is (go-lines k.watcher.style k.every u v c.args.to c.in_ok-end_periods.ensures.state)
+    (front-join c.in_ok-end_periods.ensures.wrote.grew (rw c.end_periods.ensures.style at f.1))))
 
 pub returns-clause-state : goal.returns-clause-state
 returns-clause-state g c =

@@ -4,7 +4,7 @@ use Rattle.aes3_cell.proofs.Growing.{grew-is, grew-join, front-is, front-join, f
 use Rattle.aes3_lock.specs.Following.{report_in}
 use Rattle.aes3_watch.specs.Watching.{event_lines, told_events}
 use Rattle.aes3_watch.specs.Sums.{go_to, with_period}
-use Rattle.aes3_watch.proofs.EventWrites.{put-one}
+use Rattle.aes3_watch.proofs.EventWrites.{put-one, wrote-failed}
 use Rattle.aes3_watch.proofs.Sums.{kept-go, report-lines}
 use Rattle.aes3_watch.proofs.summing.Summer.take_report.Goals as goal
 
@@ -25,15 +25,9 @@ returns-in_err-go_to-clause-wrote g c =
     let told = told_events v.watched x in
     let p = err_from_is_err_and c.from_residual.result c.from_residual.ensures.1 in
     let f = c.in_err-go_to.ensures.wrote.err in
-    rw p.1 (record {
-      grew = tt;
-      no_failure = tt;
-      err = (
-        f.0,
-        front-is (report-lines k.watcher.style k.every u v x c.place_in.result told c.place_in.ensures refl refl)
-            (front-more f.1 (event_lines k.watcher.style told)),
-      );
-    })
+    rw p.1 (wrote-failed f.0
+    (front-is (report-lines k.watcher.style k.every u v x c.place_in.result told c.place_in.ensures refl refl)
+    (front-more f.1 (event_lines k.watcher.style told))))
 
 pub returns-in_err-put_events-clause-wrote : goal.returns-in_err-put_events-clause-wrote
 returns-in_err-put_events-clause-wrote g c =
@@ -46,17 +40,11 @@ returns-in_err-put_events-clause-wrote g c =
     let p = err_from_is_err_and c.from_residual-in_err-put_events.result
     c.from_residual-in_err-put_events.ensures.1 in
     let f = c.in_err-put_events.ensures.err in
-    rw p.1 (record {
-      grew = tt;
-      no_failure = tt;
-      err = (
-        f.0 ∙ ap (λ m. m + 1) c.in_ok-go_to.ensures.wrote.no_failure,
-        front-is (report-lines k.watcher.style k.every (with_period k.watcher.state k.period)
-            (with_period n.watcher.state n.period) x c.place_in.result _ c.place_in.ensures
-            c.in_ok-go_to.ensures.state refl)
-            (front-join c.in_ok-go_to.ensures.wrote.grew (front-is (ap₂ event_lines style told) f.1)),
-      );
-    })
+    rw p.1 (wrote-failed (f.0 ∙ ap (λ m. m + 1) c.in_ok-go_to.ensures.wrote.no_failure)
+    (front-is (report-lines k.watcher.style k.every (with_period k.watcher.state k.period)
+    (with_period n.watcher.state n.period) x c.place_in.result _ c.place_in.ensures
+    c.in_ok-go_to.ensures.state refl)
+    (front-join c.in_ok-go_to.ensures.wrote.grew (front-is (ap₂ event_lines style told) f.1))))
 
 pub returns-clause-wrote : goal.returns-clause-wrote
 returns-clause-wrote g c =

@@ -9,6 +9,7 @@ use Rattle.aes3_watch.proofs.Accounts.{near-last}
 use Rattle.aes3_watch.proofs.Sums.{next-at}
 use Rattle.aes3_watch.proofs.SumWrites.{closed-lines, closed_with-lines}
 use Rattle.aes3_watch.proofs.WatchedCells.{close-ended, close_with-ended, loss-room}
+use Rattle.aes3_watch.proofs.EventWrites.{wrote-failed}
 use Rattle.aes3_watch.proofs.summing.SummerListener.end.Goals as goal
 
 pub take_report-requires-clause-few : goal.take_report-requires-clause-few
@@ -29,22 +30,18 @@ take_report-requires-clause-near g c =
     let h = c.requires.following in
     let n = near-last h.0 (report_in c.args.lock.now c.in-Some.ending) c.args.lock.now.seen (end-one c.in-Some.is h.1)
     h.1.follows.seen in
-    let s = c.requires.few in
-    omega (arith, n, s)
+    omega (arith, n, c.requires.few)
 
 pub go_to_end-requires-clause-few : goal.go_to_end-requires-clause-few
 go_to_end-requires-clause-few g c =
     let h = c.requires.following in
     let l = loss-room h.0 [] c.args.lock.now.seen h.2.watches (h.1.follows.seen ∙ ap length (sym (append-nil h.0)))
     c.requires.few in
-    let f = c.in_ok-take_report-in-Some.ensures.few in
-    omega (arith, l, f)
+    omega (arith, l, c.in_ok-take_report-in-Some.ensures.few)
 
 pub go_to_end-requires-clause-some : goal.go_to_end-requires-clause-some
 go_to_end-requires-clause-some g c =
-    let h = c.requires.following.2.some in
-    let e = c.take_report.ensures.every in
-    omega (arith, h, e)
+    omega (arith, c.requires.following.2.some, c.take_report.ensures.every)
 
 pub go_to_end-requires-in-None-clause-few : goal.go_to_end-requires-in-None-clause-few
 go_to_end-requires-in-None-clause-few g c =
@@ -63,15 +60,9 @@ returns-in_err-take_report-in-Some-clause-wrote g c =
     let x = report_in c.args.lock.now c.in-Some.ending in
     let p = err_from_is_err_and c.from_residual.result c.from_residual.ensures.1 in
     let w = c.in_err-take_report-in-Some.ensures.wrote in
-    rw p.1 (λ d h f. record {
-      grew = tt;
-      no_failure = tt;
-      err = (
-        w.err.0,
-        front-is (closed_with-lines k.watcher.style k.every u (next_sum k.every u x) _ d x f.some f.state_is refl refl
-            (end-one c.in-Some.is h)) (front-more w.err.1 _),
-      );
-    })
+    rw p.1 (λ d h f. wrote-failed w.err.0
+    (front-is (closed_with-lines k.watcher.style k.every u (next_sum k.every u x) _ d x f.some f.state_is refl refl
+    (end-one c.in-Some.is h)) (front-more w.err.1 _)))
 
 pub returns-in_ok-take_report-in-Some-clause-done : goal.returns-in_ok-take_report-in-Some-clause-done
 returns-in_ok-take_report-in-Some-clause-done g c =

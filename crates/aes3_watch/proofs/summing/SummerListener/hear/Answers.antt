@@ -8,13 +8,13 @@ use Rattle.aes3_watch.specs.Sums.{go_to, next_sum, notice_lines, with_period, su
 use Rattle.aes3_watch.proofs.Accounts.{less, near-new}
 use Rattle.aes3_watch.proofs.WatchedCells.{loss-room}
 use Rattle.aes3_watch.proofs.SumWrites.{passed-lines, passed-sums, same-sums, taken-lines, taken-sums}
+use Rattle.aes3_watch.proofs.EventWrites.{wrote-failed}
 use Rattle.aes3_watch.proofs.summing.SummerListener.hear.Goals as goal
 
 pub take_report-requires-clause-few : goal.take_report-requires-clause-few
 take_report-requires-clause-few g c =
     let h = c.requires.following in
-    let l = loss-room h.0 h.1 c.args.lock.now.seen h.3.watches h.2.follows.seen c.requires.few in
-    omega (arith, l)
+    omega (arith, loss-room h.0 h.1 c.args.lock.now.seen h.3.watches h.2.follows.seen c.requires.few)
 
 pub take_report-requires-clause-some : goal.take_report-requires-clause-some
 take_report-requires-clause-some g c = c.requires.following.3.some
@@ -27,27 +27,22 @@ take_report-requires-clause-near g c =
     let h = c.requires.following in
     let n = near-new h.0 h.1 (report_in c.args.lock.now c.in-Some.ending) c.args.lock.now.seen
     (told-one c.in-Some.is h.2) h.2.follows.seen in
-    let s = c.requires.few in
-    omega (arith, n, s)
+    omega (arith, n, c.requires.few)
 
 pub go_to-requires-clause-few : goal.go_to-requires-clause-few
 go_to-requires-clause-few g c =
     let h = c.requires.following in
     let l = loss-room h.0 h.1 c.args.lock.now.seen h.3.watches h.2.follows.seen c.requires.few in
-    let f = c.in_ok-take_report-in-Some.ensures.few in
-    omega (arith, l, f)
+    omega (arith, l, c.in_ok-take_report-in-Some.ensures.few)
 
 pub go_to-requires-clause-some : goal.go_to-requires-clause-some
 go_to-requires-clause-some g c =
-    let h = c.requires.following.3.some in
-    let e = c.take_report.ensures.every in
-    omega (arith, h, e)
+    omega (arith, c.requires.following.3.some, c.take_report.ensures.every)
 
 pub go_to-requires-in-None-clause-few : goal.go_to-requires-in-None-clause-few
 go_to-requires-in-None-clause-few g c =
     let h = c.requires.following in
-    let l = loss-room h.0 h.1 c.args.lock.now.seen h.3.watches h.2.follows.seen c.requires.few in
-    omega (arith, l)
+    omega (arith, loss-room h.0 h.1 c.args.lock.now.seen h.3.watches h.2.follows.seen c.requires.few)
 
 pub go_to-requires-in-None-clause-some : goal.go_to-requires-in-None-clause-some
 go_to-requires-in-None-clause-some g c = c.requires.following.3.some
@@ -59,15 +54,9 @@ returns-in_err-take_report-in-Some-clause-wrote g c =
     let x = report_in c.args.lock.now c.in-Some.ending in
     let p = err_from_is_err_and c.from_residual.result c.from_residual.ensures.1 in
     let w = c.in_err-take_report-in-Some.ensures.wrote in
-    rw p.1 (λ d e h f. record {
-      grew = tt;
-      no_failure = tt;
-      err = (
-        w.err.0,
-        front-is (taken-lines k.watcher.style k.every u (next_sum k.every u x) _ d e x f.some f.state_is refl refl
-            (told-one c.in-Some.is h)) (front-more w.err.1 _),
-      );
-    })
+    rw p.1 (λ d e h f. wrote-failed w.err.0
+    (front-is (taken-lines k.watcher.style k.every u (next_sum k.every u x) _ d e x f.some f.state_is refl refl
+    (told-one c.in-Some.is h)) (front-more w.err.1 _)))
 
 pub returns-in_ok-take_report-in-Some-clause-unchanged : goal.returns-in_ok-take_report-in-Some-clause-unchanged
 returns-in_ok-take_report-in-Some-clause-unchanged g c =

@@ -1,7 +1,7 @@
-use Rattle.std.proofs.Common.{◌≡◌, ◌+◌, ◌-◌, ◌++◌, length, take, refl, ap, ◌∙◌, arith, length-append}
+use Rattle.std.proofs.Common.{◌≡◌, ◌+◌, ◌-◌, ◌++◌, length, take, refl, ap, ◌∙◌, arith}
 use borrow.Rule.Slice.PartMut.{put_mid}
 use Rattle.std.proofs.lemmas.List.{length-take-le}
-use Rattle.std.proofs.lemmas.Slice.{take-put_mid}
+use Rattle.aes3_engine.proofs.SampleReads.{put-behind}
 use Rattle.aes3_wave_runs.specs.States.{samples_state}
 use Rattle.aes3_wave_runs.specs.Wave.{frames_state}
 use Rattle.aes3_wave_runs.proofs.FrameSteps.{frames-following, last-fed, last-refused, part-fed}
@@ -18,16 +18,12 @@ returns-then-at-count g c =
     let few = s.few in
     let some = c.requires.some in
     let room = c.requires.samples in
-    let k = s.at + n - s.at in
-    let l : length (take n xs) ≡ n = length-take-le n xs (omega arith) in
-    let d = c.copy_from_slice.ensures.after in
-    let y : length c.copy_from_slice.new.self ≡ n = ap length d ∙ l in
+    let new = put_mid s.at (s.at + n - s.at) s.begun c.copy_from_slice.new.self in
+    let put = put-behind s.at n s.begun xs c.copy_from_slice.new.self (omega arith) (omega arith)
+    c.copy_from_slice.ensures.after in
+    let front = put.0 in
+    let all = put.1 in
     let h : length (take s.at s.begun) ≡ s.at = length-take-le s.at s.begun (omega arith) in
-    let j = length-append (take s.at s.begun) (take n xs) in
-    let new = put_mid s.at k s.begun c.copy_from_slice.new.self in
-    let front : take (s.at + n) new ≡ take s.at s.begun ++ take n xs =
-    take-put_mid s.at k s.begun c.copy_from_slice.new.self (s.at + n) (omega arith) (omega arith)
-    ∙ ap (λ v. take s.at s.begun ++ v) d in
     let i = ap length front in
     let t = c.if-at-count.true in (
       omega arith,
@@ -64,16 +60,12 @@ returns-in-Ok g c =
     let few = s.few in
     let some = c.requires.some in
     let room = c.requires.samples in
-    let k = s.at + n - s.at in
-    let l : length (take n xs) ≡ n = length-take-le n xs (omega arith) in
-    let d = c.copy_from_slice.ensures.after in
-    let y : length c.copy_from_slice.new.self ≡ n = ap length d ∙ l in
+    let new = put_mid s.at (s.at + n - s.at) s.begun c.copy_from_slice.new.self in
+    let put = put-behind s.at n s.begun xs c.copy_from_slice.new.self (omega arith) (omega arith)
+    c.copy_from_slice.ensures.after in
+    let front = put.0 in
+    let all = put.1 in
     let h : length (take s.at s.begun) ≡ s.at = length-take-le s.at s.begun (omega arith) in
-    let j = length-append (take s.at s.begun) (take n xs) in
-    let new = put_mid s.at k s.begun c.copy_from_slice.new.self in
-    let front : take (s.at + n) new ≡ take s.at s.begun ++ take n xs =
-    take-put_mid s.at k s.begun c.copy_from_slice.new.self (s.at + n) (omega arith) (omega arith)
-    ∙ ap (λ v. take s.at s.begun ++ v) d in
     let t = c.if-at-count.false in
     let w = c.frame_len-len.result in
     let e : w ≡ s.at + n = omega arith in
@@ -98,16 +90,12 @@ returns-in-Err g c =
     let few = s.few in
     let some = c.requires.some in
     let room = c.requires.samples in
-    let k = s.at + n - s.at in
-    let l : length (take n xs) ≡ n = length-take-le n xs (omega arith) in
-    let d = c.copy_from_slice.ensures.after in
-    let y : length c.copy_from_slice.new.self ≡ n = ap length d ∙ l in
+    let new = put_mid s.at (s.at + n - s.at) s.begun c.copy_from_slice.new.self in
+    let put = put-behind s.at n s.begun xs c.copy_from_slice.new.self (omega arith) (omega arith)
+    c.copy_from_slice.ensures.after in
+    let front = put.0 in
+    let all = put.1 in
     let h : length (take s.at s.begun) ≡ s.at = length-take-le s.at s.begun (omega arith) in
-    let j = length-append (take s.at s.begun) (take n xs) in
-    let new = put_mid s.at k s.begun c.copy_from_slice.new.self in
-    let front : take (s.at + n) new ≡ take s.at s.begun ++ take n xs =
-    take-put_mid s.at k s.begun c.copy_from_slice.new.self (s.at + n) (omega arith) (omega arith)
-    ∙ ap (λ v. take s.at s.begun ++ v) d in
     let t = c.if-at-count.false in
     let w = c.frame_len-len.result in
     let e : w ≡ s.at + n = omega arith in
