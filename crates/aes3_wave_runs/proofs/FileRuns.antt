@@ -29,11 +29,6 @@ use Rattle.aes3_wave_runs.specs.Headers.{HeaderRan, HeaderRun}
 use Rattle.aes3_wave_runs.specs.Wave.{IsWave, IsWaveCause, SamplesRun, file_samples, limit_of}
 use Rattle.aes3_wave_runs.proofs.HeaderRuns.{some-none}
 
-has-second : (f : WaveFormat) (second : Option ℕ) → has_second f second ≡ true → ForSome second (λ n. n < f.channels)
-has-second f None h = λ n e. cc
-has-second f (Some second) h = λ n e.
-    let q : second ≡ n = cc in subst (λ v. v < f.channels) q (ltb-true second f.channels h)
-
 -- a source that had not failed before
 source-from : {A : Type 0} (p : Promise A) (max : ℕ) (b : List ℕ) (ended : Bool) (s₀ s₁ s : Option (List ℕ))
     (n₀ n₁ n : ℕ) (sink : Movement) (r : Result A RunError) → n₁ ≡ n₀
