@@ -66,24 +66,6 @@ times-more every n = grind arith
 times-none : (every : ℕ) → every * 0 ≡ 0
 times-none every = grind arith
 
--- none given
-pub begins_summed : (every : ℕ) (k : Aes3Sums) (c : List Level) → 0 < every → length c ≤ 2 ^ 43 → k.every ≡ every
-    → summed_in k ≡ uncounted_sum unsummed → HasSummed every k c [] []
-begins_summed every k c h s f e =
-    let n = times-none every in
-    record {
-      some = h;
-      few = s;
-      every_is = f;
-      more = reports c;
-      begins = refl;
-      ended = 0;
-      within = omega (arith, n);
-      later = λ x rest m. omega (arith, n);
-      state_is = e;
-      put_is = refl;
-    }
-
 -- a period ends
 period-sums : (every : ℕ) (u : Summed) → sums_in (period_told every u) ≡ period_sum every u ∷ []
 period-sums every u = sums-behind (loss_events u.watched (u.from + every)) (sum (period_sum every u) ∷ [])
