@@ -1,8 +1,9 @@
 //! The option `--fill`: what is written for time that no block covers.
 
 ghost use Rattle.std.specs.Prelude.{◌≡◌};
-ghost use Rattle.aes3_cli_arguments.specs.Jobs.{fill_by, fill_in, has_unknown_filling, options_of};
+ghost use Rattle.aes3_cli_arguments.specs.Jobs.{fill_by, fill_in, options_of};
 
+use crate::choice::{Choice, chosen};
 use aes3_frame::Fill;
 use clap::ArgMatches;
 
@@ -10,29 +11,17 @@ use clap::ArgMatches;
 pub(crate) fn fill_of_options(options: &ArgMatches<'_>) -> Option<Fill>
     ensures { result ≡ fill_by (options_of options.now) }
 {
-    let Some(text) = options.get_str("fill") else {
-        return None;
-    };
-    fill_of_text(text)
+    chosen(options, "fill")
 }
 
-/// Whether an unknown filling is named.
-pub(crate) fn has_unknown_filling(options: &ArgMatches<'_>) -> bool
-    ensures { result ≡ has_unknown_filling (options_of options.now) }
-{
-    let Some(text) = options.get_str("fill") else {
-        return false;
-    };
-    fill_of_text(text).is_none()
-}
+impl Choice for Fill {
+    ghost chosen_by = { fill_in };
 
-/// The filling of this name.
-fn fill_of_text(text: &str) -> Option<Fill>
-    ensures { result ≡ fill_in text.now }
-{
-    match text {
-        "zero" => Some(Fill::Zero),
-        "hold" => Some(Fill::Hold),
-        _ => None,
+    fn of_word(word: &str) -> Option<Self> {
+        match word {
+            "zero" => Some(Fill::Zero),
+            "hold" => Some(Fill::Hold),
+            _ => None,
+        }
     }
 }

@@ -1,8 +1,9 @@
 //! The form of samples.
 
 ghost use Rattle.std.specs.Prelude.{◌≡◌};
-ghost use Rattle.aes3_cli_arguments.specs.Jobs.{format_by, format_in, format_named, has_unknown_format, options_of};
+ghost use Rattle.aes3_cli_arguments.specs.Jobs.{format_by, format_in, options_of};
 
+use crate::choice::{Choice, chosen};
 use aes3_forms_samples::SampleFormat;
 use clap::ArgMatches;
 
@@ -10,41 +11,22 @@ use clap::ArgMatches;
 pub(crate) fn format(options: &ArgMatches<'_>) -> SampleFormat
     ensures { result ≡ format_by (options_of options.now) }
 {
-    match format_if_named(options) {
+    match chosen(options, "pcm") {
         Some(format) => format,
         None => SampleFormat::S32,
     }
 }
 
-/// The form that the options name.
-fn format_if_named(options: &ArgMatches<'_>) -> Option<SampleFormat>
-    ensures { result ≡ format_named (options_of options.now) }
-{
-    let Some(text) = options.get_str("pcm") else {
-        return None;
-    };
-    format_of_text(text)
-}
+impl Choice for SampleFormat {
+    ghost chosen_by = { format_in };
 
-/// Whether an unknown form is named.
-pub(crate) fn has_unknown_format(options: &ArgMatches<'_>) -> bool
-    ensures { result ≡ has_unknown_format (options_of options.now) }
-{
-    let Some(text) = options.get_str("pcm") else {
-        return false;
-    };
-    format_of_text(text).is_none()
-}
-
-/// The form of this name.
-fn format_of_text(text: &str) -> Option<SampleFormat>
-    ensures { result ≡ format_in text.now }
-{
-    match text {
-        "s32" => Some(SampleFormat::S32),
-        "s24" => Some(SampleFormat::S24),
-        "s24in32" => Some(SampleFormat::S24In32),
-        "s16" => Some(SampleFormat::S16),
-        _ => None,
+    fn of_word(word: &str) -> Option<Self> {
+        match word {
+            "s32" => Some(SampleFormat::S32),
+            "s24" => Some(SampleFormat::S24),
+            "s24in32" => Some(SampleFormat::S24In32),
+            "s16" => Some(SampleFormat::S16),
+            _ => None,
+        }
     }
 }

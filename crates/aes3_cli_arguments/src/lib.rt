@@ -2,6 +2,8 @@
 //! job.
 #![tactic(auto)]
 
+/// Values that an option gives by a word.
+mod choice;
 /// The job of a command with its options.
 mod command_job;
 /// What the words ask for.

@@ -2,26 +2,25 @@
 
 ghost use Rattle.std.specs.Prelude.{◌≡◌, IfOk};
 ghost use Rattle.aes3_cli_arguments.specs.Jobs.{AreTaken, TellsMisuse, has_no_cells_packed, has_no_rate};
-ghost use Rattle.aes3_cli_arguments.specs.Jobs.{has_two_forms, has_two_periods, has_unknown_bits, misuse_by};
+ghost use Rattle.aes3_cli_arguments.specs.Jobs.{has_two_forms, has_two_periods, misuse_by};
 ghost use Rattle.aes3_cli_arguments.specs.Jobs.{fills_valid_samples, has_exact_and_others, has_two_details};
 ghost use Rattle.aes3_cli_arguments.specs.Jobs.{has_marked_unfilled, has_two_files};
 ghost use Rattle.aes3_cli_arguments.specs.Jobs.{misuse_line, misuse_text, options_of};
 
+use crate::choice::has_unknown;
 use crate::command_job::LineFault;
 use crate::event_style::rate;
-use crate::fill_option::{fill_of_options, has_unknown_filling};
-use crate::format::has_unknown_format;
+use crate::fill_option::fill_of_options;
 use crate::frequency::has_unknown_rate;
 use crate::preset::has_unknown_preset;
-use crate::to_bits::bits_of_text;
 use crate::value::{flag, number_if_given};
-use crate::wave::{
-    has_preset_beside_use, has_unknown_channels, has_unknown_depth, has_unknown_mono,
-    has_unknown_use,
-};
-use crate::words::has_unknown_words;
+use crate::wave::{has_preset_beside_use, has_unknown_use};
 use aes3_cell::RunError;
 use aes3_cli::wording::{add_usage, usage_of};
+use aes3_forms_samples::SampleFormat;
+use aes3_forms_words::Words;
+use aes3_frame::{CarriedBits, Fill};
+use aes3_wave::{Channels, Depth, Mono};
 use clap::ArgMatches;
 use std::alloc::{AllocError, Global};
 
@@ -83,9 +82,9 @@ pub(crate) fn misuse_of_options(options: &ArgMatches<'_>) -> Option<Misuse>
         Some(Misuse::TwoPeriods)
     } else if has_no_rate(options) {
         Some(Misuse::NoRate)
-    } else if has_unknown_bits(options) {
+    } else if has_unknown::<CarriedBits>(options, "BITS") {
         Some(Misuse::UnknownBits)
-    } else if has_unknown_filling(options) {
+    } else if has_unknown::<Fill>(options, "fill") {
         Some(Misuse::UnknownFilling)
     } else if fills_valid_samples(options) {
         Some(Misuse::FillsValidSamples)
@@ -95,23 +94,23 @@ pub(crate) fn misuse_of_options(options: &ArgMatches<'_>) -> Option<Misuse>
         Some(Misuse::ExactAndOthers)
     } else if has_two_details(options) {
         Some(Misuse::TwoDetails)
-    } else if has_unknown_words(options) {
+    } else if has_unknown::<Words>(options, "words") {
         Some(Misuse::UnknownWords)
-    } else if has_unknown_format(options) {
+    } else if has_unknown::<SampleFormat>(options, "pcm") {
         Some(Misuse::UnknownFormat)
     } else if has_unknown_preset(options) {
         Some(Misuse::UnknownPreset)
     } else if has_unknown_rate(options) {
         Some(Misuse::UnknownRate)
-    } else if has_unknown_depth(options) {
+    } else if has_unknown::<Depth>(options, "bits") {
         Some(Misuse::UnknownDepth)
     } else if has_unknown_use(options) {
         Some(Misuse::UnknownUse)
     } else if has_preset_beside_use(options) {
         Some(Misuse::PresetBesideUse)
-    } else if has_unknown_channels(options) {
+    } else if has_unknown::<Channels>(options, "channels") {
         Some(Misuse::UnknownChannels)
-    } else if has_unknown_mono(options) {
+    } else if has_unknown::<Mono>(options, "mono") {
         Some(Misuse::UnknownMono)
     } else if has_two_files(options) {
         Some(Misuse::TwoFiles)
@@ -154,16 +153,6 @@ fn has_no_rate(options: &ArgMatches<'_>) -> bool
     ensures { result ≡ has_no_rate (options_of options.now) }
 {
     number_if_given(options, "every-seconds").is_some() && rate(options).is_none()
-}
-
-/// Whether unknown bits are named.
-fn has_unknown_bits(options: &ArgMatches<'_>) -> bool
-    ensures { result ≡ has_unknown_bits (options_of options.now) }
-{
-    let Some(text) = options.get_str("BITS") else {
-        return false;
-    };
-    bits_of_text(text).is_none()
 }
 
 /// Whether time is to be filled between samples, and samples that are not valid are to be zero.

@@ -6,6 +6,7 @@ ghost use Rattle.aes3_frame.specs.declared.block.CarriedBits.{CarriedBits};
 ghost use Rattle.aes3_cli_arguments.specs.Jobs.{AsksToRead, IsNumber, bits_by, bits_in, number_of};
 ghost use Rattle.aes3_cli_arguments.specs.Jobs.{options_of};
 
+use crate::choice::{Choice, chosen};
 use crate::value::number;
 use aes3_cli_jobs::ReadWork;
 use aes3_frame::{CarriedBits, Channel};
@@ -19,30 +20,21 @@ pub(crate) fn to_bits(options: &ArgMatches<'_>) -> ReadWork
     ensures { AsksToRead (codes "to-bits") (options_of options.now) result }
 {
     ReadWork::ToBits {
-        bits: bits(options).unwrap(),
+        bits: chosen(options, "BITS").unwrap(),
         channel: channel(options),
     }
 }
 
-/// The bits that the options name, if they name any.
-fn bits(options: &ArgMatches<'_>) -> Option<CarriedBits>
-    ensures { result ≡ bits_by (options_of options.now) }
-{
-    let Some(text) = options.get_str("BITS") else {
-        return None;
-    };
-    bits_of_text(text)
-}
+impl Choice for CarriedBits {
+    ghost chosen_by = { bits_in };
 
-/// The bits of this name.
-pub(crate) fn bits_of_text(text: &str) -> Option<CarriedBits>
-    ensures { result ≡ bits_in text.now }
-{
-    match text {
-        "user" => Some(CarriedBits::User),
-        "validity" => Some(CarriedBits::Validity),
-        "status" => Some(CarriedBits::Status),
-        _ => None,
+    fn of_word(word: &str) -> Option<Self> {
+        match word {
+            "user" => Some(CarriedBits::User),
+            "validity" => Some(CarriedBits::Validity),
+            "status" => Some(CarriedBits::Status),
+            _ => None,
+        }
     }
 }
 

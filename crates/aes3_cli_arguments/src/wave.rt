@@ -2,12 +2,11 @@
 
 ghost use Rattle.std.specs.Prelude.{◌≡◌, codes};
 ghost use Rattle.aes3_cli_arguments.specs.Jobs.{AreTaken, AsksToRead, channel_in, channels_by, channels_in};
-ghost use Rattle.aes3_cli_arguments.specs.Jobs.{channels_of_two, depth_by, depth_in, depth_named};
-ghost use Rattle.aes3_cli_arguments.specs.Jobs.{has_preset_beside_use, has_unknown_channels};
-ghost use Rattle.aes3_cli_arguments.specs.Jobs.{has_unknown_depth, has_unknown_mono, has_unknown_use};
-ghost use Rattle.aes3_cli_arguments.specs.Jobs.{is_professional, mono_by, mono_in, mono_named};
+ghost use Rattle.aes3_cli_arguments.specs.Jobs.{channels_of_two, depth_by, depth_in, has_preset_beside_use};
+ghost use Rattle.aes3_cli_arguments.specs.Jobs.{has_unknown_use, is_professional, mono_by, mono_in};
 ghost use Rattle.aes3_cli_arguments.specs.Jobs.{options_of, use_in, use_named};
 
+use crate::choice::{Choice, chosen};
 use crate::event_style::rate;
 use crate::fill_option::fill_of_options;
 use crate::preset::preset;
@@ -44,41 +43,22 @@ pub(crate) fn to_wav(options: &ArgMatches<'_>) -> ReadWork
 fn depth(options: &ArgMatches<'_>) -> Depth
     ensures { result ≡ depth_by (options_of options.now) }
 {
-    match depth_if_named(options) {
+    match chosen(options, "bits") {
         Some(depth) => depth,
         None => Depth::TwentyFour,
     }
 }
 
-/// The width that the options name.
-fn depth_if_named(options: &ArgMatches<'_>) -> Option<Depth>
-    ensures { result ≡ depth_named (options_of options.now) }
-{
-    let Some(text) = options.get_str("bits") else {
-        return None;
-    };
-    depth_of_text(text)
-}
+impl Choice for Depth {
+    ghost chosen_by = { depth_in };
 
-/// Whether an unknown width is named.
-pub(crate) fn has_unknown_depth(options: &ArgMatches<'_>) -> bool
-    ensures { result ≡ has_unknown_depth (options_of options.now) }
-{
-    let Some(text) = options.get_str("bits") else {
-        return false;
-    };
-    depth_of_text(text).is_none()
-}
-
-/// The width of this name.
-fn depth_of_text(text: &str) -> Option<Depth>
-    ensures { result ≡ depth_in text.now }
-{
-    match text {
-        "16" => Some(Depth::Sixteen),
-        "24" => Some(Depth::TwentyFour),
-        "32" => Some(Depth::ThirtyTwo),
-        _ => None,
+    fn of_word(word: &str) -> Option<Self> {
+        match word {
+            "16" => Some(Depth::Sixteen),
+            "24" => Some(Depth::TwentyFour),
+            "32" => Some(Depth::ThirtyTwo),
+            _ => None,
+        }
     }
 }
 
@@ -127,40 +107,21 @@ fn use_of_text(text: &str) -> Option<bool>
 pub(crate) fn mono(options: &ArgMatches<'_>) -> Mono
     ensures { result ≡ mono_by (options_of options.now) }
 {
-    match mono_if_named(options) {
+    match chosen(options, "mono") {
         Some(mono) => mono,
         None => Mono::Both,
     }
 }
 
-/// Which channels the options name for a single channel.
-fn mono_if_named(options: &ArgMatches<'_>) -> Option<Mono>
-    ensures { result ≡ mono_named (options_of options.now) }
-{
-    let Some(text) = options.get_str("mono") else {
-        return None;
-    };
-    mono_of_text(text)
-}
+impl Choice for Mono {
+    ghost chosen_by = { mono_in };
 
-/// Whether unknown channels are named for a single channel.
-pub(crate) fn has_unknown_mono(options: &ArgMatches<'_>) -> bool
-    ensures { result ≡ has_unknown_mono (options_of options.now) }
-{
-    let Some(text) = options.get_str("mono") else {
-        return false;
-    };
-    mono_of_text(text).is_none()
-}
-
-/// Which channels this name means for a single channel.
-fn mono_of_text(text: &str) -> Option<Mono>
-    ensures { result ≡ mono_in text.now }
-{
-    match text {
-        "both" => Some(Mono::Both),
-        "first" => Some(Mono::First),
-        _ => None,
+    fn of_word(word: &str) -> Option<Self> {
+        match word {
+            "both" => Some(Mono::Both),
+            "first" => Some(Mono::First),
+            _ => None,
+        }
     }
 }
 
@@ -175,29 +136,20 @@ pub(crate) fn has_preset_beside_use(options: &ArgMatches<'_>) -> bool
 pub(crate) fn channels(options: &ArgMatches<'_>) -> Option<Channels>
     ensures { result ≡ channels_by (options_of options.now) }
 {
-    let Some(text) = options.get_str("channels") else {
-        return None;
-    };
-    channels_of_text(text)
+    chosen(options, "channels")
 }
 
-/// Whether channels are chosen by a text that is not two channels.
-pub(crate) fn has_unknown_channels(options: &ArgMatches<'_>) -> bool
-    ensures { result ≡ has_unknown_channels (options_of options.now) }
-{
-    let Some(text) = options.get_str("channels") else {
-        return false;
-    };
-    channels_of_text(text).is_none()
-}
+/// Two numbers, from 1 on, with a comma between them.
+impl Choice for Channels {
+    ghost chosen_by = { channels_in };
 
-/// The two channels of a text of two numbers, from 1 on, with a comma between them.
-fn channels_of_text(text: &str) -> Option<Channels>
-    ensures { result ≡ channels_in text.now }
-{
-    match text.split_once(',') {
-        Some((first, second)) => channels_of_two(channel_of_text(first), channel_of_text(second)),
-        None => None,
+    fn of_word(word: &str) -> Option<Self> {
+        match word.split_once(',') {
+            Some((first, second)) => {
+                channels_of_two(channel_of_text(first), channel_of_text(second))
+            }
+            None => None,
+        }
     }
 }
 

@@ -1,8 +1,9 @@
 //! The form of a block file's words.
 
 ghost use Rattle.std.specs.Prelude.{◌≡◌};
-ghost use Rattle.aes3_cli_arguments.specs.Jobs.{has_unknown_words, options_of, words_by, words_in, words_named};
+ghost use Rattle.aes3_cli_arguments.specs.Jobs.{options_of, words_by, words_in};
 
+use crate::choice::{Choice, chosen};
 use aes3_forms_words::Words;
 use clap::ArgMatches;
 
@@ -10,40 +11,21 @@ use clap::ArgMatches;
 pub(crate) fn words(options: &ArgMatches<'_>) -> Words
     ensures { result ≡ words_by (options_of options.now) }
 {
-    match words_if_named(options) {
+    match chosen(options, "words") {
         Some(words) => words,
         None => Words::Own,
     }
 }
 
-/// The form that the options name.
-fn words_if_named(options: &ArgMatches<'_>) -> Option<Words>
-    ensures { result ≡ words_named (options_of options.now) }
-{
-    let Some(text) = options.get_str("words") else {
-        return None;
-    };
-    words_of_text(text)
-}
+impl Choice for Words {
+    ghost chosen_by = { words_in };
 
-/// Whether an unknown form is named.
-pub(crate) fn has_unknown_words(options: &ArgMatches<'_>) -> bool
-    ensures { result ≡ has_unknown_words (options_of options.now) }
-{
-    let Some(text) = options.get_str("words") else {
-        return false;
-    };
-    words_of_text(text).is_none()
-}
-
-/// The form of this name.
-fn words_of_text(text: &str) -> Option<Words>
-    ensures { result ≡ words_in text.now }
-{
-    match text {
-        "own" => Some(Words::Own),
-        "alsa" => Some(Words::Alsa),
-        "am824" => Some(Words::Am824),
-        _ => None,
+    fn of_word(word: &str) -> Option<Self> {
+        match word {
+            "own" => Some(Words::Own),
+            "alsa" => Some(Words::Alsa),
+            "am824" => Some(Words::Am824),
+            _ => None,
+        }
     }
 }
