@@ -866,6 +866,117 @@ bool aes3_sums_end(aes3_sums *sums, uint64_t seen, aes3_sum *sum);
 /** @} */
 
 /**
+ * @defgroup levels Levels
+ * Counts the samples of each channel of whole blocks, and gives their peak and their RMS.
+ *
+ * Each block goes to aes3_levels_add(), as its words:
+ *
+ * @code
+ * if (report.kind == AES3_WHOLE) {
+ *     aes3_lock_block(&lock, report.words);
+ *     aes3_levels_add(&levels, report.words);
+ * }
+ * @endcode
+ *
+ * With all whole blocks of the cells, `peak` of a channel and the two levels are those that `aes3 info` prints: `peak`,
+ * `peak_dbfs` and `rms_dbfs`. To get the levels of each second, begin again with aes3_levels_init().
+ * @{
+ */
+
+/** The level if there is none: all samples are 0, where `aes3 info` prints `-inf`. */
+#define AES3_NO_LEVEL UINT32_MAX
+
+/**
+ * What is counted of a channel's samples of 24 bits.
+ */
+typedef struct aes3_channel_levels {
+    uint64_t energy_low;  /**< sum of the squares of the samples, modulo 2^64 */
+    uint64_t energy_high; /**< the same, divided by 2^64; the sum stops at 2^128 - 1 */
+    uint32_t peak;        /**< greatest magnitude of a sample, 0 to 8,388,608 */
+} aes3_channel_levels;
+AES3_SIZE(aes3_channel_levels, 24);
+
+/**
+ * What is counted of the samples of blocks, in memory of its caller. It may be copied by assignment.
+ */
+typedef struct aes3_levels {
+    uint64_t blocks;            /**< how many blocks were added; the count stops at the greatest number */
+    aes3_channel_levels first;  /**< channel 1 */
+    aes3_channel_levels second; /**< channel 2 */
+} aes3_levels;
+AES3_SIZE(aes3_levels, 56);
+
+/**
+ * Makes the counts without any block.
+ *
+ * @param[out] levels  the counts
+ *
+ * @code
+ * aes3_levels levels;
+ * aes3_levels_init(&levels);
+ * assert(levels.blocks == 0 && levels.first.peak == 0);
+ * @endcode
+ */
+void aes3_levels_init(aes3_levels *levels);
+
+/**
+ * Counts the samples of a block. Its words are taken as they are, whatever their codes and parity bits.
+ *
+ * @param[in,out] levels  the counts
+ * @param words  the words of the block
+ *
+ * @code
+ * aes3_levels levels;
+ * uint32_t words[AES3_BLOCK_WORDS] = {[1] = UINT32_C(3) << 4}; // a sample of 3 in channel 2
+ * aes3_levels_init(&levels);
+ * aes3_levels_add(&levels, words);
+ * assert(levels.blocks == 1 && levels.first.peak == 0 && levels.second.peak == 3);
+ * @endcode
+ */
+void aes3_levels_add(aes3_levels *levels, const uint32_t words[AES3_BLOCK_WORDS]);
+
+/**
+ * The peak of a channel, in tenths of a decibel below full scale, to the nearest. Full scale is a magnitude of 8,388,608.
+ *
+ * @param levels  the counts
+ * @param channel  1 or 2
+ * @return 0 to 3,100; or #AES3_NO_LEVEL if all samples of the channel are 0, without a block, and for another channel
+ *
+ * @code
+ * aes3_levels levels;
+ * uint32_t words[AES3_BLOCK_WORDS] = {[0] = UINT32_C(0x400000) << 4}; // half of full scale
+ * aes3_levels_init(&levels);
+ * assert(aes3_levels_peak(&levels, 1) == AES3_NO_LEVEL);
+ * aes3_levels_add(&levels, words);
+ * assert(aes3_levels_peak(&levels, 1) == 60); // -6.0 dB
+ * assert(aes3_levels_peak(&levels, 2) == AES3_NO_LEVEL);
+ * @endcode
+ */
+uint32_t aes3_levels_peak(const aes3_levels *levels, uint8_t channel);
+
+/**
+ * The RMS of a channel likewise, below that of full scale in each sample.
+ *
+ * @param levels  the counts
+ * @param channel  1 or 2
+ * @return 0 to 3,100; or #AES3_NO_LEVEL if all samples of the channel are 0, without a block, and for another channel
+ *
+ * @code
+ * aes3_levels levels;
+ * static uint32_t words[AES3_BLOCK_WORDS];
+ * for (int i = 0; i < AES3_BLOCK_WORDS; i += 2)
+ *     words[i] = UINT32_C(0x400000) << 4; // half of full scale
+ * aes3_levels_init(&levels);
+ * aes3_levels_add(&levels, words);
+ * assert(aes3_levels_rms(&levels, 1) == 60); // -6.0 dB
+ * assert(aes3_levels_rms(&levels, 2) == AES3_NO_LEVEL);
+ * @endcode
+ */
+uint32_t aes3_levels_rms(const aes3_levels *levels, uint8_t channel);
+
+/** @} */
+
+/**
  * @defgroup block Blocks
  * The words of a block: their cells, bits and samples.
  *

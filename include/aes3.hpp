@@ -131,6 +131,21 @@ class sums {
     }
 };
 
+// Counts the samples of each channel of whole blocks, given their reports with the words.
+class levels {
+    aes3_levels state;
+
+  public:
+    levels() { aes3_levels_init(&state); }
+    void add(const report &whole) { aes3_levels_add(&state, whole.words); }
+    // How many blocks were added, and the greatest magnitude of a sample of a channel, 1 or 2: as `aes3 info` prints it.
+    uint64_t blocks() const { return state.blocks; }
+    uint32_t greatest(uint8_t channel) const { return channel == 1 ? state.first.peak : state.second.peak; }
+    // The level of a channel in tenths of a decibel below full scale; AES3_NO_LEVEL if all its samples are 0.
+    uint32_t peak(uint8_t channel) const { return aes3_levels_peak(&state, channel); }
+    uint32_t rms(uint8_t channel) const { return aes3_levels_rms(&state, channel); }
+};
+
 // How many frames are missing between a whole block and the next one, so that each keeps its time.
 inline uint64_t frames_between(uint64_t first, uint64_t before, uint64_t at) { return aes3_frames_between(first, before, at); }
 

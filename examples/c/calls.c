@@ -542,6 +542,31 @@ static int is_sum(const aes3_sum *sum, uint64_t from, uint64_t to, uint64_t whol
     return sum->from == from && sum->to == to && sum->whole == whole && sum->fault == fault && sum->lost == lost;
 }
 
+// The levels of samples, and of counts that no block has.
+static void sample_levels(void) {
+    static uint32_t block[AES3_BLOCK_WORDS];
+    aes3_levels levels;
+    aes3_levels_init(&levels);
+    WANT(levels.blocks == 0 && aes3_levels_peak(&levels, 1) == AES3_NO_LEVEL && aes3_levels_rms(&levels, 2) == AES3_NO_LEVEL);
+    for (int i = 0; i < AES3_BLOCK_WORDS; i++)
+        block[i] = i % 2 == 0 ? UINT32_C(0xC00000) << 4 : 0xF000000F; // half of full scale below zero; no sample
+    aes3_levels_add(&levels, block);
+    WANT(levels.blocks == 1 && levels.first.peak == 0x400000 && levels.second.peak == 0);
+    WANT(aes3_levels_peak(&levels, 1) == 60 && aes3_levels_rms(&levels, 1) == 60);
+    WANT(aes3_levels_peak(&levels, 2) == AES3_NO_LEVEL && aes3_levels_rms(&levels, 2) == AES3_NO_LEVEL);
+    WANT(aes3_levels_peak(&levels, 0) == AES3_NO_LEVEL && aes3_levels_rms(&levels, 3) == AES3_NO_LEVEL);
+    memset(block, 0, sizeof block);
+    block[AES3_BLOCK_WORDS - 1] = UINT32_C(0x800000) << 4; // full scale, once
+    aes3_levels_add(&levels, block);
+    WANT(aes3_levels_rms(&levels, 1) == 90 && aes3_levels_peak(&levels, 2) == 0 && aes3_levels_rms(&levels, 2) == 258);
+    memset(&levels, 0xFF, sizeof levels);
+    aes3_levels_add(&levels, block);
+    WANT(levels.blocks == UINT64_MAX && levels.second.energy_low == UINT64_MAX && levels.second.energy_high == UINT64_MAX);
+    WANT(aes3_levels_peak(&levels, 1) == 0 && aes3_levels_rms(&levels, 2) == 0);
+    levels.blocks = 0;
+    WANT(aes3_levels_rms(&levels, 2) == 0);
+}
+
 static void sums_by_periods(void) {
     const uint64_t block = AES3_BLOCK_CELLS, most = (uint64_t)1 << 40;
     static aes3_report report;
@@ -873,6 +898,7 @@ int main(void) {
     accounts();
     watches();
     sums_by_periods();
+    sample_levels();
     frames();
     blocks_that_fit();
     samples_that_fit();

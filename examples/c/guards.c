@@ -252,6 +252,19 @@ static bool note_sum(bool is_there) {
     return is_there;
 }
 
+static aes3_levels *levels;
+
+/* The samples of a block's words, and the levels of them so far. */
+static void note_levels(const uint32_t *block) {
+    aes3_levels_add(levels, block);
+    NOTE_TO(&levels->first, aes3_channel_levels, peak);
+    NOTE_TO(&levels->second, aes3_channel_levels, peak);
+    for (uint8_t channel = 0; channel <= 3; channel++) {
+        ANSWER(aes3_levels_peak(levels, channel));
+        ANSWER(aes3_levels_rms(levels, channel));
+    }
+}
+
 /* The lock's report goes to all that take reports. */
 static void take_report(void) {
     const uint64_t seen = aes3_lock_seen(lock);
@@ -264,6 +277,8 @@ static void take_report(void) {
     }
     while (note_gap(aes3_account_passed(account, seen, gap))) {
     }
+    if (report->kind == AES3_WHOLE)
+        note_levels(report->words);
     note_events(aes3_watch_report(watch, report, events));
     note_events(aes3_watch_passed(watch, seen, events));
     for (int i = 0; i < PERIODS; i++) {
@@ -368,6 +383,8 @@ static void test_line(void (*take)(void)) {
     aes3_lock_init(lock);
     aes3_account_init(account);
     aes3_watch_init(watch);
+    levels = GIVE(aes3_levels, 1);
+    aes3_levels_init(levels);
     for (int i = 0; i < PERIODS; i++) {
         sums[i] = GIVE(aes3_sums, 1);
         WANT(aes3_sums_init(sums[i], periods[i]) == (periods[i] != 0));

@@ -341,11 +341,25 @@ static void marks(void) {
     WANT(aes3_sample_between(&before, &after, 150) == 2000);
 }
 
+// The counts of a block whose first sample is 3 in channel 1 and -2^23 in channel 2.
+static void levels(void) {
+    static const aes3_levels due = {1, {9, 0, 3}, {UINT64_C(1) << 46, 0, UINT32_C(1) << 23}};
+    uint32_t words[AES3_BLOCK_WORDS] = {UINT32_C(3) << 4, UINT32_C(0x800000) << 4};
+    aes3_levels told;
+    memset(&told, 0, sizeof told);
+    aes3_levels_init(&told);
+    aes3_levels_add(&told, words);
+    WANT(told.blocks == due.blocks);
+    WANT(told.first.energy_low == due.first.energy_low && told.first.energy_high == 0 && told.first.peak == due.first.peak);
+    WANT(told.second.energy_low == due.second.energy_low && told.second.energy_high == 0 && told.second.peak == due.second.peak);
+}
+
 int main(void) {
     WANT(sizeof(aes3_lock) == 3104 && sizeof(aes3_report) == 1560);
     WANT(sizeof(aes3_account) == 16 && sizeof(aes3_gap) == 24);
     WANT(sizeof(aes3_watch) == 80 && sizeof(aes3_event) == 48);
     WANT(sizeof(aes3_sums) == 192 && sizeof(aes3_sum) == 96);
+    WANT(sizeof(aes3_levels) == 56 && sizeof(aes3_channel_levels) == 24);
     WANT(sizeof(aes3_professional) == 32 && sizeof(aes3_consumer) == 33 && sizeof(aes3_capture) == 80);
     WANT(sizeof(aes3_wav) == 24 && sizeof(aes3_recovery) == 6504 && sizeof(aes3_mark) == 16);
     statuses();
@@ -353,6 +367,7 @@ int main(void) {
     gaps();
     events();
     sums_of_periods();
+    levels();
     marks();
     wavs();
     if (!failed)

@@ -18,6 +18,8 @@ static aes3_gap gap;
 static aes3_watch watch;
 static aes3_event events[AES3_EVENTS];
 static aes3_sums sums;
+static aes3_levels levels;
+static uint32_t level;
 static aes3_sum sum;
 static bool has_sum;
 static aes3_professional professional;
@@ -53,6 +55,10 @@ static void watch_init(void) { aes3_watch_init(&watch); }
 static void watch_report(void) { aes3_watch_report(&watch, &report, events); }
 static void watch_passed(void) { aes3_watch_passed(&watch, 200000, events); }
 static void watch_end(void) { aes3_watch_end(&watch, 200000, events); }
+static void levels_init(void) { aes3_levels_init(&levels); }
+static void levels_add(void) { aes3_levels_add(&levels, report.words); }
+static void levels_peak(void) { level = aes3_levels_peak(&levels, 1); }
+static void levels_rms(void) { level = aes3_levels_rms(&levels, 1); }
 static void sums_init(void) { has_sum = aes3_sums_init(&sums, 3 * AES3_BLOCK_CELLS); }
 static void sums_before(void) { has_sum = aes3_sums_before(&sums, &report, &sum); }
 static void sums_passed(void) { has_sum = aes3_sums_passed(&sums, 200000, &sum); }
@@ -154,6 +160,11 @@ int main(void) {
     failed |= events[0].kind != AES3_EVENT_STATUS || events[2].kind != AES3_EVENT_VALIDITY;
     failed |= tell("aes3_watch_passed", watch_passed, 4096);
     failed |= tell("aes3_watch_end", watch_end, 4096);
+    failed |= tell("aes3_levels_init", levels_init, 512);
+    failed |= tell("aes3_levels_add", levels_add, 1024);
+    failed |= levels.blocks != 1;
+    failed |= tell("aes3_levels_peak", levels_peak, 1024);
+    failed |= tell("aes3_levels_rms", levels_rms, 1024);
     failed |= tell("aes3_sums_init", sums_init, 1024);
     failed |= tell("aes3_sums_before, counted", sums_before, 8192);
     failed |= has_sum;

@@ -68,6 +68,10 @@ for name in $inputs dead none few changes; do
         "$program" watch --every $every <$name.txt | grep '^sum ' >$name.$every.sums
     done
 done
+# The levels of each.
+for name in $inputs dead none few changes; do
+    "$program" info <$name.txt | grep -E '^(peak|peak_dbfs|rms_dbfs)[12] ' >$name.levels
+done
 for event in locked lost back slipped status validity end; do
     judge "an event '$event' in the tests" grep -q "^$event " ./*.events
 done
@@ -151,6 +155,14 @@ events() {
     done
 }
 
+# The lines of levels.c likewise.
+levels() {
+    for name in $inputs dead none few changes; do
+        ./levels <$name.txt >got
+        judge "levels by $1 on $name" cmp -s $name.levels got
+    done
+}
+
 # The lines of sums.c likewise.
 sums() {
     for name in $inputs dead none few changes; do
@@ -193,7 +205,7 @@ build() { # COMPILER FLAGS..
         echo "left out: the checks of addresses and undefined behaviour by $compiler (they do not work here)"
         checks=
     }
-    for example in check gaps watch sums encode calls layout user samples capture stream places wav recover blocks; do
+    for example in check gaps watch sums levels encode calls layout user samples capture stream places wav recover blocks; do
         "$compiler" "$@" -O2 -Wall -Wextra -pedantic -Werror $checks -I"$here/../../include" \
             -o $example "$here/$example.c" -x none "$library" || {
             differs "$example.c, which $compiler does not compile,"
@@ -254,6 +266,7 @@ build() { # COMPILER FLAGS..
     gaps "$compiler"
     events "$compiler"
     sums "$compiler"
+    levels "$compiler"
     for each in capture:0:1 wide:11:2; do
         IFS=: read -r name bit unit <<WORDS
 $each

@@ -296,6 +296,16 @@ int main() {
     sums.end(7 * AES3_BLOCK_CELLS, tell_sum);
     judge("sums", counted[0] == 4 && counted[1] == 1 && counted[3] == 7 * AES3_BLOCK_CELLS);
 
+    // The levels of a block with one sample, of full scale.
+    aes3::levels levels;
+    judge("no levels", levels.blocks() == 0 && levels.peak(1) == AES3_NO_LEVEL && levels.rms(2) == AES3_NO_LEVEL);
+    aes3::report loud{};
+    loud.kind = AES3_WHOLE;
+    loud.words[1] = UINT32_C(0x800000) << 4;
+    levels.add(loud);
+    judge("the peak", levels.blocks() == 1 && levels.greatest(2) == 8388608 && levels.peak(2) == 0 && levels.peak(1) == AES3_NO_LEVEL);
+    judge("the RMS", levels.rms(2) == 228 && levels.rms(1) == AES3_NO_LEVEL);
+
     // The same once more, of samples: four of each cell, in bit 2.
     static std::uint8_t samples[4 * AES3_BLOCK_CELLS], packed[AES3_BLOCK_CELLS];
     for (int i = 0; i < 4 * AES3_BLOCK_CELLS; i++)

@@ -25,8 +25,8 @@ The samples of a logic analyser go to a `Recovery` likewise, which gives the cel
 """
 
 from aes3.calls import (
-    EVENTS, FAULT, FOUND, MARKED, NONE, UNFINISHED, VALIDITIES, WHOLE, WHYS, Account, Event, Gap, Lock, Mark, Recovery, Report, Sum, Sums,
-    Watch, block_of_samples, block_samples, block_status, block_user, block_validity, blocks_fit, cells_of_samples, check_byte, encode_block,
+    EVENTS, FAULT, FOUND, MARKED, NONE, UNFINISHED, VALIDITIES, WHOLE, WHYS, Account, Event, Gap, Levels, Lock, Mark, Recovery, Report, Sum,
+    Sums, Watch, block_of_samples, block_samples, block_status, block_user, block_validity, blocks_fit, cells_of_samples, check_byte, encode_block,
     frames_between, library_version, reverse_octets, sample_between, samples_fit, status_text, with_status, with_user, with_validity,
     words_of_packed, words_of_text,
 )
@@ -39,7 +39,7 @@ __version__ = VERSION
 
 __all__ = [
     "EVENTS", "FAULT", "FOUND", "MARKED", "NONE", "UNFINISHED", "VALIDITIES", "VERSION", "WHOLE", "WHYS", "Account", "Decoded", "Event",
-    "Gap", "Lock", "Mark", "Recovery", "Report", "Status", "Sum", "Sums", "Watch", "Wav", "block_of_samples", "block_samples", "block_status",
+    "Gap", "Levels", "Lock", "Mark", "Recovery", "Report", "Status", "Sum", "Sums", "Watch", "Wav", "block_of_samples", "block_samples", "block_status",
     "block_user", "block_validity", "blocks_fit", "cells_of_samples", "check_byte", "decode", "encode", "encode_block", "frames_between",
     "library_version", "read_wav", "reverse_octets", "sample_between", "samples_fit", "status_text", "with_status", "with_user",
     "with_validity", "words_of_packed", "words_of_text", "write_wav",

@@ -91,6 +91,14 @@ class _Event(c.Structure):
 _Events = _Event * 6
 
 
+class _ChannelLevels(c.Structure):
+    _fields_ = [("energy_low", c.c_uint64), ("energy_high", c.c_uint64), ("peak", c.c_uint32)]
+
+
+class _Levels(c.Structure):
+    _fields_ = [("blocks", c.c_uint64), ("first", _ChannelLevels), ("second", _ChannelLevels)]
+
+
 class _Sums(c.Structure):
     _fields_ = [("state", c.c_uint64 * 24)]
 
@@ -142,6 +150,10 @@ _watch_init = _declare("aes3_watch_init", None, _at)
 _watch_report = _declare("aes3_watch_report", c.c_uint32, _at, _at, _at)
 _watch_passed = _declare("aes3_watch_passed", c.c_uint32, _at, c.c_uint64, _at)
 _watch_end = _declare("aes3_watch_end", c.c_uint32, _at, c.c_uint64, _at)
+_levels_init = _declare("aes3_levels_init", None, _at)
+_levels_add = _declare("aes3_levels_add", None, _at, _at)
+_levels_peak = _declare("aes3_levels_peak", c.c_uint32, _at, c.c_uint8)
+_levels_rms = _declare("aes3_levels_rms", c.c_uint32, _at, c.c_uint8)
 _sums_init = _declare("aes3_sums_init", c.c_bool, _at, c.c_uint64)
 _sums_before = _declare("aes3_sums_before", c.c_bool, _at, _at, _at)
 _sums_passed = _declare("aes3_sums_passed", c.c_bool, _at, c.c_uint64, _at)
@@ -981,6 +993,41 @@ class Sum(NamedTuple):
         """Its line, as `aes3 watch --every` writes it."""
         names = "from", "to", *self._fields[2:9], "invalid1", "invalid2", "changes"
         return " ".join(["sum", *(f"{name} {number}" for name, number in zip(names, self))])
+
+
+class Levels:
+    """Counts the samples of each channel of whole blocks. Their levels are those that `aes3 info` prints."""
+
+    def __init__(self) -> None:
+        self._levels = _Levels()
+        _levels_init(c.byref(self._levels))
+
+    def report(self, report: Report) -> None:
+        """Counts the samples of a report's block, if it is a whole one."""
+        if not isinstance(report, Report):
+            raise TypeError(f"levels are of a Report of a lock, not of {_named(report)}")
+        if report.kind == WHOLE and report._block is not None:
+            _levels_add(c.byref(self._levels), report._block)
+
+    def blocks(self) -> int:
+        """How many blocks were counted."""
+        return int(self._levels.blocks)
+
+    def greatest(self, channel: int) -> int:
+        """The greatest magnitude of a sample of a channel, 1 or 2."""
+        return int((self._levels.first if _number(channel, "a channel", 1, 2) == 1 else self._levels.second).peak)
+
+    def peak(self, channel: int) -> Optional[float]:
+        """The peak of a channel, 1 or 2, in decibels, as -6.0; None if all its samples are 0."""
+        return self._decibels(_levels_peak(c.byref(self._levels), _number(channel, "a channel", 1, 2)))
+
+    def rms(self, channel: int) -> Optional[float]:
+        """The RMS of a channel likewise, below that of full scale in each sample."""
+        return self._decibels(_levels_rms(c.byref(self._levels), _number(channel, "a channel", 1, 2)))
+
+    @staticmethod
+    def _decibels(tenths: int) -> Optional[float]:
+        return None if tenths == 2**32 - 1 else 0 - tenths / 10
 
 
 class Sums:

@@ -66,6 +66,11 @@ def main() -> None:
     events: List[aes3.Event] = [event for report in told for event in watch.report(report)]
     events += watch.passed(lock.seen()) + watch.end(lock.seen())
     assert [event.kind for event in events] == ["locked", "end"] and events[1].locked and events[0].status == b""
+    levels = aes3.Levels()
+    for it in told:
+        levels.report(it)
+    peak: Optional[float] = levels.peak(1)
+    assert levels.blocks() == len(reports) and (peak is None) == (levels.greatest(1) == 0) and (levels.rms(2) is None) == (levels.peak(2) is None)
     sums = aes3.Sums(1 << 20)
     counted: List[aes3.Sum] = [it for report in told for it in sums.report(report)] + sums.passed(lock.seen()) + sums.end(lock.seen())
     start, stop, whole, *others = counted[0]

@@ -396,6 +396,22 @@ def check_events():
     assert str(lost) == "[Event(lost at 0)]" and lost[0] != "lost at 0"
 
 
+def check_levels():
+    samples = array.array("i", [1 << 30, 0] * 192)
+    lock, levels = aes3.Lock(), aes3.Levels()
+    assert levels.blocks() == 0 and levels.peak(1) is None and levels.rms(2) is None
+    for report in lock.take_octets(aes3.encode(samples, 48000, channels=2, form="raw")) + lock.finish():
+        levels.report(report)
+    assert levels.blocks() == 1 and levels.greatest(1) == 1 << 22 and levels.greatest(2) == 0
+    assert levels.peak(1) == -6.0 and levels.rms(1) == -6.0 and levels.peak(2) is None and levels.rms(2) is None
+    for channel in 0, 3:
+        try:
+            levels.peak(channel)
+            assert False, channel
+        except ValueError as error:
+            assert "a channel is 1 or 2" in str(error)
+
+
 def check_sums():
     samples = array.array("i", 6 * 384 * [256])
     line = aes3.encode(samples, 48000, channels=2, form="raw")

@@ -18,3 +18,4 @@ pub mod Marks
 pub mod Setting
 pub mod Watches
 pub mod Sums
+pub mod Levels

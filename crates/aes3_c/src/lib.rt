@@ -3,6 +3,8 @@
 //! calls; `include/aes3.h` is the header.
 #![tactic(auto)]
 
+/// The levels of samples.
+mod audio_level_calls;
 /// The validity, user and channel status bits of a block's channel.
 mod bits;
 /// Blocks: their words, bytes and cells.

@@ -15,7 +15,7 @@ use Rattle.aes3_info.specs.declared.channel_facts.ChannelFacts.{ChannelFacts}
 use Rattle.aes3_info.specs.Facts.{all_magnitudes, changes_behind, channel_facts, differs, first_of, first_with, greatest}
 use Rattle.aes3_info.specs.Facts.{invalid_in, is_biphase, is_fault, is_marked, is_preamble, is_unclosed, is_unfinished}
 use Rattle.aes3_info.specs.Facts.{is_whole, last_of, magnitudes, more, more_energy, most_count, most_energy, report_facts}
-use Rattle.aes3_info.specs.Facts.{square, statuses, total, with_block, with_report}
+use Rattle.aes3_info.specs.Facts.{sample_facts, square, statuses, total, with_block, with_report, with_samples}
 
 pub count-push : {A : Type 0} (f : A → ℕ) (xs : List A) (x : A)
     → more (total most_count f xs) (f x) ≡ total most_count f (xs ++ x ∷ [])
@@ -46,7 +46,7 @@ report-push r x =
     ) refl
 
 -- how many reports are of whole blocks
-wholes-sum : (r : List Report) → sum_by is_whole r ≡ length (wholes r)
+pub wholes-sum : (r : List Report) → sum_by is_whole r ≡ length (wholes r)
 wholes-sum [] = refl
 wholes-sum (Whole at s b ∷ r) = let e = sum_by-cons is_whole (Whole at s b) r in let f = wholes-sum r in omega arith
 wholes-sum (Marked at s n ∷ r) = let e = sum_by-cons is_whole (Marked at s n) r in let f = wholes-sum r in omega arith
@@ -113,6 +113,10 @@ energy-push channel bs b =
     energy-join (all_magnitudes channel bs) (magnitudes channel b)
     ∙ ap (total most_energy square) (sym (all-push channel bs b))
 
+pub samples-push : (channel : Channel) (bs : List (List (List Bool))) (b : List (List Bool))
+    → with_samples (sample_facts channel bs) channel b ≡ sample_facts channel (bs ++ b ∷ [])
+samples-push channel bs b = rw (greatest-push channel bs b, energy-push channel bs b) refl
+
 block-push : (channel : Channel) (bs : List (List (List Bool))) (b : List (List Bool))
     → with_block (channel_facts channel bs) channel b ≡ channel_facts channel (bs ++ b ∷ [])
 block-push channel bs b =
@@ -121,8 +125,7 @@ block-push channel bs b =
       sym (last-push channel None bs b),
       changes-more channel bs b,
       count-push (invalid_in channel) bs b,
-      greatest-push channel bs b,
-      energy-push channel bs b,
+      samples-push channel bs b,
     ) refl
 
 -- the samples of a report's block

@@ -17,6 +17,7 @@ use Rattle.aes3_watch.specs.Sums.{is_biphase as by_biphase, is_preamble as by_pr
 use Rattle.aes3_frame.specs.Ones.{ones_in}
 use Rattle.aes3_info.specs.declared.reports.ReportFacts.{ReportFacts}
 use Rattle.aes3_info.specs.declared.gaps.GapFacts.{GapFacts}
+use Rattle.aes3_info.specs.declared.samples.SampleFacts.{SampleFacts}
 use Rattle.aes3_info.specs.declared.channel_facts.ChannelFacts.{ChannelFacts}
 use Rattle.aes3_info.specs.declared.facts.Facts.{Facts}
 
@@ -154,6 +155,19 @@ abbrev pub greatest : List ℕ → ℕ
 greatest [] = 0
 greatest (m ∷ ms) = max m (greatest ms)
 
+-- the samples of a channel of blocks, and those with the samples of one more
+abbrev pub sample_facts : Channel → List (List (List Bool)) → SampleFacts
+sample_facts channel bs = record {
+  greatest = greatest (all_magnitudes channel bs);
+  energy = total most_energy square (all_magnitudes channel bs);
+}
+
+abbrev pub with_samples : SampleFacts → Channel → List (List Bool) → SampleFacts
+with_samples f channel b = record {
+  greatest = max f.greatest (greatest (magnitudes channel b));
+  energy = more_energy f.energy (sum_by square (magnitudes channel b));
+}
+
 -- how many validity bits of a channel of a block are 1
 abbrev pub invalid_in : Channel → List (List Bool) → ℕ
 invalid_in channel b = ones_in (validity_of b channel)
@@ -186,8 +200,7 @@ channel_facts channel bs = record {
   latest = last_of None (statuses channel bs);
   changes = min (changes_behind None (statuses channel bs)) most_count;
   invalid = total most_count (invalid_in channel) bs;
-  greatest = greatest (all_magnitudes channel bs);
-  energy = total most_energy square (all_magnitudes channel bs);
+  samples = sample_facts channel bs;
 }
 
 abbrev pub first_with : Option (List ℕ) → List ℕ → Option (List ℕ)
@@ -200,8 +213,7 @@ with_block f channel b = record {
   latest = Some (status_of b channel);
   changes = more f.changes (differs f.latest (status_of b channel));
   invalid = more f.invalid (invalid_in channel b);
-  greatest = max f.greatest (greatest (magnitudes channel b));
-  energy = more_energy f.energy (sum_by square (magnitudes channel b));
+  samples = with_samples f.samples channel b;
 }
 
 -- what is known of n cells with these reports, in this account

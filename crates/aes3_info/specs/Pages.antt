@@ -124,10 +124,10 @@ unfoldable pub sample_fields : Notation → Channel → ℕ → ChannelFacts →
 sample_fields n channel whole f =
     channel_field n (codes "changes") channel (decimal f.changes)
     ++ channel_field n (codes "invalid") channel (decimal f.invalid)
-    ++ channel_field n (codes "peak") channel (decimal f.greatest)
-    ++ channel_field n (codes "peak_dbfs") channel (level_value n (square f.greatest) full_power)
-    ++ channel_field n (codes "rms_dbfs") channel (level_value n f.energy (full_energy whole))
-    ++ channel_field n (codes "silent") channel (silence_value n whole f.greatest)
+    ++ channel_field n (codes "peak") channel (decimal f.samples.greatest)
+    ++ channel_field n (codes "peak_dbfs") channel (level_value n (square f.samples.greatest) full_power)
+    ++ channel_field n (codes "rms_dbfs") channel (level_value n f.samples.energy (full_energy whole))
+    ++ channel_field n (codes "silent") channel (silence_value n whole f.samples.greatest)
 
 abbrev pub channel_fields : Notation → Channel → ℕ → ChannelFacts → List ℕ
 channel_fields n channel whole f = status_field n channel f.first ++ sample_fields n channel whole f

@@ -2,6 +2,15 @@
 
 ghost use Rattle.std.specs.Prelude.{◌≡◌, ◌<◌, ◌≤◌, ◌^◌};
 ghost use Rattle.aes3_info.specs.Levels.{decade, half_step, level_of, steps_below, times};
+ghost use Rattle.aes3_info.specs.Pages.{full_energy};
+
+use aes3_frame::FRAMES;
+
+/// The square of the greatest magnitude of a sample of 24 bits.
+pub const FULL_POWER: u128 = 1 << 46;
+
+/// How many samples of a channel a block has.
+const SAMPLES: u64 = FRAMES as u64;
 
 /// The number for 1 in the two powers below.
 const UNIT: u64 = 1 << 31;
@@ -20,7 +29,7 @@ const DECADES: u64 = 30;
 
 /// The product, or the greatest number if it is less.
 #[tactic(auto, unfolding(crate::specs::Levels::times))]
-pub(crate) fn times(power: u128, factor: u64) -> u128
+fn times(power: u128, factor: u64) -> u128
     ensures { result ≡ times power factor }
 {
     power.saturating_mul(u128::from(factor))
@@ -43,8 +52,9 @@ fn steps_below(power: u128, full: u128) -> u64
 }
 
 /// How many tenths of a decibel a power is below the full one, to the nearest.
-pub(crate) fn level_of(power: u128, full: u128) -> u64
-    ensures { result ≡ level_of power full }
+pub fn level_of(power: u128, full: u128) -> u64
+    ensures level { result ≡ level_of power full }
+    ensures few { result ≤ 3100 }
 {
     let mut power = power;
     for decade in 0..DECADES {
@@ -55,4 +65,11 @@ pub(crate) fn level_of(power: u128, full: u128) -> u64
         power = more;
     }
     DECADE * DECADES + steps_below(power, full)
+}
+
+/// The square of full scale in each sample of a channel of so many blocks.
+pub fn full_energy(blocks: u64) -> u128
+    ensures { result ≡ full_energy blocks }
+{
+    times(times(FULL_POWER, SAMPLES), blocks)
 }

@@ -23,4 +23,6 @@ mod samples;
 /// Counts that stop at the greatest number.
 mod saturating;
 
+pub use decibels::{FULL_POWER, full_energy, level_of};
 pub use inspector::info;
+pub use samples::{SampleFacts, square};

@@ -6,19 +6,18 @@ ghost use Rattle.aes3_cell.specs.Writes.{Wrote};
 ghost use Rattle.aes3_text_lines.specs.Events.{second_cells, seconds};
 ghost use Rattle.aes3_text_lines.specs.StatusLines.{channel_digit};
 ghost use Rattle.aes3_info.specs.Pages.{answer, block_fields, channel_field, channel_fields, closing, field, field_end};
-ghost use Rattle.aes3_info.specs.Pages.{field_name, full_energy, full_power, gap_fields, head, level_value};
+ghost use Rattle.aes3_info.specs.Pages.{field_name, gap_fields, head, level_value};
 ghost use Rattle.aes3_info.specs.Pages.{no_level, opening, page, page_rate, rate_value, sample_fields};
 ghost use Rattle.aes3_info.specs.Pages.{seconds_value, silence_value, status_field, tenths_value};
 ghost use Rattle.aes3_info.specs.Pages.{time_fields, unknown};
 
 use crate::channel_facts::ChannelFacts;
-use crate::decibels::{level_of, times};
+use crate::decibels::{FULL_POWER, full_energy, level_of};
 use crate::facts::Facts;
 use crate::rate::rate_of;
 use crate::samples::square;
 use aes3_block::Channel;
 use aes3_cell::{Fault, Sink, write_all};
-use aes3_frame::FRAMES;
 use aes3_status::{LINE_LEN, Line, Notation, put_status};
 
 /// How many bytes the name of a field has at most.
@@ -32,12 +31,6 @@ const VALUE_LEN: usize = 32;
 
 /// How many cells a frame has.
 const FRAME_CELLS: u64 = 128;
-
-/// The square of the greatest magnitude of a sample of 24 bits.
-const FULL_POWER: u128 = 1 << 46;
-
-/// How many samples of a channel a block has.
-const SAMPLES: u64 = FRAMES as u64;
 
 /// The number of a channel.
 fn digit_of(channel: Channel) -> &'static str
@@ -404,20 +397,13 @@ fn put_silence(line: &mut Line, notation: Notation, channel: Channel, whole: u64
     put_end(line, notation);
 }
 
-/// The square of full scale in each sample of `whole` blocks.
-fn full_energy(whole: u64) -> u128
-    ensures { result ≡ full_energy whole }
-{
-    times(times(FULL_POWER, SAMPLES), whole)
-}
-
 /// The fields of a channel of `whole` whole blocks after its status.
 #[tactic(auto, unfolding(crate::specs::Pages::sample_fields))]
 fn samples_of(notation: Notation, channel: Channel, whole: u64, facts: &ChannelFacts) -> Line
     ensures text { result ≡ sample_fields notation channel whole facts.now }
 {
     let mut line = Line::new();
-    let peak = u128::from(square(facts.greatest));
+    let peak = u128::from(square(facts.samples.greatest));
     put_channel_number(&mut line, notation, "changes", channel, facts.changes);
     put_channel_number(&mut line, notation, "invalid", channel, facts.invalid);
     put_channel_number(
@@ -425,7 +411,7 @@ fn samples_of(notation: Notation, channel: Channel, whole: u64, facts: &ChannelF
         notation,
         "peak",
         channel,
-        u64::from(facts.greatest),
+        u64::from(facts.samples.greatest),
     );
     put_level(&mut line, notation, "peak_dbfs", channel, peak, FULL_POWER);
     put_level(
@@ -433,10 +419,10 @@ fn samples_of(notation: Notation, channel: Channel, whole: u64, facts: &ChannelF
         notation,
         "rms_dbfs",
         channel,
-        facts.energy,
+        facts.samples.energy,
         full_energy(whole),
     );
-    put_silence(&mut line, notation, channel, whole, facts.greatest);
+    put_silence(&mut line, notation, channel, whole, facts.samples.greatest);
     line
 }
 

@@ -153,6 +153,33 @@ pub struct aes3_event {
     pub locked: u8,
 }
 
+/// What is counted of a channel's samples of 24 bits.
+#[repr(C)]
+#[derive(Clone, Copy, Debug, Default, PartialEq, Eq)]
+pub struct aes3_channel_levels {
+    /// The sum of the squares of the samples: its low 64 bits.
+    pub energy_low: u64,
+    /// Its high 64 bits.
+    pub energy_high: u64,
+    /// The greatest magnitude of a sample.
+    pub peak: u32,
+}
+
+/// What is counted of the samples of blocks.
+#[repr(C)]
+#[derive(Clone, Copy, Debug, Default, PartialEq, Eq)]
+pub struct aes3_levels {
+    /// How many blocks were added.
+    pub blocks: u64,
+    /// Channel 1.
+    pub first: aes3_channel_levels,
+    /// Channel 2.
+    pub second: aes3_channel_levels,
+}
+
+/// The level if there is none.
+pub const AES3_NO_LEVEL: u32 = u32::MAX;
+
 /// The state of a line whose sums are given, in memory of its caller.
 #[repr(C)]
 #[derive(Clone, Copy)]
@@ -384,6 +411,8 @@ const _: () = {
     assert!(core::mem::size_of::<aes3_gap>() == 24);
     assert!(core::mem::size_of::<aes3_watch>() == 80);
     assert!(core::mem::size_of::<aes3_event>() == 48);
+    assert!(core::mem::size_of::<aes3_channel_levels>() == 24);
+    assert!(core::mem::size_of::<aes3_levels>() == 56);
     assert!(core::mem::size_of::<aes3_sums>() == 192);
     assert!(core::mem::size_of::<aes3_sum>() == 96);
     assert!(core::mem::size_of::<aes3_professional>() == 32);
@@ -440,6 +469,14 @@ extern "C" {
     pub fn aes3_watch_passed(watch: *mut aes3_watch, seen: u64, events: *mut aes3_event) -> u32;
     /// Puts the events of the end of the cells; returns how many.
     pub fn aes3_watch_end(watch: *const aes3_watch, seen: u64, events: *mut aes3_event) -> u32;
+    /// Makes the counts of samples without any block.
+    pub fn aes3_levels_init(levels: *mut aes3_levels);
+    /// Counts the samples of a block.
+    pub fn aes3_levels_add(levels: *mut aes3_levels, words: *const u32);
+    /// The peak of a channel, 1 or 2, in tenths of a decibel below full scale; `AES3_NO_LEVEL` if there is none.
+    pub fn aes3_levels_peak(levels: *const aes3_levels, channel: u8) -> u32;
+    /// The RMS of a channel likewise.
+    pub fn aes3_levels_rms(levels: *const aes3_levels, channel: u8) -> u32;
     /// Makes the state of a line for a lock that has seen no cell, with periods of 1 to 2^40 cells; false if there are none such.
     pub fn aes3_sums_init(sums: *mut aes3_sums, every: u64) -> bool;
     /// Puts the sum of the next period that ends before a report, if there is one; else counts the report.

@@ -15,7 +15,7 @@
 //! ```
 //!
 //! `Reports` gives the reports of a line that is read from a file or a pipe, [`Account`] the gaps between its whole blocks, and
-//! [`Watch`] its events, [`Sums`] what is counted by periods.
+//! [`Watch`] its events, [`Sums`] what is counted by periods, [`Levels`] the peak and the RMS of whole blocks.
 //! [`Wav`] reads and writes the headers of WAV files. [`Recovery`] recovers the cells of a capture that comes in pieces, and
 //! [`encode_blocks`] and the like take many blocks at once.
 #![cfg_attr(not(feature = "std"), no_std)]
@@ -26,6 +26,7 @@ mod block;
 mod blocks;
 mod capture;
 mod error;
+mod levels;
 mod lock;
 #[cfg(feature = "std")]
 mod reports;
@@ -44,6 +45,7 @@ pub use blocks::{
 };
 pub use capture::{cells_of_samples, room_for, Recovery, Unit};
 pub use error::Error;
+pub use levels::Levels;
 pub use lock::{Lock, Report, Why};
 #[cfg(feature = "std")]
 pub use reports::{Form, Reports};

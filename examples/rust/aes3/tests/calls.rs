@@ -1,8 +1,8 @@
 //! Each call, with answers that are known.
 
 use aes3::{
-    Account, Block, Channel, Check, Error, Event, Form, Gap, Lock, Report, Reports, Status, Sum, Sums, Validity, Watch,
-    Why, BLOCK_CELLS, BLOCK_WORDS,
+    Account, Block, Channel, Check, Error, Event, Form, Gap, Levels, Lock, Report, Reports, Status, Sum, Sums,
+    Validity, Watch, Why, BLOCK_CELLS, BLOCK_WORDS,
 };
 use aes3::{Recovery, SampleForm, SubframeForm, BLOCK_OCTETS};
 use aes3::{Wav, WavBits, WavFault, WavRead};
@@ -251,6 +251,25 @@ fn events() {
     assert_eq!(told[2].to_string(), format!("status at {at} channel 2 {}", "04".repeat(24)));
     assert_eq!(told[3].to_string(), format!("validity at {at} channel 1 set"));
     assert_eq!(told[0].to_string(), "locked at 100 before 1");
+}
+
+#[test]
+fn levels() {
+    let mut levels = Levels::new();
+    assert_eq!((levels.blocks(), levels.peak(Channel::One), levels.rms(Channel::Two)), (0, None, None));
+    let mut samples = [0; BLOCK_WORDS];
+    samples.iter_mut().step_by(2).for_each(|sample| *sample = -1 << 30);
+    let loud = Block::of_samples(&samples);
+    levels.add(&loud);
+    assert_eq!(
+        (levels.peak(Channel::One), levels.rms(Channel::One), levels.greatest(Channel::One)),
+        (Some(60), Some(60), 1 << 22)
+    );
+    assert_eq!((levels.blocks(), levels.peak(Channel::Two), levels.rms(Channel::Two)), (1, None, None));
+    let mut clone = levels.clone();
+    clone.add(&Block::silence());
+    assert_eq!((clone.peak(Channel::One), clone.rms(Channel::One), clone.blocks()), (Some(60), Some(90), 2));
+    assert_eq!(levels.blocks(), 1);
 }
 
 #[test]

@@ -6,8 +6,8 @@ use Rattle.aes3_info.proofs.decibels.level_of.Goals as goal
 pub loop-decade-init : goal.loop-decade-init
 loop-decade-init c = record { level = tenths-begin c.args.power c.args.full }
 
-pub returns-then-times : goal.returns-then-times
-returns-then-times c =
+pub returns-then-times-clause-level : goal.returns-then-times-clause-level
+returns-then-times-clause-level c =
     let l = c.loop-decade in
     let d = decades-is in
     let a = c.times.ensures in
@@ -26,8 +26,8 @@ loop-decade-preserved c =
           (c.times-more.ensures ∙ product l.power 10) (omega arith);
     }
 
-pub returns : goal.returns
-returns c =
+pub returns-clause-level : goal.returns-clause-level
+returns-clause-level c =
     let l = c.loop-decade in
     let d = decades-is in
     ap (λ n. 100 * n + c.steps_below-2.result) (sym decades-is)

@@ -1,16 +1,12 @@
-use Rattle.std.proofs.Common.{◌∙◌, refl, ap, map, max, arith}
+use Rattle.std.proofs.Common.{◌∙◌, refl, ap, ap₂, map, max, arith}
 use Rattle.aes3_frame.specs.Files.{payload_of}
 use Rattle.aes3_info.specs.Facts.{magnitudes, more_energy, square}
 use Rattle.aes3_info.proofs.Magnitudes.{energy-all, energy-more, energy-none, greatest-all, greatest-more}
 use Rattle.aes3_info.proofs.Magnitudes.{length-magnitudes}
-use Rattle.aes3_info.proofs.channel_facts.ChannelFacts.count_samples.Goals as goal
+use Rattle.aes3_info.proofs.samples.SampleFacts.count.Goals as goal
 
 pub loop-i-init : goal.loop-i-init
 loop-i-init c = record {
-  first = refl;
-  latest = refl;
-  changes = refl;
-  invalid = refl;
   greatest = omega arith;
   energy = energy-none c.args.self.now.energy (omega arith);
 }
@@ -24,10 +20,6 @@ loop-i-preserved c =
     let m = c.magnitude_at-magnitude.result in
     let e = c.magnitude_at-magnitude.ensures.magnitude in
     record {
-      first = v.first;
-      latest = v.latest;
-      changes = v.changes;
-      invalid = v.invalid;
       greatest = c.max-self.ensures ∙ ap (λ z. max z m) v.greatest
           ∙ greatest-more ms l.i c.args.self.now.greatest m (omega arith) e;
       energy = c.more_energy-self.ensures ∙ ap (λ z. more_energy z c.square.result) v.energy
