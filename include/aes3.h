@@ -927,7 +927,7 @@ void aes3_levels_init(aes3_levels *levels);
  *
  * @code
  * aes3_levels levels;
- * uint32_t words[AES3_BLOCK_WORDS] = {[1] = UINT32_C(3) << 4}; // a sample of 3 in channel 2
+ * uint32_t words[AES3_BLOCK_WORDS] = {0, UINT32_C(3) << 4}; // a sample of 3 in channel 2
  * aes3_levels_init(&levels);
  * aes3_levels_add(&levels, words);
  * assert(levels.blocks == 1 && levels.first.peak == 0 && levels.second.peak == 3);
@@ -944,7 +944,7 @@ void aes3_levels_add(aes3_levels *levels, const uint32_t words[AES3_BLOCK_WORDS]
  *
  * @code
  * aes3_levels levels;
- * uint32_t words[AES3_BLOCK_WORDS] = {[0] = UINT32_C(0x400000) << 4}; // half of full scale
+ * uint32_t words[AES3_BLOCK_WORDS] = {UINT32_C(0x400000) << 4}; // half of full scale
  * aes3_levels_init(&levels);
  * assert(aes3_levels_peak(&levels, 1) == AES3_NO_LEVEL);
  * aes3_levels_add(&levels, words);
