@@ -12,8 +12,7 @@
  *
  * - No pointer is null. Each points to the number of objects that its type or `count` says, aligned as C requires it.
  * - What a function writes overlaps no other argument of that call.
- * - A lock was made by aes3_lock_init(), an account by aes3_account_init(), the state of a watched line by aes3_watch_init(),
- *   that of its sums by aes3_sums_init(), and only the functions here write them.
+ * - A structure that has an `_init` call, such as aes3_lock_init(), was made by that call. Only the functions here write it.
  *
  * The words that are used here:
  *
@@ -1842,7 +1841,7 @@ AES3_SIZE(aes3_mark, 16);
  *
  * So the sample is found at which a cell begins, for instance that of a report. Keep the marks after some calls of
  * aes3_recovery_take(), and give the last mark up to the cell and the first one after it to aes3_sample_between(). With 64 octets
- * of samples a call there is a mark for every run or two of 64 cells, and the sample is that of `aes3-cells --places`.
+ * of samples a call there is a mark for every run or two of 64 cells. Then the sample is that of `aes3-cells --places`.
  *
  * Samples that wait for an edge are not in the mark. Cells that wait for room are.
  *
