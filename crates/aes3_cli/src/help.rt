@@ -33,9 +33,9 @@ Forms of input and output:
                 bit, or with --lsb-first the lowest. One more octet at the end counts
                 the unused cells of the octet before it. Raw octets (--raw-in) lack this
                 last octet
-  block         192 frames of two subframes: 24,576 cells. A block is whole if its
-                preambles, biphase-mark code and parity are right, and if the level
-                changes after its last cell or the input ends there
+  block         192 frames of two subframes: 24,576 cells. In a whole block preambles,
+                biphase-mark code and parity are right. The level changes after its last
+                cell, or the input ends there
   block file    the bits of blocks, without line code. A block has 1,536 bytes: 384
                 words of 4 bytes, lowest byte first. A frame has a word for channel 1
                 and then one for channel 2. Bit N of a word is time slot N. Bits 0 to 3
@@ -364,9 +364,9 @@ from 0:
   end at P locked        the cells end at P, less than a block length after a whole
                          block
   end at P lost          the cells end at P in any other case
-`lost` is printed when two block lengths of cells have come from P on, or sooner if
-`check` has a line for a place after the first of them. `check --gaps` prints the same
-cells block by block.
+`lost` is printed when two block lengths of cells have come from P on. It comes sooner
+if `check` has a line for a place after the first of them. `check --gaps` prints the
+same cells block by block.
 With --rate HZ, ` time S` follows P: S is the time of cell P in seconds with three
 places, at 128 times HZ cells a second. With --json each output line is a JSON object.
 The first word is the value of `event`. A value without a name at the end of a line is
