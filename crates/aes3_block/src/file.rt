@@ -46,8 +46,8 @@ impl Debug for FileFault {
 
 /// Reads a block file byte by byte.
 ///
-/// A contract sees how many bytes it has taken, the words of the current block, the bytes of the
-/// current word, and the fault that it has found.
+/// A contract sees how many bytes it has taken, and the fault that it has found. It also sees the
+/// words of the current block, and the bytes of the current word.
 #[derive(Drop)]
 pub struct BlockFile {
     words: ArrayVec<u32, SUBFRAMES>,

@@ -17,7 +17,7 @@ pub struct Aes3Capture {
     /// The latest length of a cell, in 65,536ths of a sample; 0 if none was given or found.
     pub period: u64,
     /// How many edges were followed, the greatest distance of an edge from its place, and the sum
-    /// of the squares of these distances, in 256ths of a sample.
+    /// of the squares of these distances. The distances are in 256ths of a sample.
     pub edges: u64,
     pub greatest: u64,
     pub squares: u64,

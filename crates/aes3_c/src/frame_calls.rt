@@ -18,8 +18,8 @@ fn frames_before(first: u64, at: u64) -> u64
 }
 
 /// How many frames are missing between the whole block at place `before` and the next one, at place
-/// `at`, if the first whole block of all is at place `first`. With that many frames between them, each
-/// block is in time, to half a frame.
+/// `at`. With that many frames between them, each block is in time, to half a frame. `first` is the
+/// place of the first whole block of all.
 #[unsafe(no_mangle)]
 pub extern "C" fn aes3_frames_between(first: u64, before: u64, at: u64) -> u64
     ensures { (x y : Placed) → x.place ≡ before → y.place ≡ at → result ≡ missing first x y }

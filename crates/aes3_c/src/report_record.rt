@@ -12,8 +12,8 @@ use crate::level_byte::byte_of_level;
 use aes3_block::Block;
 use aes3_lock::{Ending, Why};
 
-/// A report, or none. `kind` is 0 for none, 1 for a whole block, 2 for a marked one, 3 for a fault,
-/// 4 for the begun block at the end of the cells.
+/// A report, or none. `kind` is 0 for none, 1 for a whole block, and 2 for a marked one. It is 3
+/// for a fault, and 4 for the begun block at the end of the cells.
 #[repr(C)]
 #[derive(Drop)]
 pub struct Aes3Report {

@@ -13,11 +13,11 @@ use crate::blocks::put_blocks;
 use aes3_block::{BLOCK_BYTES, Block, SUBFRAMES};
 use aes3_forms_samples::SampleFormat;
 
-/// Puts the samples of the blocks of these words in a form, the lowest octet first: 1 for 24 bits in
-/// three octets, 2 for 24 bits in the lowest of 32, 3 for the highest 16 bits, any other number for the
-/// highest 24 of 32 bits. It takes whole blocks, as long as there is room for their samples. Answers how
-/// many words these blocks have, or the number of the first that no block file may have; the samples of
-/// the blocks before that word's are put.
+/// Puts the samples of the blocks of these words in a form, the lowest octet first. Form 1 is 24
+/// bits in three octets, and form 2 is 24 bits in the lowest of 32. Form 3 is the highest 16 bits,
+/// and any other number is the highest 24 of 32 bits. It takes whole blocks, as long as there is
+/// room for their samples. Answers how many words these blocks have, or the number of the first
+/// that no block file may have; the samples of the blocks before that word's are put.
 #[unsafe(no_mangle)]
 pub extern "C" fn aes3_samples_of_blocks(words: &[u32], form: u8, octets: &mut [u8]) -> usize
     ensures answer { IsFirstWrong (word_in words.now)

@@ -72,10 +72,10 @@ fn put_words(own: &[u32; SUBFRAMES], words: &mut [u32]) -> Result<(), usize>
 }
 
 /// Puts the words of the blocks that these octets are read as, in a form as
-/// `aes3_subframes_of_blocks` has them, the first one the first of a block. It takes whole blocks, as
-/// long as there is room for their words. Answers how many words these blocks have, or the number of
-/// the first that no block file may have, as one with the code of another preamble; the blocks before
-/// that word's are put.
+/// `aes3_subframes_of_blocks` has them. The first of these words is the first of a block. It takes
+/// whole blocks, as long as there is room for their words. Answers how many words these blocks
+/// have, or the number of the first that no block file may have. Such a word is, for example, one
+/// with the code of another preamble. The blocks before that of the first such word are put.
 #[unsafe(no_mangle)]
 pub extern "C" fn aes3_blocks_of_subframes(octets: &[u8], form: u8, words: &mut [u32]) -> usize
     ensures answer { IsFirstWrong (word_read (words_form form) octets.now)

@@ -46,8 +46,8 @@ const _: () = prove!(size_of::<Aes3Watch>() == 80);
 const _: () = prove!(align_of::<Aes3Watch>() == 8);
 
 /// What changes on a line, and where. `kind` is 1 where the line locks, 2 where it is lost, 3 where
-/// it comes back, 4 where it slips, 5 for a status, 6 for validity bits, 7 for the end of the cells.
-/// A field that the kind does not use is 0.
+/// it comes back, and 4 where it slips. It is 5 for a status, 6 for validity bits, and 7 for the
+/// end of the cells. A field that the kind does not use is 0.
 #[repr(C)]
 #[derive(Clone, Copy)]
 pub struct Aes3Event {

@@ -9,9 +9,9 @@ use crate::follower::{Bounds, Follower};
 
 /// Counts the cells between the edges of a capture, from the numbers of samples between them.
 ///
-/// They are the line's if each edge is displaced by less than half a cell, less a margin, from the
-/// mean of the edges of its direction before it. This holds if no edge is displaced against another
-/// by half a cell less that margin, whatever form the jitter has.
+/// They are the line's if each edge is near the mean of the edges of its direction before it. It is
+/// near if it is displaced from the mean by less than half a cell, less a margin. This holds if no
+/// edge is displaced against another by half a cell less that margin, whatever form the jitter has.
 ///
 /// AES3 asks a receiver to tolerate jitter at high frequencies of a quarter of a unit interval,
 /// peak to peak (AES3, tolerance of a receiver). It is tolerated from the numbers of samples in a

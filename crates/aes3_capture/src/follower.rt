@@ -73,7 +73,7 @@ impl Follower {
     }
 
     /// A follower at an edge of a line whose position is known on the grid of its direction and on
-    /// the other grid, plus one and a half of the shortest cell each.
+    /// the other grid. One and a half of the shortest cell is added to each of the two positions.
     pub fn at(bounds: Bounds, period: u64, same: u64, other: u64) -> Self
         requires longest { period ≤ bounds.high }
         requires shortest { bounds.low ≤ period }
@@ -190,9 +190,9 @@ impl Follower {
         told + u64::from(self.edge())
     }
 
-    /// Counts the cells of at most 32 runs as `run` does, as long as each run has the number of
-    /// cells in `cells` and its edge is near its place. Returns how many runs were counted, and
-    /// writes the position of each edge on its grid.
+    /// Counts the cells of at most 32 runs as `run` does. It goes on as long as each run has the
+    /// number of cells in `cells` and its edge is near its place. Returns how many runs were
+    /// counted, and writes the position of each edge on its grid.
     ///
     /// It takes a fraction of the time of `run`: it compares where `run` divides and clamps, and
     /// takes most runs 16 at a time.
@@ -297,8 +297,9 @@ impl Follower {
     }
 
     /// The follower after an edge that follows these samples, if `cells` cells end there and the
-    /// edge is near its place. It is near if it is less than half of the shortest cell from its
-    /// place, and the time less than the shortest cell from that of the cells.
+    /// edge is near its place. It is near if two things hold. The edge is less than half of the
+    /// shortest cell from its place. The time is less than the shortest cell from that of the
+    /// cells.
     #[inline(always)]
     fn near(&self, samples: u32, cells: u32) -> Option<Follower>
         ensures { IfSome result (IsNear self.now samples cells) }
@@ -412,8 +413,8 @@ impl Leap {
     }
 
     /// Whether these numbers are right. Each edge must be less than half of the shortest cell from
-    /// its place, and the time less than the shortest cell from that of the cells. After the edge
-    /// the grids are at most half of a shortest cell apart, and the period is at most `range`
+    /// its place. The time must be less than the shortest cell from that of the cells. After the
+    /// edge the grids are at most half of a shortest cell apart. The period is then at most `range`
     /// longer than the shortest cell.
     #[inline(always)]
     pub(crate) fn is_right(&self, low: u32, range: u32, runs: &[u32], cells: &[u32]) -> bool

@@ -9,10 +9,10 @@ ghost use Rattle.aes3_capture_laws.specs.RunLaws.{AreOfBlocks, RunsAreOfSubframe
 use aes3_capture::Follower;
 use aes3_capture_recovery::follower_of_runs;
 
-/// Any 256 runs in a row of a line of whole blocks are runs of subframes, in the form that the
-/// measuring of a line needs. All preambles begin at run numbers that are all even or all odd; at
-/// least one of any 64 runs begins one, and they are 32 to 60 runs apart. Among all runs, only the
-/// first two of an X preamble have six cells together, and there are such two.
+/// Any 256 runs in a row of a line of whole blocks are runs of subframes. They have the form that
+/// the measuring of a line needs. All preambles begin at run numbers that are all even or all odd;
+/// at least one of any 64 runs begins one, and they are 32 to 60 runs apart. Among all runs, only
+/// the first two of an X preamble have six cells together, and there are such two.
 pub fn runs_are_of_subframes()
     ensures { RunsAreOfSubframes }
 {}

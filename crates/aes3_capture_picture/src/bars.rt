@@ -7,8 +7,9 @@ use crate::numbers::{Grouped, Intervals, Tenths, share};
 use std::alloc::AllocError;
 use std::fmt::Write;
 
-/// Places and lengths in the picture, in tenths of its unit: where the first bar begins, the width of
-/// a bar and its space, the line from which bars rise and fall, and the length of the longest.
+/// Places and lengths in the picture, in tenths of its unit. The first two are where the first bar
+/// begins, and the width of a bar and its space. The other two are the line from which bars rise
+/// and fall, and the length of the longest.
 const LEFT: u64 = 750;
 
 const BAR: u64 = 130;

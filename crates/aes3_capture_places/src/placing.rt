@@ -64,8 +64,9 @@ impl Capture {
         }
     }
 
-    /// Copies a report, and adds to each line that names a cell the sample that the cell begins at,
-    /// and its time in seconds if the rate is known. Returns how many lines got theirs.
+    /// Copies a report, and adds to each line that names a cell the sample that the cell begins at.
+    /// If the rate is known, it also adds the sample's time in seconds. Returns how many lines got
+    /// their sample.
     ///
     /// # Errors
     /// Whether a source or the sink failed.

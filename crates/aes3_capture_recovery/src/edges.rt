@@ -73,8 +73,8 @@ pub fn levels_of(unit: Unit, octets: &[u8; 64]) -> (u64, u32)
 /// How many octets are searched for edges at once.
 pub(crate) const BLOCK: usize = 4096;
 
-/// The levels of the samples in a block of octets, as words of 64 of them, the first in the lowest
-/// bit, and the number of words.
+/// The levels of the samples in a block of octets, as words of 64 of them, and the number of words.
+/// The first level of a word is in its lowest bit.
 pub fn words_of(unit: Unit, block: &[u8; BLOCK]) -> ([u64; WORDS], usize)
     ensures few { result.1 ≤ 64 }
     ensures levels { AreWords unit block.now result.0 result.1 }
@@ -111,8 +111,8 @@ fn levels_at(block: &[u8; BLOCK], at: usize, bit: u8) -> u64
     bits_of(&octets, bit)
 }
 
-/// This bit of 64 pairs of octets of a block from octet `at` on, each with the lower octet first,
-/// that of the first in the lowest bit.
+/// This bit of 64 pairs of octets of a block from octet `at` on, that of the first pair in the
+/// lowest bit. Each pair has the lower octet first.
 #[inline(always)]
 fn levels_of_pairs_at(block: &[u8; BLOCK], at: usize, bit: u8) -> u64
     requires within { at + 128 ≤ 4096 }

@@ -183,8 +183,8 @@ impl CellQueue {
     }
 }
 
-/// Writes the cells after the last whole word, the first in the lowest bit, and in packed form the
-/// last octet, the number of unused cells.
+/// Writes the cells after the last whole word, the first in the lowest bit. In packed form it also
+/// writes the last octet, the number of unused cells.
 ///
 /// # Errors
 /// The sink's fault; then it has taken a front of the bytes.

@@ -38,7 +38,7 @@ pub struct Figures {
     /// The latest length of a cell, in parts of a sample; 0 if none was given or found.
     pub period: u64,
     /// How many edges were followed, the greatest distance of an edge from its place, and the sum
-    /// of the squares of these distances, in 256ths of a sample.
+    /// of the squares of these distances. The distances are in 256ths of a sample.
     pub edges: u64,
     pub greatest: u64,
     pub squares: u64,
@@ -425,7 +425,8 @@ impl Recovery {
     }
 
     /// Notes how far the latest edge is from its place. A line is lost if edges are as far from
-    /// their places as by chance, or if the grids of rising and falling edges have slipped.
+    /// their places as by chance. It is also lost if the grids of rising and falling edges have
+    /// slipped.
     #[inline(always)]
     fn note(&mut self)
         ensures line { self.new.line ≡ self.old.line }

@@ -303,8 +303,8 @@ pub fn unit_of(octets: usize, bit: u8) -> Unit
     }
 }
 
-/// The layout of the samples of a job, with the line in the bit that it names, else in the one that
-/// was found, else in the lowest.
+/// The layout of the samples of a job. The line is in the bit that the job names, else in the one
+/// that was found, else in the lowest.
 pub fn unit_of_job(job: &Job<'_>, found: Option<u8>) -> Unit
     ensures unit { result ≡ unit_of_job job.now found }
     ensures bit { bit_of_line result < bits_of_sample result }

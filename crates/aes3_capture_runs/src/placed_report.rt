@@ -12,8 +12,9 @@ use aes3_cli::DONE;
 use std::alloc::{AllocError, Global};
 
 /// Copies a report, and adds to each line that names a cell where the cell is in the capture. The
-/// line is in the job's bit, or in the bit that was found. Returns the exit status: 0 if each of
-/// these cells was found, 1 if one was not or no line names one, 3 if an input, the output or memory failed.
+/// line is in the job's bit, or in the bit that was found. Returns the exit status. It is 0 if each
+/// of these cells was found, and 1 if one was not or no line names one. It is 3 if an input, the
+/// output or memory failed.
 pub fn run_places<R: Source, S: Source, T: Sink, E: Sink>(
     alloc: Global,
     job: &Job<'_>,

@@ -42,8 +42,8 @@ pub trait Reader {
 
 /// Takes bytes; a signal may interrupt it.
 ///
-/// The contract speaks of the bytes that it took (`held`), of those that it has passed on
-/// (`passed`), and of the troubles so far (`met`), if the writer reports these.
+/// The contract speaks of three things, if the writer reports these. They are the bytes that it
+/// took (`held`), those that it has passed on (`passed`), and the troubles so far (`met`).
 pub trait Writer {
     ghost held: { Self → Option (List ℕ) };
 

@@ -447,8 +447,8 @@ fn feed_chunk(text: &mut CellText, piece: &[u8]) -> Option<SomeCells>
     }
 }
 
-/// Takes chunks of 64 bytes, all cells or separators, from the front of a piece, up to a line of 64
-/// cells or the number of words.
+/// Takes chunks of 64 bytes, all cells or separators, from the front of a piece. It stops where a
+/// line of 64 cells begins, or when it has as many words as fit.
 fn feed_chunks(text: &mut CellText, piece: &[u8], words: &mut [u64; LINES]) -> TextFront
     requires { text.old.seen + length piece.now ≤ 2 ^ 40 }
     ensures within { result.bytes ≤ length piece.now }
@@ -531,8 +531,9 @@ fn with_byte(text: &mut CellText, cells: SomeCells, byte: u8) -> Result<SomeCell
     Ok(with_cell_of(cells, byte))
 }
 
-/// Takes bytes from the front of a piece, until they have 64 cells, a line of 64 cells begins, or a
-/// byte is neither a cell nor a separator. Returns the number of bytes, and their cells.
+/// Takes bytes from the front of a piece, until they have 64 cells or a line of 64 cells begins. It
+/// also stops at a byte that is neither a cell nor a separator. Returns the number of bytes, and
+/// their cells.
 fn feed_some(text: &mut CellText, piece: &[u8]) -> Result<(usize, SomeCells), BadCell>
     requires some { 0 < length piece.now }
     requires room { text.old.seen + length piece.now ≤ 2 ^ 40 }

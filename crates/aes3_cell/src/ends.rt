@@ -18,8 +18,8 @@ pub struct Fault;
 
 /// Gives bytes, in pieces of any size.
 ///
-/// The contract speaks of all bytes given so far (`given`, if the source reports them), of whether
-/// it has ended, and of how often it failed.
+/// The contract speaks of all bytes given so far (`given`), if the source reports them. It also
+/// speaks of whether the source has ended, and of how often it failed.
 pub trait Source {
     ghost given: { Self → Option (List ℕ) };
 
@@ -45,9 +45,9 @@ pub trait Source {
 
 /// Takes bytes, in pieces of any size. It may hold some of them until it is flushed.
 ///
-/// The contract speaks of all bytes taken so far (`taken`, if the sink reports them, which it does
-/// always or never), of those that it has passed on (`passed`, likewise), and of how often it
-/// failed.
+/// The contract speaks of all bytes taken so far (`taken`), if the sink reports them, which it does
+/// always or never. Likewise it speaks of those that the sink has passed on (`passed`). It also
+/// speaks of how often the sink failed.
 pub trait Sink {
     ghost taken: { Self → Option (List ℕ) };
 

@@ -2,7 +2,8 @@
 use std::marker::Model;
 
 /// Writes packed cells: eight octets with each 64th cell. At the end it writes the octets of the
-/// cells left, filled up with Low, and one last octet, the number of cells added as filling.
+/// cells left, filled up with Low. Then it writes one last octet, the number of cells added as
+/// filling.
 #[derive(Drop)]
 pub struct PackedOut {
     /// The cells that are not written yet, the latest in the lowest bit.

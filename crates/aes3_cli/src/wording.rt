@@ -7,7 +7,7 @@ use crate::help;
 use std::alloc::{AllocError, Global};
 
 /// The texts of `clap` before the usage, before the pointer to help, and before the tip that a word
-/// can be passed as a value, which no command here takes.
+/// can be passed as a value. No command here takes such a value.
 const ENDS: [&str; 3] = [
     "\n\nUsage: ",
     "\n\nFor more information, try",

@@ -44,8 +44,9 @@ pub struct CommandLine<'a> {
 /// What a command line without the program's name asks for. It reads no input.
 ///
 /// # Errors
-/// - `Usage` if the words don't fit the definitions of the command line or have no command, if
-///   options are misused, or if a text of `--set`, `--set1` or `--set2` is no setting.
+/// - `Usage` if the words don't fit the definitions of the command line or have no command. It is
+///   also `Usage` if options are misused, or if a text of `--set`, `--set1` or `--set2` is no
+///   setting.
 /// - `Help` if `--help` or `--version` is among them.
 /// - `Usage` or `Help` if `--explain` is the first of them.
 /// - `BadStatusText` if the words are valid, but a status text isn't 48 hexadecimal digits.

@@ -102,8 +102,8 @@ impl<T: Sink + Drop> Hints<T> {
         Watched::new(self.alloc, source, is_on, self.terminals.errors)
     }
 
-    /// Reports to `sink`, which is standard error, how far this source has been read, if standard
-    /// error is a terminal and the source is a file. `len` is the length of the file in bytes, and
+    /// Reports to `sink` how far this source has been read, if standard error is a terminal and the
+    /// source is a file. `sink` is standard error. `len` is the length of the file in bytes, and
     /// `line` what reads it. `shown` says whether a line of progress is there.
     pub fn follow<'a, C: Clock + Drop, S: Source + Drop, E: Sink + Drop>(
         &self,

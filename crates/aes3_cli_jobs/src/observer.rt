@@ -9,8 +9,8 @@ use crate::wave_refusal::Refusal;
 /// Observes how a run proceeds. It has neither the input nor the output, and the run writes its
 /// lines to standard error itself.
 ///
-/// The contract speaks of all bytes that it has written (`told`, if they are known), of whether it
-/// writes nothing (`is_silent`), and of what it has observed (`heard`).
+/// The contract speaks of all bytes that it has written (`told`), if they are known. It also speaks
+/// of whether the observer writes nothing (`is_silent`), and of what it has observed (`heard`).
 pub trait Observer {
     ghost told: { Self → Option (List ℕ) };
 

@@ -314,7 +314,7 @@ fn fill_given<S: Source, T: Sink>(
 /// Reads cells from any cell on, and writes samples that keep time. Those of the whole, closed
 /// blocks in them are written as by `to_pcm`, with frames of filling before each block but the
 /// first. So the number of frames from the first block on is the number of cells from there divided
-/// by 128, rounded to the nearest, a half up.
+/// by 128 and rounded to the nearest. A half is rounded up.
 ///
 /// A frame of filling is zero, or the last frame of the block before. After the last block nothing
 /// is written, as no later block shows how much time passes. The number of frames of filling is

@@ -253,9 +253,9 @@ fn answer(met: &MetPlaces, change: &Change, counts: Counts) -> Exact
 /// of the change. It returns the place of that block; neither the block nor what follows it is
 /// written. The input is read to its end.
 ///
-/// A block takes all settings of a channel if its status, or the one that it is given, takes one of
-/// the two settings of each text. If fields of four bytes are set too, the status also has to be
-/// professional after the others.
+/// A block takes all settings of a channel if a status takes one of the two settings of each text.
+/// That is the status that the block is given, or else its own. If fields of four bytes are set
+/// too, the status also has to be professional after the others.
 ///
 /// # Errors
 /// Those of `rewrite`.

@@ -1,6 +1,6 @@
 //! Blocks, and the words that a block file has for them: bit `n` is time slot `n`, and slots 0 to 3
-//! are zero. Blocks are also made of samples in the form of sound programs, and the V, U and C bits
-//! of their two channels are read and set as bytes.
+//! are zero. Blocks are also made of samples in the form of sound programs. The V, U and C bits of
+//! their two channels are read and set as bytes.
 use aes3_slot::{SUBFRAME_CELLS, payload_parity, slot_bits};
 use std::marker::Model;
 

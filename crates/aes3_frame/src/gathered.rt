@@ -9,7 +9,7 @@ use std::simd::prelude::*;
 /// the other.
 ///
 /// A contract sees the words. It also keeps how many of the first words are known to be a block's
-/// first subframes with right parity, so that they aren't judged again.
+/// first subframes with right parity. So they aren't judged again.
 #[derive(Drop)]
 pub struct GatheredCells {
     words: [u64; SUBFRAMES],

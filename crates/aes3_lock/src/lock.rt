@@ -240,9 +240,9 @@ impl Lock {
         true
     }
 
-    /// Takes words from the front, eight at a time, as long as the subframes that they complete
-    /// belong to the current candidate, after its first one, with right parity. Returns how many.
-    /// It is `take_word` for almost all words of a line.
+    /// Takes words from the front, eight at a time, and returns how many. It goes on as long as the
+    /// subframes that they complete belong to the current candidate, after its first one, with
+    /// right parity. It is `take_word` for almost all words of a line.
     fn take_eights(&mut self, words: &[u64]) -> usize
         requires { self.old.seen + 64 * length words.now ≤ 2 ^ 43 }
         ensures within { result ≤ length words.now }

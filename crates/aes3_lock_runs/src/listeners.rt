@@ -27,8 +27,8 @@ use aes3_input::{Taker, drive};
 use aes3_level::Cells;
 use aes3_lock::{Ending, Lock, Tally};
 
-/// Listens to the cells that a lock has taken, up to each that decides a report, and to their end,
-/// and writes what it makes of them.
+/// Listens to the cells that a lock has taken, up to each that decides a report, and to their end.
+/// It writes what it makes of them.
 ///
 /// The contract speaks of the cells that it has heard (`follows`), of what cells write (`writes`),
 /// and of what holds after the end (`finished`). After a fault or the end it follows no cells.

@@ -19,7 +19,8 @@ use std::time::Clock;
 ///
 /// If standard error is no terminal and the words name no file, the hints write nothing. Then
 /// standard error gets only what `errors` get. If it is a terminal, the report of an error ends
-/// with a sentence about the error whose line `errors` got, unless writing the sentence fails.
+/// with a sentence about the error whose line `errors` got. This holds unless writing the sentence
+/// fails.
 pub fn run_and_explain<
     'a,
     C: Clock + Drop,

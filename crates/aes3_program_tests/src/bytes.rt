@@ -84,8 +84,8 @@ fn zeros(alloc: Global, lines: usize, blocks: usize, end: &[u8]) -> Result<Vec<u
 }
 
 /// Whether the channel status bit of a line is 1, and with it the parity bit. The status of the
-/// first channel has a first bit and the check byte 32 in hexadecimal, so this is so in frames 0,
-/// 185, 188 and 189.
+/// first channel has a first bit and the check byte 32 in hexadecimal. So this bit is 1 in frames
+/// 0, 185, 188 and 189.
 fn has_status_bit(line: usize) -> bool {
     line == 0 || line == 370 || line == 376 || line == 378
 }

@@ -1,5 +1,5 @@
-//! Every job over a source and a sink that fail at each call in turn, and over sources and sinks
-//! that give or take few bytes.
+//! Every job over a source and a sink that fail at each call in turn. Every job also runs over
+//! sources and sinks that give or take few bytes.
 
 ghost use Rattle.std.specs.Prelude.{◌<◌};
 

@@ -41,8 +41,8 @@ impl Errors {
         self.add(place + (SUBFRAME_CELLS - 1), ErrorKind::Inverted);
     }
 
-    /// Adds a time slot from 4 to 31 that does not begin with a change of level, in the subframe
-    /// whose first cell has the number `place`. Only the slot's first cell is changed.
+    /// Adds a time slot from 4 to 31 that does not begin with a change of level. It is in the
+    /// subframe whose first cell has the number `place`. Only the slot's first cell is changed.
     pub fn add_biphase(&mut self, place: u64, slot: u8)
         requires room { length (errors_of self.old) < ERRORS }
         requires within { place < 2 ^ 63 }

@@ -285,8 +285,9 @@ fn add_wide_line(text: &mut String, field: WideField) -> Result<(), AllocError>
 }
 
 /// Appends what can be set instead of a text `NAME=WORD` that sets nothing. If a field of four
-/// bytes has the name, that is its words. Otherwise it is a line for each use, of what a field with
-/// the name can be set to, or of the names of the fields. Codes without a word are left out.
+/// bytes has the name, that is its words. Otherwise it is a line for each use. The line has what a
+/// field with the name can be set to, or the names of the fields. Codes without a word are left
+/// out.
 ///
 /// # Errors
 /// `AllocError` if there is no memory.

@@ -138,8 +138,8 @@ fn put_text(cells: &[u8], sink: &mut FailingSink) -> Result<(), Fault> {
     Ok(())
 }
 
-/// How many of the cells are written, how many writes the sink takes, how many bytes of text it has
-/// then, and which octets of packed cells.
+/// How many of the cells are written, and how many writes the sink takes. The other two are how
+/// many bytes of text it has then, and which octets of packed cells.
 type WrittenRow = (usize, u8, usize, &'static [u8]);
 
 const WRITTEN_ROWS: &[WrittenRow] = &[

@@ -66,7 +66,7 @@ fn packed_of(alloc: Global, lines: usize) -> Result<Vec<u8>, AllocError> {
 }
 
 /// How many cells there are, how many are in a line, what follows every eighth cell and what
-/// follows a line, and how many bytes are read at once.
+/// follows a line. The last is how many bytes are read at once.
 type Layout = (usize, usize, &'static [u8], &'static [u8], usize);
 
 /// What follows a cell.
@@ -222,8 +222,8 @@ fn inputs_without_an_end(rt: HostRuntime) {
     }
 }
 
-/// The counts if blocks are written from the second on, and the input has one block, after the
-/// front of another and before one more subframe. Nothing is written.
+/// The counts if blocks are written from the second on, and the input has one block. It comes after
+/// the front of another and before one more subframe. Nothing is written.
 fn counted(alloc: Global) -> Option<Counts> {
     let text = text_of(alloc, &[200, 384, 1]).ok()?;
     let mut source = MemorySource::new(&text, 4_096);

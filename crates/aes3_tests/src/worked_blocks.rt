@@ -4,7 +4,7 @@ use crate::known_statuses::with_byte;
 use aes3_block::{Block, BlockFile, Channel, FileFault, Frame, Subframe, samples_of_block};
 
 /// Whether, among the first payloads of a block, only that of one frame has a bit, the last but
-/// one, and no second payload has any.
+/// one. No second payload may have any.
 fn has_bit_in(block: &Block, frame: usize) -> bool {
     for i in 0..192 {
         let carried = block.frame(i);

@@ -210,8 +210,8 @@ impl Taker for MarkLines {
     }
 }
 
-/// Reads cells from any cell on, and writes a line for each place where eight cells are a preamble,
-/// whether or not it belongs to a block (AES3-3; IEC 60958-1).
+/// Reads cells from any cell on, and writes a line for each place where eight cells are a preamble
+/// (AES3-3; IEC 60958-1). The preamble need not belong to a block.
 ///
 /// # Errors
 /// Those of `check`. The lines of the preambles that ended before are written; after `Write`, a

@@ -25,8 +25,8 @@ pub const EVENTS: usize = 8;
 /// How many words are taken at once.
 const LANES: usize = 16;
 
-/// Among the last eight cells of a subframe, the first of the two that carry its validity bit, and
-/// the first of the two that carry its channel status bit.
+/// Among the last eight cells of a subframe, the first cell of its validity bit and the first cell
+/// of its channel status bit. Two cells carry each of these bits.
 const FIRST_CELLS: u8 = 1 | 1 << 4;
 
 /// What a whole block says of a channel's samples.

@@ -366,10 +366,10 @@ impl Listener for Summer {
 /// events. The first sum is of the first `every` cells, the second of the next, and so on up to the
 /// end of the input.
 ///
-/// A sum is written as soon as a report after its period is decided, or a block's length of cells
-/// has come from the end of the period on. The last one, if it has cells, is written before `end`.
-/// A report is counted where it begins. A gap of a block's length is counted where its last cell
-/// lies, a shorter one with the whole block that ends it.
+/// A sum is written as soon as one of two things happens. A report after the sum's period is
+/// decided, or a block's length of cells has come from the end of the period on. The last sum, if
+/// it has cells, is written before `end`. A report is counted where it begins. A gap of a block's
+/// length is counted where its last cell lies, a shorter one with the whole block that ends it.
 ///
 /// # Errors
 /// Those of `check`. The lines that were certain before, whatever cells follow, are written; after

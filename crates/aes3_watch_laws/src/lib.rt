@@ -49,8 +49,8 @@ pub fn loss_is_lost()
 {}
 
 /// No gap of the account counts if three things hold for cells. They have at least one whole block,
-/// their whole blocks follow each other directly, and fewer cells than a block has are before the
-/// first and after the last. So none does in a piece of a valid stream that has a whole block.
+/// and their whole blocks follow each other directly. Fewer cells than a block has are before the
+/// first and after the last. So no gap counts in a piece of a valid stream that has a whole block.
 pub fn whole_rows_have_no_gap()
     ensures row { RowHasNoGap }
     ensures piece { PieceHasNoGap }
@@ -92,8 +92,8 @@ pub fn sums_leave_events()
     ensures begun { BegunEventsStay }
 {}
 
-/// What `watch_sums` writes for any cells is, for each period in order, the events of `watch` that
-/// lie there, and then what counts there of the whole account; and the end.
+/// For any cells, `watch_sums` writes each period in order, and then the end. For a period it
+/// writes the events of `watch` that lie there, and then what counts there of the whole account.
 pub fn sums_are_by_periods()
     ensures { SumsAreByPeriods }
 {}

@@ -55,10 +55,10 @@ impl Recovery {
     ghost use Rattle.aes3_capture_recovery.specs.RecoverySteps.{NotedAll, RunsCounted};
     ghost use Rattle.aes3_capture_recovery.specs.declared.recovery.State.TheVariants.{Following, Still};
 
-    /// Takes words of the levels of 64 samples each, the first in the lowest bit, if the line's
-    /// edges can be found first, or if there is no signal and no edge in them. Returns whether it
-    /// did. For each word it gives what [`Recovery::take`] gives: this is the fast way, in which
-    /// most edges do not wait for others. The contents of `places` are irrelevant.
+    /// Takes words of the levels of 64 samples each, the first in the lowest bit, and returns
+    /// whether it did. It does so if the line's edges can be found first, or if there is no signal
+    /// and no edge in them. For each word it gives what [`Recovery::take`] gives: this is the fast
+    /// way, in which most edges do not wait for others. The contents of `places` are irrelevant.
     ///
     /// # Errors
     /// The sink's fault.

@@ -51,10 +51,10 @@ pub fn changes_tell_the_block()
     ensures { ChangesTellTheBlock }
 {}
 
-/// If any cells of a piece of a valid stream change, there is a closed block at a frame exactly if
-/// the changed cells leave one there. These are the cells in which its preambles are not the
-/// stream's, and pairs between two slots. If at most 383 cells change, there is no closed block
-/// anywhere else.
+/// If any cells of a piece of a valid stream change, a frame begins a closed block exactly if the
+/// changed cells leave one there. These are the cells in which its preambles are not the stream's,
+/// and pairs between two slots. If at most 383 cells change, there is no closed block anywhere
+/// else.
 pub fn changes_tell_all_blocks()
     ensures frames { ChangesTellTheFrame }
     ensures blocks { ChangesTellAllBlocks }
@@ -81,16 +81,16 @@ pub fn two_changed_cells()
 {}
 
 /// One lost cell destroys the block that held it, and no other. No block is given across lost or
-/// inserted cells, except for a slip by whole subframes, in its first eight cells or in its last
-/// subframe.
+/// inserted cells, with three exceptions. They are a slip by whole subframes, one in the block's
+/// first eight cells, and one in its last subframe.
 pub fn one_lost_cell()
     ensures blocks { LossLeavesTheOthers }
     ensures slips { SlipsAreNotBridged }
 {}
 
 /// If two or three cells are lost, no block is changed: each block that is given was in the piece.
-/// A block after the lost cells can be given even if one of its first cells is lost, if a cell
-/// before it takes that cell's place.
+/// A block after the lost cells can be given even if one of its first cells is lost. This is so if
+/// a cell before it takes that cell's place.
 pub fn few_lost_cells()
     ensures stood { LossesChangeNoBlock }
     ensures blocks { LossesGiveNoOther }
