@@ -82,7 +82,7 @@ unconfirmed() {
     [ $? = 1 ] && [ "$(cat said_why)" = "aes3-cells: $(tr -d '\n' <out | wc -c) cells were written by --rate and --at, and no measurement confirmed them: $1" ]
 }
 too_few="there were too few edges: 129 are needed up to the end, or 257 up to a stretch without signal"
-other_line="no AES3 line of this rate was found in this bit: try another --bit, --unit 2 for sixteen channels, or another --at"
+other_line="no AES3 line of this rate was found in this bit: try another --bit, --unit 2 for sixteen inputs, or another --at"
 wrong_words() { "$program" "$@" </dev/null >out 2>said_why; [ $? = 2 ] && [ ! -s out ] && [ -s said_why ]; }
 
 # A second of 48 kHz at 24 MHz: up to a sample either way; 0.3 rms; falling edges late. Then 192 kHz and 96 kHz at 100 MHz.

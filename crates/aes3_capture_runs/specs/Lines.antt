@@ -125,12 +125,12 @@ reason_text figures =
     if figures.misses == 0
     then codes "there were too few edges: 129 are needed up to the end, or 257 up to a stretch without signal"
     else codes
-    "no AES3 line of this rate was found in this bit: try another --bit, --unit 2 for sixteen channels, or another --at"
+    "no AES3 line of this rate was found in this bit: try another --bit, --unit 2 for sixteen inputs, or another --at"
 
 abbrev pub no_line_text : Figures → Option ℕ → List ℕ → List ℕ
 no_line_text figures None why =
-    codes "aes3-cells: no AES3 line was found, " ++ why
-    ++ codes ": try another --bit, --unit 2 for sixteen channels, or --rate with --at\n"
+    codes "aes3-cells: no AES3 line was found: " ++ why
+    ++ codes ". Try another --bit, --unit 2 for sixteen inputs, or --rate with --at\n"
 no_line_text figures (Some period) why =
     cells_text figures ++ codes " were written by --rate and --at, and no measurement confirmed them: "
     ++ reason_text figures ++ codes "\n"

@@ -206,10 +206,10 @@ pub fn no_line_text(
     let mut text = String::new(alloc);
     match period {
         None => {
-            text.push_str("aes3-cells: no AES3 line was found, ")?;
+            text.push_str("aes3-cells: no AES3 line was found: ")?;
             text.push_str(why)?;
             text.push_str(
-                ": try another --bit, --unit 2 for sixteen channels, or --rate with --at\n",
+                ". Try another --bit, --unit 2 for sixteen inputs, or --rate with --at\n",
             )?;
         }
         Some(_) => {
@@ -229,7 +229,7 @@ fn reason_of<'a>(figures: &Figures) -> &'a str
     if figures.misses == 0 {
         "there were too few edges: 129 are needed up to the end, or 257 up to a stretch without signal"
     } else {
-        "no AES3 line of this rate was found in this bit: try another --bit, --unit 2 for sixteen channels, or another --at"
+        "no AES3 line of this rate was found in this bit: try another --bit, --unit 2 for sixteen inputs, or another --at"
     }
 }
 

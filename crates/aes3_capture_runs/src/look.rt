@@ -43,7 +43,7 @@ impl Look {
         look
     }
 
-    /// Why no line was found, for people, up to a colon.
+    /// Why no line was found, for people, up to a full stop.
     ///
     /// # Errors
     /// `AllocError` if there is no memory.
@@ -58,7 +58,7 @@ impl Look {
             (0, None, _) => format!(in alloc; "no bit toggles in the first {samples} samples"),
             (0, Some(toggling), _) => {
                 format!(in alloc;
-                    "bit {bit} does not toggle in the first {samples} samples, bit {toggling} does"
+                    "bit {bit} does not toggle in the first {samples} samples, but bit {toggling} does"
                 )
             }
             (edges, _, _) if samples / edges < FEWEST_SAMPLES_AN_EDGE => {
