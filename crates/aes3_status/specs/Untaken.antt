@@ -31,7 +31,7 @@ is_taken settings taken at =
 -- what a status lacks that takes nothing of a text, by whether this has a code for professional and for consumer use: a
 -- text with neither sets a field of four bytes, which are for professional use
 abbrev pub remedy : Bool → Bool → List ℕ
-remedy true true = codes ". Another setting has to come first: for word=24, aux=audio (professional) or greatest=24 (consumer)" ++ 10 ∷ []
+remedy true true = codes ". It needs another setting first. For example, word=24 needs aux=audio (professional) or greatest=24 (consumer)" ++ 10 ∷ []
 remedy true false = codes ": only professional status has it; set use=professional first" ++ 10 ∷ []
 remedy false true = codes ": only consumer status has it; set use=consumer first" ++ 10 ∷ []
 remedy false false = codes ": only professional status has it; set use=professional first" ++ 10 ∷ []

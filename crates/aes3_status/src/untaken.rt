@@ -29,7 +29,7 @@ fn remedy(professional: bool, consumer: bool) -> &'static str
 {
     match (professional, consumer) {
         (true, true) =>
-            ". Another setting has to come first: for word=24, aux=audio (professional) or greatest=24 (consumer)\n",
+            ". It needs another setting first. For example, word=24 needs aux=audio (professional) or greatest=24 (consumer)\n",
         (_, false) => ": only professional status has it; set use=professional first\n",
         (false, true) => ": only consumer status has it; set use=consumer first\n",
     }
