@@ -110,7 +110,7 @@ ending-with slots (EndsMarked at s wrong) = refl
 ending-with slots (EndsFault at cell why) = refl
 ending-with slots (EndsUnfinished at cells) = refl
 
-pub due-of : (slots : List (List Bool)) (k : Bool) (e : Ending) (d : Due)
+due-of : (slots : List (List Bool)) (k : Bool) (e : Ending) (d : Due)
     → ((block : List (List Bool)) → d ≡ due_before k (report_with block e)) → d ≡ due_before k (ending_report slots e)
 due-of slots k e d h = h (payloads_of slots) ∙ ap (due_before k) (ending-with slots e)
 
@@ -120,12 +120,16 @@ before-due n p (Marked at s wrong) = refl
 before-due n p (Fault at cell why) = refl
 before-due n p (Unfinished at cells) = refl
 
-pub due-report : (n p : ℕ) (k : Bool) (x : Report) (d : Due) → d ≡ due_before k x → k ≡ ltb 0 n
-    → due_gaps p d ≡ gaps_before n p x
-due-report n p k x d e f = ap (due_gaps p) (e ∙ ap (λ b. due_before b x) f) ∙ before-due n p x
+pub due-report : (n p : ℕ) (slots : List (List Bool)) (k : Bool) (e : Ending) (d : Due)
+    → ((block : List (List Bool)) → d ≡ due_before k (report_with block e)) → k ≡ ltb 0 n
+    → due_gaps p d ≡ gaps_before n p (ending_report slots e)
+due-report n p slots k e d h f =
+    ap (due_gaps p) (due-of slots k e d h ∙ ap (λ b. due_before b (ending_report slots e)) f)
+    ∙ before-due n p (ending_report slots e)
 
-pub due-place : (k : Bool) (x : Report) (d : Due) → d ≡ due_before k x → d.to ≡ place_of x
-due-place k x d e = ap (λ u. u.to) e ∙ go x
+pub due-place : (slots : List (List Bool)) (k : Bool) (e : Ending) (d : Due)
+    → ((block : List (List Bool)) → d ≡ due_before k (report_with block e)) → d.to ≡ place_of (ending_report slots e)
+due-place slots k e d h = ap (λ u. u.to) (due-of slots k e d h) ∙ go (ending_report slots e)
   where
     go : (x : Report) → (due_before k x).to ≡ place_of x
     go (Whole at s b) = refl

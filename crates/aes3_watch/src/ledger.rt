@@ -86,44 +86,8 @@ impl Ledger {
         Ok(())
     }
 
-    /// Writes the gaps before a report, and notes the place up to which the cells are accounted
-    /// for.
-    ///
-    /// # Errors
-    /// The sink's fault; then it has taken a front of their lines.
-    #[inline(always)]
-    fn tell_before<T: Sink>(
-        &mut self,
-        sink: &mut T,
-        _blocks: u64,
-        lock: &Lock,
-        ending: Ending,
-    ) -> Result<(), Fault>
-        requires room { T.failed sink.old + 1 < 2 ^ 64 }
-        requires few { self.old.lost + place_of (report_in lock.now ending) + 1 < 2 ^ 64 }
-        requires near { place_of (report_in lock.now ending) ≤ 2 ^ 43 }
-        requires found { self.old.account.found ≡ nat_lt 0 _blocks }
-        ensures lines { self.new.lines ≡ self.old.lines }
-        ensures found { IfOk result (λ _. self.new.account.found ≡ nat_lt 0
-            (_blocks + length (wholes (report_in lock.now ending ∷ [])))) }
-        ensures place { IfOk result (λ _. self.new.account.place
-            ≡ behind_report self.old.account.place (report_in lock.now ending)) }
-        ensures lost { IfOk result (λ _. self.new.lost
-            ≡ self.old.lost + length (filter is_lost
-            (gaps_before _blocks self.old.account.place
-            (report_in lock.now ending)))) }
-        ensures few { IfOk result (λ _. self.new.lost ≤ self.old.lost + place_of (report_in lock.now ending) + 1) }
-        ensures wrote { Wrote T.taken T.failed sink.old sink.new
-            (account_lines self.old.lines
-            (gaps_before _blocks self.old.account.place
-            (report_in lock.now ending))) result }
-    {
-        self.tell_gaps(sink, Due::before_report(ending, self.account.found))?;
-        self.account.take(ending);
-        Ok(())
-    }
-
-    /// Writes the gaps before a report, and then the report.
+    /// Writes the gaps before a report, and then the report, up to which the cells are then
+    /// accounted for.
     ///
     /// # Errors
     /// The sink's fault; then it has taken a front of their lines.
@@ -155,7 +119,8 @@ impl Ledger {
             (report_in lock.now ending)
             ++ reported (report_in lock.now ending) ∷ [])) result }
     {
-        self.tell_before(sink, blocks, lock, ending)?;
+        self.tell_gaps(sink, Due::before_report(ending, self.account.found))?;
+        self.account.take(ending);
         tell_ending(self.lines, ending, sink)
     }
 }
