@@ -1,21 +1,19 @@
 //! Packed cells as an input.
 
 ghost use Rattle.std.specs.Prelude.{◌≡◌, ℕ, ◌+◌, ◌*◌, ◌<◌, ◌≤◌, ◌^◌, ◌++◌, List, [], ◌∷◌, length};
-ghost use Rattle.std.specs.Prelude.{take, IfOk, IfSome, OnSome, IfNone};
+ghost use Rattle.std.specs.Prelude.{take};
 ghost use Rattle.std.specs.List.{flat_map};
-ghost use Rattle.aes3_cell.specs.declared.form.Form.{Form};
 ghost use Rattle.aes3_level.specs.declared.level.Level.{Level};
 ghost use Rattle.aes3_cell.specs.Packed.{octet_cells, whole_cells};
 ghost use Rattle.aes3_cell.specs.PackedReading.{packed_reader_of};
 ghost use Rattle.aes3_level.specs.Words.{low_cells, word_cells};
-ghost use Rattle.aes3_input.specs.Driving.{Drive};
 ghost use Rattle.aes3_input.specs.Forms.{CellsRan, EndCellsRan, PackedTaken, packed_state};
 ghost use Rattle.aes3_input.specs.Forms.{octet_front, packed_reading};
 ghost use Rattle.aes3_input.specs.Running.{FrontRan, PieceRan, movement_of};
 
-use crate::conversion::{Input, convert};
+use crate::conversion::Input;
 use crate::taker::{Taker, cells, take_all};
-use aes3_cell::{Fault, PackedIn, RunError, Sink, Source};
+use aes3_cell::{Fault, PackedIn, RunError, Sink};
 
 /// How many words are passed on at once: enough to make the cost of the calls negligible.
 const WORDS: usize = 1024;
@@ -24,14 +22,14 @@ const WORDS: usize = 1024;
 #[derive(Drop)]
 pub(crate) struct PackedInput {
     packed: PackedIn,
-    cells: u64,
+    pub(crate) cells: u64,
     /// The words of the latest octets.
     words: [u64; WORDS],
 }
 
 impl PackedInput {
     /// An input of which nothing was taken.
-    fn new() -> Self
+    pub(crate) fn new() -> Self
         ensures packed { result.packed ≡ packed_reader_of [] }
         ensures cells { result.cells ≡ 0 }
     {
@@ -153,28 +151,6 @@ fn take_first<T: Sink, K: Taker>(
 {
     take_octet(input, taker, sink, piece[0])?;
     Ok(1)
-}
-
-/// `drive` over packed cells.
-pub(crate) fn drive_packed<S: Source, T: Sink, K: Taker>(
-    source: &mut S,
-    sink: &mut T,
-    max_bytes: u64,
-    taker: &mut K,
-) -> Result<(u64, u64), RunError>
-    requires source_room { S.failed source.old + 1 < 2 ^ 64 }
-    requires sink_room { T.failed sink.old + 1 < 2 ^ 64 }
-    requires limit { max_bytes ≤ 2 ^ 40 }
-    requires start { (K.state taker.old).follows [] }
-    ensures ran { Drive max_bytes Form.Packed (K.state taker.old).writes (K.state taker.new).follows
-        (K.state taker.new).finished (S.has_ended source.new)
-        (movement_of S.given S.failed source.old source.new)
-        (movement_of T.taken T.failed sink.old sink.new) result }
-    ensures passed_on { IfOk result (λ _. T.passed sink.new ≡ T.taken sink.new) }
-{
-    let mut input = PackedInput::new();
-    let bytes = convert(source, sink, max_bytes, &mut input, taker)?;
-    Ok((bytes, input.cells))
 }
 
 impl<K: Taker> Input<K> for PackedInput {

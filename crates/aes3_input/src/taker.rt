@@ -12,8 +12,9 @@ ghost use Rattle.aes3_input.specs.Taking.{TakerState};
 ghost use Rattle.aes3_input.specs.Running.{movement_of};
 ghost use Rattle.aes3_input.specs.Driving.{Drive};
 
-use crate::packed_input::drive_packed;
-use crate::text_input::drive_text;
+use crate::conversion::convert;
+use crate::packed_input::PackedInput;
+use crate::text_input::TextInput;
 use aes3_cell::{Fault, Form, Level, RunError, Sink, Source};
 use aes3_level::Cells;
 
@@ -210,7 +211,15 @@ pub fn drive<S: Source, T: Sink, K: Taker>(
     ensures passed_on { IfOk result (λ _. T.passed sink.new ≡ T.taken sink.new) }
 {
     match input {
-        Form::Text => drive_text(source, sink, max_bytes, taker),
-        Form::Packed => drive_packed(source, sink, max_bytes, taker),
+        Form::Text => {
+            let mut text = TextInput::new();
+            let bytes = convert(source, sink, max_bytes, &mut text, taker)?;
+            Ok((bytes, text.cells))
+        }
+        Form::Packed => {
+            let mut packed = PackedInput::new();
+            let bytes = convert(source, sink, max_bytes, &mut packed, taker)?;
+            Ok((bytes, packed.cells))
+        }
     }
 }
