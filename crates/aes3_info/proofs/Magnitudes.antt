@@ -1,12 +1,11 @@
 -- The samples of a channel of a block, by their words.
 use Rattle.std.proofs.Common.{◌≡◌, ℕ, ◌+◌, ◌*◌, ◌/◌, ◌%◌, ◌^◌, ◌<◌, Bool, List, [], ◌∷◌, zero, suc, length, map, take, get_or}
-use Rattle.std.proofs.Common.{Some, max, refl, sym, ap, ◌∙◌, arith}
+use Rattle.std.proofs.Common.{max, refl, sym, ap, ◌∙◌, arith}
 use Rattle.std.specs.List.{sum_by}
 use Rattle.std.specs.Option.{option_map}
 use Rattle.std.proofs.lemmas.List.{get_or-map, length-map, take_all}
-use Rattle.std.proofs.lemmas.Option.{get_or_from_slice_get, slice_get-map, slice_get-get_or}
+use Rattle.std.proofs.lemmas.Option.{get_or_from_slice_get, slice_get-map}
 use Rattle.std.proofs.lemmas.List.Sums.{sum_by_more}
-use Rattle.std.specs.Prelude.{slice_get}
 use Rattle.aes3_bits.specs.Bits.{number}
 use Rattle.aes3_bits.proofs.Bits.{number-low_bits}
 use Rattle.aes3_slot.specs.Slots.{payload_bits}

@@ -1,4 +1,4 @@
-use Rattle.std.proofs.Common.{◌∙◌, refl, ap, ap₂, map, max, arith}
+use Rattle.std.proofs.Common.{◌∙◌, ap, map, max, arith}
 use Rattle.aes3_frame.specs.Files.{payload_of}
 use Rattle.aes3_info.specs.Facts.{magnitudes, more_energy, square}
 use Rattle.aes3_info.proofs.Magnitudes.{energy-all, energy-more, energy-none, greatest-all, greatest-more}
