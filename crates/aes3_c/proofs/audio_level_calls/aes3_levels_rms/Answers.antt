@@ -1,4 +1,4 @@
-use Rattle.std.proofs.Common.{◌∙◌, ap, ap₂}
+use Rattle.std.proofs.Common.{◌∙◌, ap, ap₂, arith}
 use Rattle.aes3_info.specs.declared.samples.SampleFacts.{SampleFacts}
 use Rattle.aes3_info.specs.Pages.{full_energy}
 use Rattle.aes3_c.specs.Codes.{channel_of}
@@ -14,4 +14,4 @@ returns-clause-page c = λ _ r h.
     (c.samples_of_channel-samples.ensures
     ∙ ap (λ k. samples_in (kept_levels c.args.levels.now k)) c.channel_of_number.ensures
     ∙ h.samples_is (channel_of c.args.channel)))
-    (c.full_energy.ensures ∙ ap full_energy (h.blocks_is ∙ whole-count r))
+    (c.full_energy.ensures ∙ ap full_energy (omega (arith, h.blocks_is, whole-count r)))
