@@ -1,5 +1,5 @@
 -- The numbers of channels in a text.
-use Rattle.std.proofs.Common.{◌≡◌, ◌∙◌, ◌<◌, ◌≤◌, ◌-◌, ◌^◌, ℕ, Bool, List, Bor, Option, Some, None, Result, Ok, Err, true, false}
+use Rattle.std.proofs.Common.{◌≡◌, ◌∙◌, ◌≤◌, ◌-◌, ℕ, Bool, List, Bor, Option, Some, None, Result, Ok, Err, true, false}
 use Rattle.std.proofs.Common.{refl, sym, ap, cond, subst, arith}
 use Rattle.std.specs.Option.{SomeIff}
 use Rattle.std.specs.List.{after_first, before_first}

@@ -6,12 +6,12 @@ use Rattle.std.specs.Option.{option_map, option_map_or, unwrap_or}
 use Rattle.std.specs.Str.{bytes_eq}
 use Rattle.std.specs.Str.Parse.{ParsesUnsigned, digits_value, without_leading_plus}
 use Rattle.clap.specs.Matches.{ReadsOne, first_value, found_of, matched_of, one_text, raw_values}
-use Rattle.clap.specs.Walk.{Text, all_of, first_of, one_of}
+use Rattle.clap.specs.Walk.{Text, first_of, one_of}
 use Rattle.clap.specs.ValueTests.{is_unsigned_in}
 use Rattle.clap.specs.declared.builder.value_parser.ValueParser.TheVariants as vp
 use Rattle.clap.specs.declared.parser.matches.ArgMatches.{ArgMatches}
 use Rattle.clap.proofs.ValueTestLemmas.{Accepts-accepts, accepts-Accepts}
-use Rattle.clap.proofs.WalkLemmas.{first_value-rows, one_text-rows, raw_values-rows}
+use Rattle.clap.proofs.WalkLemmas.{first_value-rows, one_text-rows}
 use Rattle.aes3_cli.specs.CommandLine.{greatest, most_frames}
 use Rattle.aes3_cli_arguments.specs.Jobs.{IsNumber, MayBeFlag, MayBeWithin, Options, is_set, number_by, number_in}
 use Rattle.aes3_cli_arguments.specs.Jobs.{options_of, texts_by}

@@ -20,10 +20,10 @@ pub(crate) trait Choice: Copy {
 pub(crate) fn chosen<C: Choice>(options: &ArgMatches<'_>, name: &str) -> Option<C>
     ensures { result ≡ option_and_then C.chosen_by (first_of name.now (options_of options.now)) }
 {
-    let Some(word) = options.get_str(name) else {
-        return None;
-    };
-    C::of_word(word)
+    match options.get_str(name) {
+        Some(word) => C::of_word(word),
+        None => None,
+    }
 }
 
 /// Whether this option is given with a word of no value.
@@ -31,8 +31,8 @@ pub(crate) fn has_unknown<C: Choice>(options: &ArgMatches<'_>, name: &str) -> bo
     ensures { result ≡ option_map_or (λ word. not (is_some (C.chosen_by word)))
         (first_of name.now (options_of options.now)) false }
 {
-    let Some(word) = options.get_str(name) else {
-        return false;
-    };
-    C::of_word(word).is_none()
+    match options.get_str(name) {
+        Some(word) => C::of_word(word).is_none(),
+        None => false,
+    }
 }
