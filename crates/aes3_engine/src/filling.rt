@@ -1,7 +1,7 @@
 //! Cells to samples that keep time: frames between whole blocks fill the time that no block covers.
 
 ghost use Rattle.std.specs.Prelude.{◌≡◌, ℕ, ◌+◌, ◌-◌, ◌*◌, ◌/◌, ◌<◌, ◌≤◌, ◌^◌, ◌++◌, List, [], ◌∷◌, Bool};
-ghost use Rattle.std.specs.Prelude.{IfOk, Some, None, drop, false, length};
+ghost use Rattle.std.specs.Prelude.{IfOk, Some, None, drop, length};
 ghost use Rattle.aes3_cell.specs.Ends.{Grew, Told};
 ghost use Rattle.aes3_cell.specs.Writes.{Wrote};
 ghost use Rattle.aes3_level.specs.declared.level.Level.{Level};
@@ -18,14 +18,14 @@ ghost use Rattle.aes3_engine.specs.FillRuns.{WroteFrames, filled_cells};
 ghost use Rattle.aes3_engine.specs.FillSteps.{Apart, bytes_behind, fill_writing, filling_before, first_of};
 ghost use Rattle.aes3_engine.specs.FillSteps.{progress_behind, progress_of, reached};
 
-use crate::mended::fill_mended;
+use crate::mended::MendedBlocks;
 use crate::samples::put_narrowed;
 use aes3_block::{BLOCK_BYTES, Block, samples_of_block};
 use aes3_cell::{Counts, Fault, Form, RunError, Sink, Source, write_all};
 use aes3_forms_samples::SampleFormat;
 use aes3_frame::{FRAME_CELLS, FRAMES, Fill};
 use aes3_lock::{Ending, Lock};
-use aes3_lock_runs::{Reporter, run_reports};
+use aes3_lock_runs::{Reporter, run_cells, run_reports};
 
 /// The bytes of a frame's samples, and the frames of a block.
 const FRAME_BYTES: usize = 8;
@@ -260,32 +260,6 @@ impl Reporter for FilledBlocks {
     }
 }
 
-/// Reads cells as `to_filled_pcm` does, and gives no marked block.
-fn fill_whole<S: Source, T: Sink>(
-    source: &mut S,
-    sink: &mut T,
-    max_bytes: u64,
-    input: Form,
-    format: SampleFormat,
-    fill: Fill,
-) -> Result<Filled, RunError>
-    requires source_room { S.failed source.old + 1 < 2 ^ 64 }
-    requires sink_room { T.failed sink.old + 1 < 2 ^ 64 }
-    requires limit { max_bytes ≤ 2 ^ 40 }
-    ensures run { InputRun (filled_cells input format fill false) max_bytes
-        (S.has_ended source.new) (movement_of S.given S.failed source.old source.new)
-        (movement_of T.taken T.failed sink.old sink.new) result }
-    ensures passed_on { IfOk result (λ _. T.passed sink.new ≡ T.taken sink.new) }
-{
-    let blocks = FilledBlocks::new(fill, format);
-    let (counts, blocks) = run_reports(source, sink, max_bytes, input, blocks)?;
-    Ok(Filled {
-        counts,
-        frames: blocks.frames(counts.blocks, 0),
-        marked: 0,
-    })
-}
-
 /// Reads cells as `to_filled_pcm` does.
 fn fill_given<S: Source, T: Sink>(
     source: &mut S,
@@ -305,9 +279,21 @@ fn fill_given<S: Source, T: Sink>(
     ensures passed_on { IfOk result (λ _. T.passed sink.new ≡ T.taken sink.new) }
 {
     if marked {
-        fill_mended(source, sink, max_bytes, input, format, fill)
+        let mended = MendedBlocks::new(fill, format);
+        let (counts, mended) = run_cells(source, sink, max_bytes, input, mended)?;
+        Ok(Filled {
+            counts,
+            frames: mended.filled.frames(counts.blocks, mended.marked),
+            marked: mended.marked,
+        })
     } else {
-        fill_whole(source, sink, max_bytes, input, format, fill)
+        let blocks = FilledBlocks::new(fill, format);
+        let (counts, blocks) = run_reports(source, sink, max_bytes, input, blocks)?;
+        Ok(Filled {
+            counts,
+            frames: blocks.frames(counts.blocks, 0),
+            marked: 0,
+        })
     }
 }
 

@@ -1,22 +1,20 @@
 //! Cells to samples that keep time, with the marked blocks among them.
 
-ghost use Rattle.std.specs.Prelude.{◌≡◌, ℕ, ◌+◌, ◌<◌, ◌≤◌, ◌^◌, [], ◌∷◌, IfOk, None, true};
+ghost use Rattle.std.specs.Prelude.{◌≡◌, ◌+◌, ◌<◌, ◌^◌, [], ◌∷◌, IfOk, None};
 ghost use Rattle.aes3_cell.specs.Writes.{Wrote};
 ghost use Rattle.aes3_frame.specs.Blocks.{zero_block};
 ghost use Rattle.aes3_lock.specs.Reports.{decided, reports};
-ghost use Rattle.aes3_input.specs.Running.{InputRun, movement_of};
 ghost use Rattle.aes3_engine.specs.FillSteps.{bytes_behind};
-ghost use Rattle.aes3_engine.specs.FillRuns.{filled_cells};
 ghost use Rattle.aes3_engine.specs.MendSteps.{IsMendedOf, TookBlocks, given_in, marked_in};
 ghost use Rattle.aes3_engine.specs.MendSteps.{mend_writing};
 
-use crate::filling::{Filled, FilledBlocks};
+use crate::filling::FilledBlocks;
 use aes3_block::Block;
-use aes3_cell::{Fault, Form, RunError, Sink, Source};
+use aes3_cell::{Fault, Sink};
 use aes3_forms_samples::SampleFormat;
 use aes3_frame::Fill;
 use aes3_lock::{Ending, Lock};
-use aes3_lock_runs::{Listener, run_cells};
+use aes3_lock_runs::Listener;
 
 /// Listens to cells, and writes the samples of the whole and the marked blocks in them, and what
 /// fills the time between.
@@ -127,30 +125,4 @@ impl Listener for MendedBlocks {
             None => Ok(()),
         }
     }
-}
-
-/// Reads cells as `to_filled_pcm` does, and gives the marked blocks.
-pub(crate) fn fill_mended<S: Source, T: Sink>(
-    source: &mut S,
-    sink: &mut T,
-    max_bytes: u64,
-    input: Form,
-    format: SampleFormat,
-    fill: Fill,
-) -> Result<Filled, RunError>
-    requires source_room { S.failed source.old + 1 < 2 ^ 64 }
-    requires sink_room { T.failed sink.old + 1 < 2 ^ 64 }
-    requires limit { max_bytes ≤ 2 ^ 40 }
-    ensures run { InputRun (filled_cells input format fill true) max_bytes
-        (S.has_ended source.new) (movement_of S.given S.failed source.old source.new)
-        (movement_of T.taken T.failed sink.old sink.new) result }
-    ensures passed_on { IfOk result (λ _. T.passed sink.new ≡ T.taken sink.new) }
-{
-    let mended = MendedBlocks::new(fill, format);
-    let (counts, mended) = run_cells(source, sink, max_bytes, input, mended)?;
-    Ok(Filled {
-        counts,
-        frames: mended.filled.frames(counts.blocks, mended.marked),
-        marked: mended.marked,
-    })
 }
