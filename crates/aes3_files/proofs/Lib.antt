@@ -1,0 +1,2 @@
+mod LongRuns
+mod PackedPairs
