@@ -1,15 +1,11 @@
 //! Cells in octets, many at once.
 
-ghost use Rattle.std.specs.Prelude.{◌≡◌, ◌≢◌, ◌+◌, ◌-◌, ◌*◌, ◌%◌, ◌<◌, ◌≤◌, ◌^◌, ◌++◌, ℕ, None};
-ghost use Rattle.std.specs.Prelude.{List, drop, length, min, option_to_list};
-ghost use Rattle.aes3_level.specs.declared.level.Level.{Level};
+ghost use Rattle.std.specs.Prelude.{◌≡◌, ◌+◌, ◌-◌, ◌*◌, ◌%◌, ◌<◌, ◌≤◌, ◌^◌, ℕ, drop, length, min};
 ghost use Rattle.aes3_cell.specs.Packed.{cells_of_octets};
 ghost use Rattle.aes3_level.specs.Words.{low_cells};
-ghost use Rattle.aes3_lock.specs.Reports.{decided};
-ghost use Rattle.aes3_lock.specs.Following.{Follows};
-ghost use Rattle.aes3_c.specs.Taking.{TookFirst};
+ghost use Rattle.aes3_c.specs.Taking.{TookAndReported, TookFirst};
 ghost use Rattle.aes3_c.specs.Octets.{cells_from};
-ghost use Rattle.aes3_c.specs.States.{Coded, block_in, state_of, told_of};
+ghost use Rattle.aes3_c.specs.States.{state_of};
 
 use crate::lock_calls::{Aes3Lock, MOST, keep, lock_of};
 use crate::report_record::{Aes3Report, put_ending};
@@ -117,20 +113,9 @@ pub extern "C" fn aes3_lock_take_octets(
     first: usize,
     report: &mut Aes3Report,
 ) -> usize
-    ensures within { result ≤ 8 * length octets.now - first }
-    ensures all { report.new.kind ≡ 0
-        → result ≡ min (8 * length octets.now - first) (2 ^ 43 - lock.old.seen) }
-    ensures seen { lock.new.seen ≡ lock.old.seen + result }
-    ensures follows { (cells : List Level) → Follows (state_of lock.old) cells
-        → Follows (state_of lock.new) (cells ++ cells_from octets.now first result) }
-    ensures report { (cells : List Level) → Follows (state_of lock.old) cells
-        → decided (cells ++ cells_from octets.now first result) ≡ decided cells
-        ++ option_to_list (told_of (block_in (state_of lock.new)) report.new) }
-    ensures last { report.new.kind ≢ 0 → (cells : List Level)
-        → Follows (state_of lock.old) cells
-        → decided (cells ++ cells_from octets.now first (result - 1)) ≡ decided cells }
-    ensures codes { Coded (told_of (block_in (state_of lock.new)) report.new) report.new }
-    ensures words { report.new.words ≡ report.old.words }
+    ensures { TookAndReported (state_of lock.old) (state_of lock.new)
+        (drop first (cells_of_octets octets.now)) (8 * length octets.now - first) result
+        report.old report.new }
 {
     let len = most_cells(lock.seen, octets.len(), first);
     if len == 0 {

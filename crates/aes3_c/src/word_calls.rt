@@ -1,14 +1,11 @@
 //! Cells in words, many at once.
 
-ghost use Rattle.std.specs.Prelude.{◌≡◌, ◌≢◌, ◌+◌, ◌-◌, ◌*◌, ◌/◌, ◌%◌, ◌<◌, ◌≤◌, ◌^◌, ◌++◌, ℕ};
-ghost use Rattle.std.specs.Prelude.{None, List, drop, length, min, option_map, option_to_list, take};
+ghost use Rattle.std.specs.Prelude.{◌≡◌, ◌-◌, ◌*◌, ◌/◌, ◌^◌, drop, length, min, take};
 ghost use Rattle.std.specs.List.{flat_map};
-ghost use Rattle.aes3_level.specs.declared.level.Level.{Level};
-ghost use Rattle.aes3_level.specs.Words.{cells_in, word_cells};
+ghost use Rattle.aes3_level.specs.Words.{word_cells};
 ghost use Rattle.aes3_cell.specs.Packed.{cells_of_octets};
-ghost use Rattle.aes3_lock.specs.Reports.{decided};
-ghost use Rattle.aes3_lock.specs.Following.{Follows};
-ghost use Rattle.aes3_c.specs.States.{Coded, block_in, state_of, told_of};
+ghost use Rattle.aes3_c.specs.States.{state_of};
+ghost use Rattle.aes3_c.specs.Taking.{TookAndReported};
 
 use crate::lock_calls::{Aes3Lock, MOST, take_cells};
 use crate::report_record::{Aes3Report, put_ending};
@@ -52,20 +49,9 @@ pub extern "C" fn aes3_lock_take_cells(
     first: usize,
     report: &mut Aes3Report,
 ) -> usize
-    ensures within { result ≤ 64 * length words.now - first }
-    ensures all { report.new.kind ≡ 0
-        → result ≡ min (64 * length words.now - first) (2 ^ 43 - lock.old.seen) }
-    ensures seen { lock.new.seen ≡ lock.old.seen + result }
-    ensures follows { (cells : List Level) → Follows (state_of lock.old) cells
-        → Follows (state_of lock.new) (cells ++ cells_in words.now first result) }
-    ensures report { (cells : List Level) → Follows (state_of lock.old) cells
-        → decided (cells ++ cells_in words.now first result) ≡ decided cells
-        ++ option_to_list (told_of (block_in (state_of lock.new)) report.new) }
-    ensures last { report.new.kind ≢ 0 → (cells : List Level)
-        → Follows (state_of lock.old) cells
-        → decided (cells ++ cells_in words.now first (result - 1)) ≡ decided cells }
-    ensures codes { Coded (told_of (block_in (state_of lock.new)) report.new) report.new }
-    ensures words { report.new.words ≡ report.old.words }
+    ensures { TookAndReported (state_of lock.old) (state_of lock.new)
+        (drop first (flat_map word_cells words.now)) (64 * length words.now - first) result
+        report.old report.new }
 {
     let len = most_cells(lock.seen, words.len(), first);
     if len == 0 {
