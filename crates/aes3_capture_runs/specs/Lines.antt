@@ -59,26 +59,37 @@ dead_text figures = codes ", " ++ decimal figures.dead ++ codes " dead stretches
 abbrev pub cells_text : Figures → List ℕ
 cells_text figures = codes "aes3-cells: " ++ decimal figures.cells ++ codes " cells"
 
--- a text, and behind it what was found of a line, with the mean of the distances
-abbrev pub found_behind : List ℕ → Figures → Option ℕ → ℕ → List ℕ
-found_behind front figures rate mean =
-    front ++ cells_text figures ++ codes ", " ++ period_text rate figures.period ++ edges_text figures mean
+-- the average over all samples was taken: the line was measured once, it has the cells of a block or more, and so many
+-- 65,536ths of a sample fit in 64 bits
+abbrev pub has_average : Figures → Bool
+has_average figures =
+    (figures.measured == 1) && nat_le 24576 figures.cells && nat_lt figures.samples (2 ^ 47)
+
+-- how long a cell is in all, in 65,536ths of a sample: the average, to the nearest of these, or else the latest length
+abbrev pub period_in_all : Figures → ℕ
+period_in_all figures =
+    if has_average figures then (figures.samples * 65536 + figures.cells / 2) / figures.cells else figures.period
+
+-- a text, and behind it what was found of a line in which a cell is this long, with the mean of the distances
+abbrev pub found_behind : List ℕ → Figures → ℕ → Option ℕ → ℕ → List ℕ
+found_behind front figures period rate mean =
+    front ++ cells_text figures ++ codes ", " ++ period_text rate period ++ edges_text figures mean
     ++ dead_text figures ++ codes ", measured " ++ decimal figures.measured ++ codes " times\n"
 
--- the line of what was found of a line
-pub record IsFoundLine (figures : Figures) (rate : Option ℕ) (text : List ℕ) : Type 0 where
+-- the line of what was found of a line in which a cell is this long
+pub record IsFoundLine (figures : Figures) (period : ℕ) (rate : Option ℕ) (text : List ℕ) : Type 0 where
   pub mean : ℕ
   pub is_mean : IsMean figures mean
-  pub is : text ≡ found_behind [] figures rate mean
+  pub is : text ≡ found_behind [] figures period rate mean
 
--- the line of what was found so far, which says so where no line was
+-- the line of what was found so far, with the latest length of a cell, which says so where no line was
 abbrev pub no_line_yet_text : Figures → List ℕ
 no_line_yet_text figures = cells_text figures ++ codes ", no AES3 line yet\n"
 
 abbrev pub IsFiguresLine : Figures → Option ℕ → List ℕ → Type 0
 IsFiguresLine figures rate text =
     ((figures.measured ≡ 0) × (text ≡ no_line_yet_text figures))
-    ⊎ ((figures.measured ≢ 0) × IsFoundLine figures rate text)
+    ⊎ ((figures.measured ≢ 0) × IsFoundLine figures figures.period rate text)
 
 -- the line was measured more than twice, and has fewer cells for each time than a block has
 abbrev pub was_lost : Figures → Bool
@@ -102,11 +113,11 @@ doubt_text figures =
     else if nat_le 400 (distance_of figures) then distance_text (distance_of figures)
     else []
 
--- what is said at the end of a capture in which a line was found: the line of what was found, and why cells are likely
--- to be wrong
+-- what is said at the end of a capture in which a line was found: the line of what was found in all, and why cells are
+-- likely to be wrong
 pub record IsFoundText (figures : Figures) (rate : Option ℕ) (text : List ℕ) : Type 0 where
   pub line : List ℕ
-  pub found : IsFoundLine figures rate line
+  pub found : IsFoundLine figures (period_in_all figures) rate line
   pub is : text ≡ line ++ doubt_text figures
 
 -- the line of the bit in which a line was found

@@ -3,8 +3,9 @@
 ghost use Rattle.std.specs.Prelude.{◌≡◌, ◌++◌, IfOk, decimal};
 ghost use Rattle.aes3_capture_runs.specs.Lines.{IsFiguresLine, IsFoundLine, IsFoundText, IsMean, cells_text};
 ghost use Rattle.aes3_capture_runs.specs.Lines.{dead_text, distance_of, distance_text, doubt_text, edges_text};
-ghost use Rattle.aes3_capture_runs.specs.Lines.{found_behind, frequency_text, latest_text, lost_text, no_line_text};
-ghost use Rattle.aes3_capture_runs.specs.Lines.{no_line_yet_text, period_text, reason_text, thousandths, was_lost};
+ghost use Rattle.aes3_capture_runs.specs.Lines.{found_behind, frequency_text, has_average, latest_text, lost_text};
+ghost use Rattle.aes3_capture_runs.specs.Lines.{no_line_text, no_line_yet_text, period_in_all, period_text};
+ghost use Rattle.aes3_capture_runs.specs.Lines.{reason_text, thousandths, was_lost};
 
 use aes3_capture_recovery::Figures;
 use itoa::Buffer;
@@ -112,21 +113,47 @@ fn add_cells(text: &mut String, figures: &Figures) -> Result<(), AllocError>
     text.push_str(" cells")
 }
 
-/// Appends the line of what was found of a line, for people: the samples in a cell, and the line's
-/// sampling frequency if the samples' rate is known. Then it has how far edges were from their
-/// expected positions, with `mean` as the mean. Last it has where the line last had no signal.
+/// The least number of cells for an average of their lengths: those of a block. In an average of
+/// fewer cells, the parts of cells at the two ends of the capture would show.
+const CELLS_OF_AVERAGE: u64 = 24_576;
+
+/// Whether the end line has the average length of a cell: the line was measured once, and has
+/// enough cells.
+fn has_average(figures: &Figures) -> bool
+    ensures { result ≡ has_average figures.now }
+{
+    figures.measured == 1 && figures.cells >= CELLS_OF_AVERAGE && figures.samples < 1 << 47
+}
+
+/// The length of a cell to report at the end, in parts of a sample: the average over all samples,
+/// rounded, or else the latest length.
+fn period_in_all(figures: &Figures) -> u64
+    ensures { result ≡ period_in_all figures.now }
+{
+    if has_average(figures) {
+        (figures.samples * 65_536 + figures.cells / 2) / figures.cells
+    } else {
+        figures.period
+    }
+}
+
+/// Appends the line of what was found of a line, for people: the samples in a cell, given by
+/// `period`, and the line's sampling frequency if the samples' rate is known. Then it has how far
+/// edges were from their expected positions, with `mean` as the mean. Last it has where the line
+/// last had no signal.
 fn add_found(
     text: &mut String,
     figures: &Figures,
+    period: u64,
     rate: Option<u64>,
     mean: u64,
 ) -> Result<(), AllocError>
     ensures { IfOk result (λ _. text.new.bytes.items
-        ≡ found_behind text.old.bytes.items figures.now rate mean) }
+        ≡ found_behind text.old.bytes.items figures.now period rate mean) }
 {
     add_cells(text, figures)?;
     text.push_str(", ")?;
-    add_period(text, rate, figures.period)?;
+    add_period(text, rate, period)?;
     add_edges(text, figures, mean)?;
     add_dead(text, figures)?;
     text.push_str(", measured ")?;
@@ -138,11 +165,16 @@ fn add_found(
 ///
 /// # Errors
 /// `AllocError` if there is no memory.
-fn found_line(alloc: Global, figures: &Figures, rate: Option<u64>) -> Result<String, AllocError>
-    ensures { IfOk result (λ text. IsFoundLine figures.now rate text.bytes.items) }
+fn found_line(
+    alloc: Global,
+    figures: &Figures,
+    period: u64,
+    rate: Option<u64>,
+) -> Result<String, AllocError>
+    ensures { IfOk result (λ text. IsFoundLine figures.now period rate text.bytes.items) }
 {
     let mut text = String::new(alloc);
-    add_found(&mut text, figures, rate, mean_of(figures))?;
+    add_found(&mut text, figures, period, rate, mean_of(figures))?;
     Ok(text)
 }
 
@@ -159,7 +191,8 @@ fn no_line_yet(alloc: Global, figures: &Figures) -> Result<String, AllocError>
     Ok(text)
 }
 
-/// The line of what was found so far, for people.
+/// The line of what was found so far, for people, with the latest length of a cell: samples that
+/// wait have no cells yet, and would falsify an average.
 ///
 /// # Errors
 /// `AllocError` if there is no memory.
@@ -173,18 +206,19 @@ pub fn figures_line(
     if figures.measured == 0 {
         no_line_yet(alloc, figures)
     } else {
-        found_line(alloc, figures, rate)
+        found_line(alloc, figures, figures.period, rate)
     }
 }
 
-/// All that was found, for people, and why cells are likely to be wrong, if they are.
+/// All that was found, for people, with the average length of a cell if there is one. Then why
+/// cells are likely to be wrong, if they are.
 ///
 /// # Errors
 /// `AllocError` if there is no memory.
 pub fn found_text(alloc: Global, figures: &Figures, rate: Option<u64>) -> Result<String, AllocError>
     ensures { IfOk result (λ text. IsFoundText figures.now rate text.bytes.items) }
 {
-    let mut text = found_line(alloc, figures, rate)?;
+    let mut text = found_line(alloc, figures, period_in_all(figures), rate)?;
     add_doubt(&mut text, figures)?;
     Ok(text)
 }
