@@ -383,19 +383,20 @@ rate_in text = if bytes_eq text (codes "22050") then Some (codes "rate=22050")
 abbrev pub rate_named : Options → Option Text
 rate_named options = option_and_then rate_in (first_of (codes "hz") options)
 
--- the text, or none
-abbrev pub if_any : Option Text → List Text
-if_any None = []
-if_any (Some text) = text ∷ []
+-- the texts that set a sampling frequency: the one that clears the rate, since professional status has a code for some
+-- frequencies in byte 4 alone, and this one
+abbrev pub rate_texts : Option Text → List Text
+rate_texts None = []
+rate_texts (Some rate) = codes "rate=not-indicated" ∷ rate ∷ []
 
 -- the texts of an option, as they were typed, in their order; none where it is left out
 abbrev pub texts_by : Options → Text → List Text
 texts_by options name = unwrap_or (all_of name options) []
 
 -- the texts that set fields of a channel, in the order in which they do: those for both channels, those of its own
--- option, and the one that the sampling frequency stands for
+-- option, and those that set the sampling frequency
 unfoldable pub texts_for : Options → Text → List Text
-texts_for options name = (texts_by options (codes "set") ++ texts_by options name) ++ if_any (rate_named options)
+texts_for options name = (texts_by options (codes "set") ++ texts_by options name) ++ rate_texts (rate_named options)
 
 -- the settings that texts name; none where there are no texts
 abbrev pub HaveSettings : List Text → Option Settings → Type 0

@@ -9,7 +9,8 @@ use clap::ArgMatches;
 use std::alloc::{AllocError, Global};
 
 /// The texts that set fields of the channel with this option, in order: those for both channels,
-/// those of its own option, and the text for the sampling frequency.
+/// those of its own option, and those for the sampling frequency. The first of these clears the
+/// rate in byte 0 of professional status, since byte 4 alone has a code for some frequencies.
 ///
 /// # Errors
 /// `AllocError` if there is no memory.
@@ -27,7 +28,7 @@ pub(crate) fn texts_for<'a>(
     texts.extend_from_slice(both)?;
     texts.extend_from_slice(own)?;
     match rate_setting(options) {
-        Some(rate) => texts.push(rate)?,
+        Some(rate) => texts.extend_from_slice(&["rate=not-indicated", rate])?,
         None => {}
     }
     Ok(texts)

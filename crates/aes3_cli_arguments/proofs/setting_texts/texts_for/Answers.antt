@@ -2,7 +2,7 @@ use Rattle.std.proofs.Common.{◌∙◌, codes, refl, sym, ap, Bor, List, ℕ, V
 use Rattle.aes3_cli_arguments.specs.Jobs.{options_of}
 use Rattle.aes3_cli_arguments.proofs.OptionReads.{texts_given}
 use Rattle.aes3_cli_arguments.proofs.SettingTexts.{joined, read, with_rate, without_rate}
-use Rattle.aes3_cli_arguments.proofs.setting_texts.texts_for.Goals.{in-Some+in_ok-push-in-Some, in-None}
+use Rattle.aes3_cli_arguments.proofs.setting_texts.texts_for.Goals.{in-Some+in_ok-extend_from_slice-in-Some, in-None}
 use Rattle.aes3_cli_arguments.proofs.setting_texts.texts_for.Goals as goal
 
 pub returns : goal.returns
@@ -17,10 +17,11 @@ returns c =
     c.new-texts.ensures.items (search (rules, c.in_ok-extend_from_slice.ensures.items))
     (search (rules, c.in_ok-extend_from_slice-2.ensures.items)) in
     elim c.match-rate_setting.branch [
-      | in-Some+in_ok-push-in-Some w ↦
+      | in-Some+in_ok-extend_from_slice-in-Some w ↦
           with_rate options c.args.name.now c.extend_from_slice-2.new.self.items c.unwrap_or-both.result.now
-          c.unwrap_or-own.result.now c.match-rate_setting.texts.items w.in-Some.rate both first second
-          (sym w.in-Some.ensures) (ap (λ (v : Vec (Bor (List ℕ)) Global). v.items) w.texts-is ∙ w.in_ok-push-in-Some.ensures.items)
+          c.unwrap_or-own.result.now c.match-rate_setting.texts.items _ w.in-Some.rate both first second (search)
+          (sym w.in-Some.ensures)
+          (ap (λ (v : Vec (Bor (List ℕ)) Global). v.items) w.texts-is ∙ w.in_ok-extend_from_slice-in-Some.ensures.items)
       | in-None w ↦
           ap (λ (v : Vec (Bor (List ℕ)) Global). read v.items) w.texts-is
           ∙ without_rate options c.args.name.now c.extend_from_slice-2.new.self.items c.unwrap_or-both.result.now
