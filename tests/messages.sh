@@ -73,6 +73,7 @@ words "error: the argument '--fill <zero|hold>' cannot be used with '--valid'" "
 words "error: the argument '--marked' needs '--fill <zero|hold>'" "$to_wav" "$aes3" to-wav --marked
 words "error: the argument '--exact' cannot be used with '--valid' or '--fill <zero|hold>'" "$to_wav" "$aes3" to-wav --exact --fill zero
 words "error: the argument '--exact' cannot be used with '--valid' or '--fill <zero|hold>'" "$to_wav" "$aes3" to-wav --exact --valid
+words "error: the argument '--mono <both|first>' cannot be used with '--channels <A,B>'" "aes3 from-wav [OPTIONS] [FILE] > BLOCKFILE" "$aes3" from-wav --mono first --channels 1,2
 words "error: unrecognized subcommand 'chek'
 
   tip: a similar subcommand exists: 'check'" "aes3 COMMAND [OPTIONS] < INPUT > OUTPUT

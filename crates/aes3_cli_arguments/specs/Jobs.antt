@@ -65,7 +65,7 @@ use Rattle.aes3_cli_arguments.specs.declared.layout.Octets.{Octets}
 use Rattle.aes3_cli_arguments.specs.declared.misuse.Misuse.{Misuse}
 use Rattle.aes3_cli_arguments.specs.declared.misuse.Misuse.TheVariants.{TwoForms, NoCellsPacked, TwoPeriods, NoRate}
 use Rattle.aes3_cli_arguments.specs.declared.misuse.Misuse.TheVariants.{UnknownBits, UnknownFilling, FillsValidSamples, ExactAndOthers}
-use Rattle.aes3_cli_arguments.specs.declared.misuse.Misuse.TheVariants.{MarkedUnfilled, TwoFiles}
+use Rattle.aes3_cli_arguments.specs.declared.misuse.Misuse.TheVariants.{MarkedUnfilled, MonoBesideChannels, TwoFiles}
 use Rattle.aes3_cli_arguments.specs.declared.misuse.Misuse.TheVariants.{UnknownDepth, UnknownUse, PresetBesideUse, UnknownChannels, UnknownMono}
 use Rattle.aes3_cli_arguments.specs.declared.preset.Beginning.{Beginning}
 use Rattle.aes3_cli_arguments.specs.declared.preset.Beginning.TheVariants.{OfEachBlock, Unclaimed}
@@ -636,6 +636,10 @@ abbrev pub has_unknown_mono : Options → Bool
 has_unknown_mono options =
     option_map_or (λ text. not (is_some (mono_in text))) (first_of (codes "mono") options) false
 
+-- channels are named for the only one of a WAV file, and two are chosen
+abbrev pub has_mono_beside_channels : Options → Bool
+has_mono_beside_channels options = is_some (mono_named options) && is_some (channels_by options)
+
 -- the file that is read is named twice
 abbrev pub has_two_files : Options → Bool
 has_two_files options = is_some (first_of (codes "FILE") options) && is_some (first_of (codes "input") options)
@@ -662,6 +666,7 @@ misuse_by options =
     else if has_preset_beside_use options then Some PresetBesideUse
     else if has_unknown_channels options then Some UnknownChannels
     else if has_unknown_mono options then Some UnknownMono
+    else if has_mono_beside_channels options then Some MonoBesideChannels
     else if has_two_files options then Some TwoFiles
     else None
 
@@ -814,6 +819,8 @@ misuse_line PresetBesideUse = codes
 misuse_line UnknownChannels = codes
     "error: invalid value for '--channels <A,B>': it is two numbers from 1 on with a comma between them, as '1,2'"
 misuse_line UnknownMono = codes "error: invalid value for '--mono <both|first>': it is 'both' or 'first'"
+misuse_line MonoBesideChannels =
+    codes "error: the argument '--mono <both|first>' cannot be used with '--channels <A,B>'"
 misuse_line TwoFiles = codes "error: the argument '--input <FILE>' cannot be used with '[FILE]'"
 misuse_line UnknownFormat =
     codes "error: invalid value for '--pcm <s32|s24|s24in32|s16>': it is 's32', 's24', 's24in32' or 's16'"

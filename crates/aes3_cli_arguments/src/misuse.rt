@@ -14,7 +14,7 @@ use crate::fill_option::fill_of_options;
 use crate::frequency::has_unknown_rate;
 use crate::preset::has_unknown_preset;
 use crate::value::{flag, number_if_given};
-use crate::wave::{has_preset_beside_use, has_unknown_use};
+use crate::wave::{has_mono_beside_channels, has_preset_beside_use, has_unknown_use};
 use aes3_cell::RunError;
 use aes3_cli::wording::{add_usage, usage_of};
 use aes3_forms_samples::SampleFormat;
@@ -65,6 +65,8 @@ pub(crate) enum Misuse {
     UnknownChannels,
     /// `--mono` with an unknown word.
     UnknownMono,
+    /// `--mono` with `--channels`.
+    MonoBesideChannels,
     /// `--input` with a FILE.
     TwoFiles,
 }
@@ -112,6 +114,8 @@ pub(crate) fn misuse_of_options(options: &ArgMatches<'_>) -> Option<Misuse>
         Some(Misuse::UnknownChannels)
     } else if has_unknown::<Mono>(options, "mono") {
         Some(Misuse::UnknownMono)
+    } else if has_mono_beside_channels(options) {
+        Some(Misuse::MonoBesideChannels)
     } else if has_two_files(options) {
         Some(Misuse::TwoFiles)
     } else {
@@ -267,6 +271,9 @@ fn misuse_line(misuse: Misuse) -> &'static str
         }
         Misuse::UnknownMono => {
             "error: invalid value for '--mono <both|first>': it is 'both' or 'first'"
+        }
+        Misuse::MonoBesideChannels => {
+            "error: the argument '--mono <both|first>' cannot be used with '--channels <A,B>'"
         }
         Misuse::TwoFiles => "error: the argument '--input <FILE>' cannot be used with '[FILE]'",
         Misuse::UnknownFormat => {

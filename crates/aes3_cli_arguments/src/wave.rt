@@ -3,7 +3,8 @@
 ghost use Rattle.std.specs.Prelude.{◌≡◌, codes};
 ghost use Rattle.aes3_cli_arguments.specs.Jobs.{AreTaken, AsksToRead, channel_in, channels_by, channels_in};
 ghost use Rattle.aes3_cli_arguments.specs.Jobs.{channels_of_two, depth_by, depth_in, has_preset_beside_use};
-ghost use Rattle.aes3_cli_arguments.specs.Jobs.{has_unknown_use, is_professional, mono_by, mono_in};
+ghost use Rattle.aes3_cli_arguments.specs.Jobs.{has_mono_beside_channels, has_unknown_use, is_professional};
+ghost use Rattle.aes3_cli_arguments.specs.Jobs.{mono_by, mono_in};
 ghost use Rattle.aes3_cli_arguments.specs.Jobs.{options_of, use_in, use_named};
 
 use crate::choice::{Choice, chosen};
@@ -137,6 +138,13 @@ pub(crate) fn channels(options: &ArgMatches<'_>) -> Option<Channels>
     ensures { result ≡ channels_by (options_of options.now) }
 {
     chosen(options, "channels")
+}
+
+/// Whether channels are named for a single channel, although two channels are chosen.
+pub(crate) fn has_mono_beside_channels(options: &ArgMatches<'_>) -> bool
+    ensures { result ≡ has_mono_beside_channels (options_of options.now) }
+{
+    chosen::<Mono>(options, "mono").is_some() && channels(options).is_some()
 }
 
 /// Two numbers, from 1 on, with a comma between them.
