@@ -112,6 +112,7 @@ hints 3 "aes3: refused 10 at $(($(wc -c <line.raw) - 1))
 aes3: these cells lack the last octet, which counts unused cells: try \`--raw-in\`" normal --packed-in line.raw
 hints 0 "aes3: $text: leave \`--raw-in\` out" scan --raw-in line.txt
 hints 0 "aes3: the cells look packed with the first in the lowest bit: try \`--lsb-first\`" show --packed-in line.lsb
+hints 0 "aes3: the cells look packed with the first in the lowest bit: try \`--lsb-first\`" info --packed-in line.lsb
 hints 3 "aes3: refused 1 at 0
 aes3: this looks like a block file: \`aes3 encode\` makes cells of it" check "$speech"
 head -c 24576 line.txt >line.8
@@ -125,6 +126,7 @@ judge "watch: a line that never locks has cells" told 1 "" "$aes3" watch --raw-i
 judge "nothing to hint at" told 0 "" "$aes3" check line.txt
 judge "nothing, packed" told 0 "" "$aes3" check --packed-in line.packed
 judge "nothing, raw" told 0 "" "$aes3" check --raw-in line.raw
+judge "nothing, packed, lowest bit first, as info finds out" told 0 "" "$aes3" info line.lsb
 
 # Where no file is named and standard error is no terminal, the refusal is all.
 unnamed() {

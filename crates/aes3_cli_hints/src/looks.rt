@@ -238,11 +238,18 @@ pub(crate) fn advice_on_taken(
 fn advice_on_packed(words: &[&str], looks: FileKind, first: &[u8]) -> Option<&'static str> {
     match looks {
         FileKind::CellText => Some("these are cells as text: leave `--raw-in` out"),
-        FileKind::Octets if !words.contains(&"--lsb-first") && are_reversed(first) => {
+        FileKind::Octets if say_highest_first(words) && are_reversed(first) => {
             Some("the cells look packed with the first in the lowest bit: try `--lsb-first`")
         }
         _ => None,
     }
+}
+
+/// Whether the words say that cells are packed with the first in the highest bit. If they give no
+/// form, `info` has taken both from the first octets.
+fn say_highest_first(words: &[&str]) -> bool {
+    (words.contains(&"--packed-in") || words.contains(&"--raw-in"))
+        && !words.contains(&"--lsb-first")
 }
 
 /// Whether an input in this form has no cell: only separators, or only the last octet.
