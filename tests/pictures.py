@@ -255,7 +255,7 @@ def main():
             ("link", "is no SVG picture"),
             ("folder", "no picture was written"),
             ("none/drawn.svg", "no picture was written"),
-            ("part.svg", "no picture was written"),
+            ("part.svg", "no picture was written to part.svg: part.svg.part exists, so remove or rename it"),
             ("/dev/full", "no picture was written"),
             ("-", "standard output has the cells"),
             ("", "no picture was written"),

@@ -161,7 +161,7 @@ cp "$folder/wanted" "$folder/other.part"
 aes3 normal -o "$folder/other" "$folder/other.part" 2> "$folder/errors"
 status=$?
 expect "an output whose other name is that of the input" 3 "aes3: refused 6
-aes3: $folder/other: File exists (os error 17)"
+aes3: $folder/other can't be written: $folder/other.part exists, so remove or rename it, unless a run is writing it"
 if cmp "$folder/wanted" "$folder/other.part" && [ ! -e "$folder/other" ]; then well "the input stays"; else wrong "the input is gone"; fi
 aes3 encode --help -o "$folder/help" > /dev/null 2> "$folder/errors"
 status=$?

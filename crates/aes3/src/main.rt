@@ -13,7 +13,7 @@ use aes3_cli_arguments::{CommandLine, LineFault, file_of_line, line_of_words, ou
 use aes3_cli_hints::{Hints, Terminals};
 use aes3_cli_jobs::Job;
 use aes3_cli_progress::Clearing;
-use aes3_files::{Input, Preview};
+use aes3_files::{Input, PartFile, Preview};
 use aes3_program_terminal::{recognise, report_unread, run_and_explain};
 use aes3_wave::Depth;
 use output::{Output, file_named, finish_file};
@@ -109,10 +109,10 @@ fn run_buffered<E: Sink, H: Sink + Drop>(
     );
     let status = run_and_explain(line, &words, source, sink, errors, hints).status;
     say_trouble(rt, file, trouble.get());
-    say_trouble(rt, named, noted.unwritten.get());
     let Some(written) = written else {
         return Ok(status);
     };
+    say_unwritten(rt, named, &written, noted.unwritten.get());
     match finish_file(rt, &written, status, depth) {
         Ok(()) => Ok(status),
         Err(error) => {
@@ -127,6 +127,19 @@ fn run_buffered<E: Sink, H: Sink + Drop>(
 fn say_trouble(rt: &HostRuntime, name: Option<&str>, error: Option<Error>) {
     if let (Some(name), Some(error)) = (name, error) {
         eprintln!(rt; "aes3: {name}: {error}").unwrap_or(());
+    }
+}
+
+/// Prints why a file was not written, if there is a reason: its name with `.part` is that of
+/// another file, or else the system's message.
+fn say_unwritten(rt: &HostRuntime, name: Option<&str>, file: &PartFile, error: Option<Error>) {
+    match (name, error, file.taken()) {
+        (Some(name), Some(_), Some(part)) => {
+            eprintln!(rt;
+                "aes3: {name} can't be written: {part} exists, so remove or rename it, unless a run is writing it"
+            ).unwrap_or(());
+        }
+        _ => say_trouble(rt, name, error),
     }
 }
 

@@ -20,6 +20,8 @@ pub enum PictureFault {
     System(Error),
     /// The file exists, and is no picture.
     Other,
+    /// The name that the file has until the picture is complete, with `.part`, is that of another.
+    Taken,
     /// The name is that of standard output, which has the cells.
     Standard,
     /// There is no memory.
@@ -51,6 +53,7 @@ impl PictureFile {
         };
         match part.create(rt) {
             Ok(file) => Ok(PictureFile { part, file }),
+            Err(_) if part.taken().is_some() => Err(PictureFault::Taken),
             Err(error) => Err(PictureFault::System(error)),
         }
     }

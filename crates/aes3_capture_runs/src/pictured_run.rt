@@ -102,6 +102,11 @@ fn say_fault<E: Sink>(alloc: Global, name: &str, fault: PictureFault, messages: 
                 "aes3-cells: {name} exists and is no SVG picture, so it was not replaced\n"
             )
         }
+        PictureFault::Taken => {
+            format!(in alloc;
+                "aes3-cells: no picture was written to {name}: {name}.part exists, so remove or rename it, unless a run is writing it\n"
+            )
+        }
         PictureFault::Standard => {
             format!(in alloc;
                 "aes3-cells: --picture needs the name of a file; standard output has the cells\n"

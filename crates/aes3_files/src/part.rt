@@ -18,6 +18,8 @@ pub struct PartFile {
     part: Option<String>,
     /// Whether this run has created the file of that name, so that it may remove it.
     is_made: Cell<bool>,
+    /// Whether something had that name already, so that the file was not created.
+    is_taken: Cell<bool>,
 }
 
 impl PartFile {
@@ -39,6 +41,7 @@ impl PartFile {
             name: joined(rt, name, "")?,
             part,
             is_made: Cell::new(false),
+            is_taken: Cell::new(false),
         })
     }
 
@@ -46,7 +49,8 @@ impl PartFile {
     /// touched, nor is one that the name is a link to: either may be the input.
     ///
     /// # Errors
-    /// The system's error. `AlreadyExists` if the name is a link to a file.
+    /// The system's error. `AlreadyExists` if the name is a link to a file, or if something has the
+    /// name with `.part`.
     pub fn create(&self, rt: &HostRuntime) -> io::Result<File> {
         let Some(part) = &self.part else {
             if fs::metadata(rt, self.name.as_str())?.is_file() {
@@ -54,9 +58,25 @@ impl PartFile {
             }
             return OpenOptions::new().write(true).open(rt, self.name.as_str());
         };
-        let file = File::create_new(rt, part.as_str())?;
-        self.is_made.set(true);
-        Ok(file)
+        match File::create_new(rt, part.as_str()) {
+            Ok(file) => {
+                self.is_made.set(true);
+                Ok(file)
+            }
+            Err(error) => {
+                self.is_taken
+                    .set(matches!(error.kind(), ErrorKind::AlreadyExists));
+                Err(error)
+            }
+        }
+    }
+
+    /// The name with `.part`, if something had it already, so that the file was not created.
+    pub fn taken(&self) -> Option<&str> {
+        match &self.part {
+            Some(part) if self.is_taken.get() => Some(part.as_str()),
+            _ => None,
+        }
     }
 
     /// The name that the file has until it is complete, if this run has created it.
