@@ -6,7 +6,7 @@ use Rattle.aes3_cell.specs.declared.form.Form.TheVariants.{Packed}
 use Rattle.aes3_capture.specs.declared.follower.Follower.{Follower}
 use Rattle.aes3_capture.specs.Following.{Passed}
 use Rattle.aes3_capture_recovery.specs.Queues.{waiting}
-use Rattle.aes3_capture_recovery.specs.declared.recovery.Figures.{Figures}
+use Rattle.aes3_capture_recovery.specs.declared.figures.Figures.{Figures}
 use Rattle.aes3_capture_recovery.specs.declared.recovery.Recovery.{Recovery}
 use Rattle.aes3_capture_recovery.specs.Recovering.{Recounted, Recovered, Starts, first_cells, first_level, sample_runs, samples_of}
 use Rattle.aes3_capture_places.specs.Marks.{between, no_mark}

@@ -10,7 +10,7 @@ ghost use Rattle.aes3_capture_recovery.specs.Finding.{AllowsCells, AreCapturedRu
 ghost use Rattle.aes3_capture_recovery.specs.declared.period.Anchor.{Anchor};
 ghost use Rattle.aes3_capture_recovery.specs.declared.period.Side.{Side};
 ghost use Rattle.aes3_capture_recovery.specs.declared.period.Side.TheVariants.{Of};
-ghost use Rattle.aes3_capture_recovery.specs.Measuring.{HavePreambles, IsAround, IsLine, IsMeasured, IsSteady, are_preamble, place_at};
+ghost use Rattle.aes3_capture_recovery.specs.Measuring.{HavePreambles, IsAround, IsAskedFor, IsLine, IsMeasured, IsSteady, are_preamble, place_at};
 
 use aes3_capture::{Bounds, Follower, PARTS};
 
@@ -264,7 +264,7 @@ fn bounds_within(period: u64, part: u64) -> Option<Bounds>
 }
 
 /// The bounds of cells of about this period: it may change by a 1024th.
-pub(crate) fn bounds_around(period: u64) -> Option<Bounds>
+fn bounds_around(period: u64) -> Option<Bounds>
     ensures around { IfSome result (λ bounds. IsAround bounds period) }
     ensures longest { IfSome result (λ bounds. period ≤ bounds.high) }
     ensures shortest { IfSome result (λ bounds. bounds.low ≤ period) }
@@ -598,4 +598,26 @@ pub fn follower_of_runs(runs: &[u32], known: Option<u64>) -> Option<Follower>
         return found;
     }
     by_longest(runs, known, other)
+}
+
+/// A follower of a line of which only the period is known, if it is.
+pub(crate) fn known_follower(known: Option<u64>) -> Option<Follower>
+    ensures { IfSome result (λ follower. IsAskedFor known follower) }
+{
+    match known {
+        Some(period) => match bounds_around(period) {
+            Some(bounds) => Some(Follower::new(bounds, period)),
+            None => None,
+        },
+        None => None,
+    }
+}
+
+/// A follower of no line.
+pub(crate) fn any_follower() -> Follower {
+    let bounds = Bounds {
+        low: 2 * PARTS,
+        high: 2 * PARTS,
+    };
+    Follower::new(bounds, 2 * PARTS)
 }

@@ -13,9 +13,10 @@ ghost use Rattle.aes3_capture_recovery.specs.Endings.{level_if};
 ghost use Rattle.aes3_capture_recovery.specs.Measuring.{IsAskedFor};
 
 use crate::edges::{Edges, Piece};
+use crate::figures::Figures;
 use crate::line_follower::LineFollower;
-use crate::period::{RUNS, bounds_around, follower_of_runs};
-use aes3_capture::{Bounds, Follower, PARTS};
+use crate::period::{RUNS, any_follower, follower_of_runs, known_follower};
+use aes3_capture::{Follower, PARTS};
 use aes3_cell::{Fault, Form, Sink};
 pub use parts::RecoveryParts;
 
@@ -27,29 +28,6 @@ const ANY_PERIOD: u64 = 1 << 29;
 
 /// Fewer runs than this are not measured.
 const FEW: usize = 128;
-
-/// What was found of a line.
-#[repr(C)]
-#[derive(Clone, Copy, Default)]
-pub struct Figures {
-    /// How many samples there are, and how many cells were recovered.
-    pub samples: u64,
-    pub cells: u64,
-    /// The latest length of a cell, in parts of a sample; 0 if none was given or found.
-    pub period: u64,
-    /// How many edges were followed, the greatest distance of an edge from its place, and the sum
-    /// of the squares of these distances. The distances are in 256ths of a sample.
-    pub edges: u64,
-    pub greatest: u64,
-    pub squares: u64,
-    /// How many stretches had no signal, where the latest began, in samples, and how often the line
-    /// was measured.
-    pub dead: u64,
-    pub dead_at: u64,
-    pub measured: u64,
-    /// How often runs were measured and no line was found.
-    pub misses: u64,
-}
 
 /// How far a line is known.
 #[derive(Clone, Copy, PartialEq, Eq)]
@@ -81,28 +59,6 @@ pub struct Recovery {
     spread: u64,
     ghost few: { count < 256 },
     ghost narrow: { spread < 2 ^ 40 },
-}
-
-/// A follower of a line of which only the period is known, if it is.
-fn known_follower(known: Option<u64>) -> Option<Follower>
-    ensures { IfSome result (λ follower. IsAskedFor known follower) }
-{
-    match known {
-        Some(period) => match bounds_around(period) {
-            Some(bounds) => Some(Follower::new(bounds, period)),
-            None => None,
-        },
-        None => None,
-    }
-}
-
-/// A follower of no line.
-fn any_follower() -> Follower {
-    let bounds = Bounds {
-        low: 2 * PARTS,
-        high: 2 * PARTS,
-    };
-    Follower::new(bounds, 2 * PARTS)
 }
 
 impl Recovery {

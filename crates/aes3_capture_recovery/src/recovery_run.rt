@@ -19,7 +19,8 @@ ghost use Rattle.aes3_capture_recovery.specs.declared.recovery_run.Refusal.TheVa
 ghost use Rattle.aes3_cell.specs.Ends.{Grew};
 
 use crate::edges::{BLOCK, Places, Unit, levels_of, words_of};
-use crate::recovery::{Figures, Recovery};
+use crate::figures::Figures;
+use crate::recovery::Recovery;
 use aes3_cell::{Fault, Form, Sink, Source};
 
 /// Why a run was rejected.

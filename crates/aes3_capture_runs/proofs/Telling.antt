@@ -15,7 +15,7 @@ use Rattle.aes3_capture_recovery.specs.Reading.{ReadSamples, SamplesRan}
 use Rattle.aes3_capture_recovery.specs.Taking.{RecoveredAll, Took, TookAll, WritesLine}
 use Rattle.aes3_capture_recovery.specs.declared.edges.Unit.{Unit}
 use Rattle.aes3_capture_recovery.specs.declared.edges.Unit.TheVariants.{Octets, Pairs}
-use Rattle.aes3_capture_recovery.specs.declared.recovery.Figures.{Figures}
+use Rattle.aes3_capture_recovery.specs.declared.figures.Figures.{Figures}
 use Rattle.aes3_capture_recovery.specs.declared.recovery.Recovery.{Recovery}
 use Rattle.aes3_capture_recovery.specs.declared.recovery_run.Progress.{Progress}
 use Rattle.aes3_capture_recovery.specs.declared.recovery_run.Progress.TheVariants.{Ended, Paused}

@@ -2,7 +2,7 @@
 use Rattle.std.specs.Prelude.{ℕ, List, [], ◌++◌, ◌≡◌, ◌≤◌, ◌<◌, ◌+◌, ◌*◌, ◌-◌, ◌/◌, ◌%◌, ◌^◌, ◌==◌}
 use Rattle.std.specs.Prelude.{◌≢◌, ◌⊎◌, ◌&&◌, Bool, Option, Some, None, zero, suc, codes, decimal, if◌then◌else◌}
 use Rattle.std.specs.Prelude.{max, min, nat_le, nat_lt}
-use Rattle.aes3_capture_recovery.specs.declared.recovery.Figures.{Figures}
+use Rattle.aes3_capture_recovery.specs.declared.figures.Figures.{Figures}
 
 -- a number of so many thousandths
 abbrev pub thousandths : ℕ → List ℕ

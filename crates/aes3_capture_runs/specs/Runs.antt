@@ -12,7 +12,7 @@ use Rattle.aes3_capture_recovery.specs.Levels.{levels_of_samples}
 use Rattle.aes3_capture_recovery.specs.Recovering.{Recovered, Setting}
 use Rattle.aes3_capture_recovery.specs.Taking.{RecoveredAll, WritesLine}
 use Rattle.aes3_capture_recovery.specs.declared.edges.Unit.{Unit}
-use Rattle.aes3_capture_recovery.specs.declared.recovery.Figures.{Figures}
+use Rattle.aes3_capture_recovery.specs.declared.figures.Figures.{Figures}
 use Rattle.aes3_capture_recovery.specs.declared.recovery.Recovery.{Recovery}
 use Rattle.aes3_capture_recovery.specs.declared.recovery_run.Progress.{Progress}
 use Rattle.aes3_capture_recovery.specs.declared.recovery_run.Refusal.{Refusal}

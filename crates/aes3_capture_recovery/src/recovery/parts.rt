@@ -3,9 +3,10 @@
 ghost use Rattle.std.specs.Prelude.{◌≡◌};
 ghost use Rattle.aes3_capture_recovery.specs.Parts.{known_of, state_code, state_of};
 
+use crate::figures::Figures;
 use crate::line_follower::{LineFollower, LineParts, flag, is_set};
 use crate::period::RUNS;
-use crate::recovery::{Figures, Recovery, State};
+use crate::recovery::{Recovery, State};
 
 /// The numbers of a recovery, for a caller that keeps it in a form of its own: [`Recovery::parts`] gives them, and
 /// [`Recovery::of_parts`] makes the same recovery of them.
