@@ -235,10 +235,10 @@ with lengths that are not known. Floating-point and compressed samples are rejec
 
 Writes a block file of two channels: those of --channels, counted from 1, or else the
 first two. If the file has only one channel, both channels get its samples. With
---mono first, channel 1 gets them and the samples of channel 2 are zero. The highest bit
-of a sample becomes the highest of 24 bits. The lowest 8 of 32 bits are dropped; with
---exact they have to be zero. The last block is filled up with samples of zero. What
-follows the samples in the file is left out.
+--mono first, channel 1 gets them and channel 2 has zeros. Use only one of --channels
+and --mono. The highest bit of a sample becomes the highest of 24 bits. The lowest 8 of
+32 bits are dropped; with --exact they have to be zero. The last block is filled up with
+samples of zero. What follows the samples in the file is left out.
 
 V and U are 0. The channel status has what the header says: linear PCM, the sampling
 frequency and the word length. It is consumer status, unless --use professional is
@@ -475,21 +475,23 @@ pub const REWRITE: Texts<'static> = Texts {
 Writes what `normal` would write, with the channel status of each block set by the
 options, in this order. First, --status1 or --status2 gives all 24 bytes of a channel:
 HEX48 has 48 hexadecimal digits, byte 0 first. A channel without HEX48 gets the status
-of --preset, if that is given. The preset `consumer` is linear PCM, no copyright, words
-of 24 bits. The preset `professional` is linear PCM, no emphasis, two channels, words of
-24 bits.
+of --preset, if that is given. `consumer` is linear PCM, no copyright, words of 24 bits.
+`professional` is linear PCM, no emphasis, two channels, words of 24 bits.
 
 Then --set NAME=WORD sets a field of both channels. --set1 and --set2 set a field of
 channel 1 or 2. The names and words are those that `aes3 show` prints, with --names too.
-use=professional or use=consumer sets the use. A channel has 32 settings at most: first
-those of --set, then those of its own option, each in the order typed. origin=,
-destination=, local= and time= come last.
-A setting is skipped if its field belongs to the other use, or if its word has no code.
-For example, in consumer status word=24 has a code only after greatest=24. At the end
-standard error lists the settings that no block took, as they were typed. Those of --set
-are listed as --set1 and --set2. With --exact, a block that can't take all settings is
-refusal 13; PLACE is where it begins. That block and all blocks after it are not
-written. The refusal is reported at the end of the input.
+use=professional or use=consumer sets the use alone. The other bits stay and mean
+something else: begin with --preset, --status1 or --status2. In professional status,
+rate=22050, 24000, 88200, 96000, 176400 and 192000 leave the rate in byte 0: set
+`rate=not-indicated` first. A channel has 32 settings at most: first those of --set,
+then those of its own option, each in the order typed. origin=, destination=, local= and
+time= come last.
+A setting is skipped if its field belongs to the other use, or its word has no code. For
+example, in consumer status word=24 has a code only after greatest=24. At the end
+standard error lists the settings that no block took, those of --set as --set1 and
+--set2. With --exact, a block that can't take all settings is refusal 13; PLACE is where
+it begins. That block and all blocks after it are not written. The refusal is reported
+at the end of the input.
 If a field is set, or if --preset or --mend-check is given, byte 23 of each professional
 status then becomes its check byte.
 
