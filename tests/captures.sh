@@ -359,6 +359,7 @@ mkdir bin && ln -s "$program" bin/aes3-cells && ln -s "$aes3" bin/aes3
 sed -n '/^aes3.-cells < capture.bin/,/^\.EE/p' "$root/man/aes3.1" | tr -d '\134' | grep -v '^\.' >example
 head -c 4608 "$root/examples/speech.block" | "$aes3" encode >sent.txt
 "$root/examples/neighbours/samples.py" 3.90625 0.3 <sent.txt >capture.bin
+judge "the average at the end" eval '"$program" --rate 24M <capture.bin 2>told >cells; grep -q ", 3\.906 samples a cell, \(47999\|48000\) Hz, " told'
 judge "the example of the manual page" env PATH="$work/bin:$PATH" sh -e example
 tail -c 3072 samples.s32 >taken
 judge "the samples that it takes" eval '"$aes3" to-pcm sent.txt | tail -c 3072 | cmp - taken'
