@@ -112,7 +112,7 @@ hints 3 "aes3: refused 10 at $(($(wc -c <line.raw) - 1))
 aes3: these cells lack the last octet, which counts unused cells: try \`--raw-in\`" normal --packed-in line.raw
 hints 0 "aes3: $text: leave \`--raw-in\` out" scan --raw-in line.txt
 hints 0 "aes3: the cells look packed with the first in the lowest bit: try \`--lsb-first\`" show --packed-in line.lsb
-hints 0 "aes3: the cells look packed with the first in the lowest bit: try \`--lsb-first\`" info --packed-in line.lsb
+hints 1 "aes3: the cells look packed with the first in the lowest bit: try \`--lsb-first\`" info --packed-in line.lsb
 hints 3 "aes3: refused 1 at 0
 aes3: this looks like a block file: \`aes3 encode\` makes cells of it" check "$speech"
 head -c 24576 line.txt >line.8
