@@ -32,12 +32,19 @@ function rootOf(square) {
 
 const thousandths = number => `${number / 1000n}.${String(number % 1000n).padStart(3, "0")}`;
 
+/* How long a cell is in all, in 65,536ths of a sample: of a line that was measured once and has the cells of a block, the average over all
+   samples, as `aes3-cells` says at the end; else the latest length. */
+function periodInAll({ samples, cells, period, measured }) {
+    return measured === 1n && cells >= 24576n ? (samples * 65536n + cells / 2n) / cells : period;
+}
+
 /* What was found of the line, in the words of `aes3-cells`. */
-function figuresText({ period, edges, greatest, squares, dead, deadAt, measured }) {
+function figuresText(found) {
+    const { period, edges, greatest, squares, dead, deadAt, measured } = found;
     const unit = period / 256n;
     const root = rootOf(squares / (edges || 1n) * 1000000n / (unit * unit));
     const latest = dead ? `, the latest from sample ${deadAt}` : "";
-    return `${thousandths(period * 1000n / 65536n)} samples a cell, edges ${thousandths(root)} of a cell rms, `
+    return `${thousandths(periodInAll(found) * 1000n / 65536n)} samples a cell, edges ${thousandths(root)} of a cell rms, `
         + `${thousandths(greatest * 1000n / unit)} at most, ${dead} dead stretches${latest}, measured ${measured} times`;
 }
 
