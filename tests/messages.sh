@@ -106,6 +106,15 @@ hints 3 "aes3: refused 1 at 0
 aes3: $packed: try \`--packed-in\`" decode line.raw
 hints 3 "aes3: refused 1 at 0
 aes3: $packed: try \`--packed-in --lsb-first\`" check line.lsb
+printf '\211PNG\r\n\032\n\0\0\0\rIHDR' >picture.png
+hints 3 "aes3: refused 1 at 0
+aes3: if these are packed cells, try \`--packed-in\`" check picture.png
+{ printf '\357\273\277'; cat line.txt; } >marked.txt
+hints 3 "aes3: refused 1 at 0
+aes3: the text begins with a byte order mark: save it as ASCII" check marked.txt
+printf 'BZh91AY&SY' >line.bz2
+hints 3 "aes3: refused 1 at 0
+aes3: this file is compressed: unpack it first" check line.bz2
 hints 3 "aes3: refused 10 at $(($(wc -c <line.txt) - 1))
 aes3: $text: leave \`--packed-in\` out" check --packed-in line.txt
 hints 3 "aes3: refused 10 at $(($(wc -c <line.raw) - 1))

@@ -49,6 +49,11 @@ if command -v sox >/dev/null; then
     for kind in wav aiff aifc w64 flac caf ogg au; do
         if sox -R -n -r 48000 -c 2 tone.$kind synth 0.1 sine 997 vol 0.1 2>/dev/null; then sound $kind tone.$kind; else echo "left out: $kind (sox does not write it)"; fi
     done
+    # WAV with the highest octet of each number first.
+    sox -R -n -r 48000 -c 2 -B -t wav tone.rifx synth 0.1 sine 997 vol 0.1
+    judge "sox writes RIFX" eval '[ "$(head -c 4 tone.rifx)" = RIFX ]'
+    sound RIFX tone.rifx
+    judge "RIFX as a WAV file" eval '! "$program" from-wav tone.rifx >out 2>said_why && [ ! -s out ] && grep -q "this is a RIFX file" said_why'
 else
     echo "left out: sound files by sox (it is not installed)"
 fi

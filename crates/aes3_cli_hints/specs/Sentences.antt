@@ -26,6 +26,7 @@ greeting terminals job = reads_hint terminals.input ++ writes_hint terminals.out
 -- what can be told to do by what an input looks like, or where it is a file
 abbrev pub told_texts : List (List ℕ)
 told_texts = codes "this is a WAV file: `aes3 from-wav` makes a block file of it"
+    ∷ codes "this is a RIFX file: `sox FILE -t s32 -c 2 - | aes3 from-pcm` takes its samples"
     ∷ codes "this is an AIFF file: `sox FILE -t s32 -c 2 - | aes3 from-pcm` takes its samples"
     ∷ codes "this is a Wave64 file: `sox FILE -t s32 -c 2 - | aes3 from-pcm` takes its samples"
     ∷ codes "this is a FLAC file: `sox FILE -t s32 -c 2 - | aes3 from-pcm` takes its samples"
@@ -41,7 +42,9 @@ told_texts = codes "this is a WAV file: `aes3 from-wav` makes a block file of it
     ∷ codes "these look like samples of a logic analyser: `aes3-cells < FILE` makes cells of them"
     ∷ codes "this file is compressed: unpack it first"
     ∷ codes "this looks like a block file: `aes3 encode` makes cells of it"
+    ∷ codes "the text begins with a byte order mark: save it as ASCII"
     ∷ codes "these look like packed cells: try `--packed-in`"
+    ∷ codes "if these are packed cells, try `--packed-in`"
     ∷ codes "these look like packed cells: try `--packed-in --lsb-first`"
     ∷ codes "these look like packed cells: `aes3 decode --packed-in` makes a block file of them"
     ∷ codes "these cells lack the last octet, which counts unused cells: try `--raw-in`"

@@ -17,6 +17,8 @@ fn advice_on_sound(sound: SoundFile) -> &'static str
 {
     match sound {
         SoundFile::Wave => "this is a WAV file: `aes3 from-wav` makes a block file of it",
+        SoundFile::Rifx =>
+            "this is a RIFX file: `sox FILE -t s32 -c 2 - | aes3 from-pcm` takes its samples",
         SoundFile::Aiff =>
             "this is an AIFF file: `sox FILE -t s32 -c 2 - | aes3 from-pcm` takes its samples",
         SoundFile::Wave64 =>
@@ -146,15 +148,28 @@ fn advice_on_kind(error: RunError, looks: FileKind, first: &[u8]) -> Option<&'st
     }
 }
 
-/// What to do about this error of octets of no other kind, if they look like packed cells.
+/// Whether they begin with a byte order mark, of UTF-8 or UTF-16.
+fn has_order_mark(first: &[u8]) -> bool {
+    first.starts_with(b"\xEF\xBB\xBF")
+        || first.starts_with(b"\xFF\xFE")
+        || first.starts_with(b"\xFE\xFF")
+}
+
+/// What to do about this error of octets of no other kind.
 fn advice_on_octets(error: RunError, first: &[u8]) -> Option<&'static str>
     ensures { IfSome result (λ told. IsTrue (is_told told.now)) }
 {
     match error {
+        RunError::BadCell { .. } if has_order_mark(first) => {
+            Some("the text begins with a byte order mark: save it as ASCII")
+        }
         RunError::BadCell { .. } if are_reversed(first) => {
             Some("these look like packed cells: try `--packed-in --lsb-first`")
         }
-        RunError::BadCell { .. } => Some("these look like packed cells: try `--packed-in`"),
+        RunError::BadCell { .. } if are_packed(first) => {
+            Some("these look like packed cells: try `--packed-in`")
+        }
+        RunError::BadCell { .. } => Some("if these are packed cells, try `--packed-in`"),
         RunError::BadPadding { .. } if are_packed(first) => {
             Some("these cells lack the last octet, which counts unused cells: try `--raw-in`")
         }

@@ -29,9 +29,9 @@ is_in Cells byte = is_cell_text byte
 is_in Ascii byte = is_text byte
 is_in Bits byte = is_bit byte
 
--- the head of a file of gzip, xz or zstd
+-- the head of a file of gzip, bzip2, xz or zstd
 abbrev pub is_compressed : List ℕ → Bool
-is_compressed first = begins first (31 ∷ 139 ∷ []) || begins first (253 ∷ codes "7zXZ")
+is_compressed first = begins first (31 ∷ 139 ∷ []) || begins first (codes "BZh") || begins first (253 ∷ codes "7zXZ")
     || begins first (40 ∷ 181 ∷ 47 ∷ 253 ∷ [])
 
 -- the first part of a value change dump

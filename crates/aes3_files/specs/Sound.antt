@@ -3,7 +3,7 @@ use Rattle.std.specs.Prelude.{ℕ, Bool, List, [], ◌∷◌, ◌++◌, ◌==◌
 use Rattle.std.specs.Prelude.{Option, Some, None, is_some, nat_lt}
 use Rattle.std.specs.List.{starts_with}
 use Rattle.aes3_files.specs.declared.sound.SoundFile.{SoundFile}
-use Rattle.aes3_files.specs.declared.sound.SoundFile.TheVariants.{Wave, Aiff, Wave64, Flac, CoreAudio, Ogg, Mp3, Sun, Mpeg4}
+use Rattle.aes3_files.specs.declared.sound.SoundFile.TheVariants.{Wave, Rifx, Aiff, Wave64, Flac, CoreAudio, Ogg, Mp3, Sun, Mpeg4}
 
 -- they begin so
 abbrev pub begins : List ℕ → List ℕ → Bool
@@ -20,6 +20,10 @@ is_riff b = begins b (codes "RIFF") || begins b (codes "RF64") || begins b (code
 abbrev pub is_wave : List ℕ → Bool
 is_wave b = is_riff b && begins (drop 8 b) (codes "WAVE")
 
+-- RIFX, any four octets after it, and WAVE: its numbers have the highest octet first
+abbrev pub is_rifx : List ℕ → Bool
+is_rifx b = begins b (codes "RIFX") && begins (drop 8 b) (codes "WAVE")
+
 -- FORM, any four octets behind it, and AIFF or AIFC
 abbrev pub is_aiff : List ℕ → Bool
 is_aiff b = begins b (codes "FORM") && (begins (drop 8 b) (codes "AIFF") || begins (drop 8 b) (codes "AIFC"))
@@ -32,6 +36,7 @@ is_wave64 b = begins b (codes "riff" ++ 46 ∷ 145 ∷ 207 ∷ 17 ∷ [])
 abbrev pub sound_head : List ℕ → Option SoundFile
 sound_head b =
     if is_wave b then Some Wave
+    else if is_rifx b then Some Rifx
     else if is_aiff b then Some Aiff
     else if is_wave64 b then Some Wave64
     else if begins b (codes "fLaC") then Some Flac

@@ -18,7 +18,7 @@ pub enum FileKind {
     ValueChanges,
     /// The header of a zip archive, which sigrok's sessions are.
     Session,
-    /// The header of a file of gzip, xz or zstd.
+    /// The header of a file of gzip, bzip2, xz or zstd.
     Compressed,
     /// The header of a program of Linux (ELF).
     Executable,
@@ -132,11 +132,12 @@ fn are_block_words(first: &[u8]) -> bool {
     first.len() >= 4
 }
 
-/// Whether these bytes are the header of a file of gzip, xz or zstd.
+/// Whether these bytes are the header of a file of gzip, bzip2, xz or zstd.
 fn is_compressed(first: &[u8]) -> bool
     ensures { result ≡ is_compressed first.now }
 {
     first.starts_with(b"\x1F\x8B")
+        || first.starts_with(b"BZh")
         || first.starts_with(b"\xFD7zXZ")
         || first.starts_with(b"\x28\xB5\x2F\xFD")
 }

@@ -1,7 +1,7 @@
 //! The headers of sound files.
 
 ghost use Rattle.std.specs.Prelude.{◌≡◌, length};
-ghost use Rattle.aes3_files.specs.Sound.{begins_sound, is_aiff, is_riff, is_wave, is_wave64};
+ghost use Rattle.aes3_files.specs.Sound.{begins_sound, is_aiff, is_riff, is_rifx, is_wave, is_wave64};
 ghost use Rattle.aes3_files.specs.Sound.{sound_file, sound_head};
 
 /// How many of a file's first bytes decide whether it is a sound file.
@@ -18,6 +18,8 @@ const BOX_PLACE: usize = 4;
 pub enum SoundFile {
     /// WAV: `RIFF`, `RF64` (EBU Tech 3306) or `BW64` (ITU-R BS.2088), any four octets, and `WAVE`.
     Wave,
+    /// WAV with the highest octet of each number first: `RIFX`, any four octets, and `WAVE`.
+    Rifx,
     /// AIFF: `FORM`, any four octets, and `AIFF` or `AIFC`.
     Aiff,
     /// Sony Wave64, which begins with the identifier of its first chunk.
@@ -64,6 +66,8 @@ fn sound_head(head: &[u8]) -> Option<SoundFile>
 {
     if is_wave(head) {
         Some(SoundFile::Wave)
+    } else if is_rifx(head) {
+        Some(SoundFile::Rifx)
     } else if is_aiff(head) {
         Some(SoundFile::Aiff)
     } else if is_wave64(head) {
@@ -98,6 +102,14 @@ fn is_riff(head: &[u8]) -> bool
     ensures { result ≡ is_riff head.now }
 {
     head.starts_with(b"RIFF") || head.starts_with(b"RF64") || head.starts_with(b"BW64")
+}
+
+/// Whether it is the header of a WAV file with the highest octet of each number first.
+fn is_rifx(head: &[u8]) -> bool
+    requires { length head.now ≡ SOUND_HEAD_LEN }
+    ensures { result ≡ is_rifx head.now }
+{
+    head.starts_with(b"RIFX") && head[FORM_PLACE..].starts_with(b"WAVE")
 }
 
 /// Whether it is the header of an AIFF file.
