@@ -25,6 +25,7 @@ use Rattle.aes3_wave_runs.specs.declared.wave_error.WaveError.TheVariants.{Heade
 use Rattle.aes3_wave_runs.specs.declared.options.Converted.{Converted}
 use Rattle.aes3_wave_runs.specs.declared.options.WaveOptions.{WaveOptions}
 use Rattle.aes3_wave_runs.specs.FromWav.{RanOn, WaveRan, WaveRun, change_for, channels_for, has_channels, has_second, promise_for}
+use Rattle.aes3_wave_runs.specs.FromWav.{read_by}
 use Rattle.aes3_wave_runs.specs.Headers.{HeaderRan, HeaderRun}
 use Rattle.aes3_wave_runs.specs.Wave.{IsWave, IsWaveCause, SamplesRun, file_samples, limit_of}
 use Rattle.aes3_wave_runs.proofs.HeaderRuns.{some-none}
@@ -42,7 +43,7 @@ source-from p max b ended s₀ s₁ s n₀ n₁ n sink (Err x) e r = (r.0, r.1 �
 file-ran : (options : WaveOptions) (max : ℕ) (header : WaveHeader) (ended₁ ended : Bool) (s₀ s₁ s : Option (List ℕ))
     (n₀ n₁ n : ℕ) (sink : Movement) (r : Result Counts RunError)
     → (h : HeaderRun max ended₁ (changed s₀ s₁ n₀ n₁) (Ok header))
-    → (u : SamplesRun header (promise_for options header) max ended (changed s₁ s n₁ n) sink r)
+    → (u : SamplesRun (read_by options.exact header) (promise_for options header) max ended (changed s₁ s n₁ n) sink r)
     → RanOn options max header (h.bytes ++ u.rest) ended (changed s₀ s n₀ n) sink r
 file-ran options max header ended₁ ended s₀ s₁ s n₀ n₁ n sink r h u = record {
   header_is = decided-stays h.bytes u.rest (λ q. some-none (sym h.ran.0 ∙ q)) ∙ h.ran.0;
@@ -53,7 +54,7 @@ file-ran options max header ended₁ ended s₀ s₁ s n₀ n₁ n sink r h u = 
 file-few : (options : WaveOptions) (max : ℕ) (header : WaveHeader) (ended₁ ended : Bool) (s₀ s₁ s : Option (List ℕ))
     (n₀ n₁ n : ℕ) (sink : Movement) (r : Result Counts RunError)
     → (h : HeaderRun max ended₁ (changed s₀ s₁ n₀ n₁) (Ok header))
-    → (u : SamplesRun header (promise_for options header) max ended (changed s₁ s n₁ n) sink r)
+    → (u : SamplesRun (read_by options.exact header) (promise_for options header) max ended (changed s₁ s n₁ n) sink r)
     → length (h.bytes ++ u.rest) ≤ max + 1
 file-few options max header ended₁ ended s₀ s₁ s n₀ n₁ n sink r h u =
     let l = length-append h.bytes u.rest in
@@ -65,7 +66,7 @@ file-few options max header ended₁ ended s₀ s₁ s n₀ n₁ n sink r h u =
 pub file-ok : (options : WaveOptions) (max : ℕ) (header : WaveHeader) (ended₁ ended : Bool)
     (s₀ s₁ s : Option (List ℕ)) (n₀ n₁ n : ℕ) (sink : Movement) (x : Counts)
     → HeaderRun max ended₁ (changed s₀ s₁ n₀ n₁) (Ok header)
-    → SamplesRun header (promise_for options header) max ended (changed s₁ s n₁ n) sink (Ok x)
+    → SamplesRun (read_by options.exact header) (promise_for options header) max ended (changed s₁ s n₁ n) sink (Ok x)
     → WaveRun options max ended (changed s₀ s n₀ n) sink (Ok (record { header = header; counts = x }))
 file-ok options max header ended₁ ended s₀ s₁ s n₀ n₁ n sink x h u = record {
   bytes = h.bytes ++ u.rest;
@@ -77,7 +78,7 @@ file-ok options max header ended₁ ended s₀ s₁ s n₀ n₁ n sink x h u = r
 pub file-err : (options : WaveOptions) (max : ℕ) (header : WaveHeader) (ended₁ ended : Bool)
     (s₀ s₁ s : Option (List ℕ)) (n₀ n₁ n : ℕ) (sink : Movement) (e : RunError)
     → HeaderRun max ended₁ (changed s₀ s₁ n₀ n₁) (Ok header)
-    → SamplesRun header (promise_for options header) max ended (changed s₁ s n₁ n) sink (Err e)
+    → SamplesRun (read_by options.exact header) (promise_for options header) max ended (changed s₁ s n₁ n) sink (Err e)
     → WaveRun options max ended (changed s₀ s n₀ n) sink (Err (Run e))
 file-err options max header ended₁ ended s₀ s₁ s n₀ n₁ n sink e h u = record {
   bytes = h.bytes ++ u.rest;
@@ -126,10 +127,10 @@ no-header options max ended source t k (Run e) h = record {
 pub file-written : {options : WaveOptions} {max : ℕ} {ended : Bool} {source sink : Movement} {n : Converted}
     → WaveRun options max ended source sink (Ok n) → (b : List ℕ) → Told source.old source.new b
     → Grew sink.old sink.new (pcm_words S32 options.words (change_for options n.header.format)
-    (file_samples n.header (channels_for options n.header.format) b))
+    (file_samples (read_by options.exact n.header) (channels_for options n.header.format) b))
 file-written {options} {sink = sink} {n = n} r b t =
     subst (λ v. Grew sink.old sink.new (pcm_words S32 options.words (change_for options n.header.format)
-    (file_samples n.header (channels_for options n.header.format) v))) (told-is r.given t) r.ran.ran.4
+    (file_samples (read_by options.exact n.header) (channels_for options n.header.format) v))) (told-is r.given t) r.ran.ran.4
 
 -- ---- what is owed
 
@@ -162,7 +163,7 @@ same-header b p q = cc
 owed-ran : (options : WaveOptions) (max : ℕ) (header : WaveHeader) (b : List ℕ) (ended : Bool) (source sink : Movement)
     (r : Result Converted WaveError) → Grew source.old source.new b → Told source.old source.new b
     → judged b ≡ Ok (Some header) → has_channels header.format (channels_for options header.format) ≡ true
-    → IsWave header (channels_for options header.format) options.exact b → length b ≤ limit_of header max
+    → IsWave (read_by options.exact header) (channels_for options header.format) options.exact b → length b ≤ limit_of header max
     → Quiet source → Quiet sink → WaveRan options max b ended source sink r → IsOk r
 owed-ran options max header b ended source sink (Ok n) g t j have i l q k w = refl
 owed-ran options max header b ended source sink (Err (Header e)) g t j have i l q k w =
@@ -189,7 +190,7 @@ owed-ran options max header b ended source sink (Err (Run e)) g t j have i l q k
             (same-header b h.1.header_is j) h.1.ran;
       } in
       run-owed u b t
-      (no-wave-cause header (channels_for options header.format) options.exact (limit_of header max) b ended i l) q k)
+      (no-wave-cause (read_by options.exact header) (channels_for options header.format) options.exact (limit_of header max) b ended i l) q k)
 ]
   where
     unread : (e : RunError) → HeaderRan max b ended source (Err (Run e)) → ⊥
@@ -201,7 +202,7 @@ pub file-owed : {options : WaveOptions} {max : ℕ} {ended : Bool} {source sink 
     {r : Result Converted WaveError} → WaveRun options max ended source sink r
     → (b : List ℕ) (header : WaveHeader) → Told source.old source.new b
     → judged b ≡ Ok (Some header) → has_channels header.format (channels_for options header.format) ≡ true
-    → IsWave header (channels_for options header.format) options.exact b → length b ≤ limit_of header max
+    → IsWave (read_by options.exact header) (channels_for options header.format) options.exact b → length b ≤ limit_of header max
     → Quiet source → Quiet sink → IsOk r
 file-owed {options} {max} {ended} {source} {sink} {r} run b header t j have i l q k =
     let e = told-is run.given t in

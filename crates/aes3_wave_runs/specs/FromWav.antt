@@ -1,5 +1,5 @@
 -- A WAV file as the block file of its samples.
-use Rattle.std.specs.Prelude.{ℕ, List, Bool, Option, Some, None, Result, Ok, Err, ◌≡◌, ◌≤◌, ◌+◌, ◌⊎◌, ◌&&◌, true, false, nat_lt, length}
+use Rattle.std.specs.Prelude.{ℕ, List, Bool, Option, Some, None, Result, Ok, Err, ◌≡◌, ◌≤◌, ◌+◌, ◌⊎◌, ◌&&◌, true, false, if◌then◌else◌, nat_lt, length}
 use Rattle.aes3_cell.specs.Ends.{Grew}
 use Rattle.aes3_cell.specs.declared.counts.Counts.{Counts}
 use Rattle.aes3_refusals.specs.declared.run_error.RunError.{RunError}
@@ -7,6 +7,10 @@ use Rattle.aes3_input.specs.Running.{InputRan, Movement, Promise, Quiet}
 use Rattle.aes3_status.specs.declared.change.Change.{Change}
 use Rattle.aes3_wave.specs.declared.chunk.WaveHeader.{WaveHeader}
 use Rattle.aes3_wave.specs.declared.wave_format.WaveFormat.{WaveFormat}
+use Rattle.aes3_wave.specs.declared.wave_format.Container.{Container}
+use Rattle.aes3_wave.specs.declared.wave_format.Container.TheVariants.{Octets1, Octets2, Octets3, Octets4}
+use Rattle.aes3_wave.specs.declared.wave_format.Width.{Width}
+use Rattle.aes3_wave.specs.declared.wave_format.Width.TheVariants.{Bits8, Bits16, Bits24, Bits32}
 use Rattle.aes3_wave.specs.declared.channels.Channels.{Channels}
 use Rattle.aes3_wave.specs.Headers.{judged}
 use Rattle.aes3_wave.specs.Samples.{usual_channels}
@@ -46,10 +50,27 @@ change_for options f =
       status2 = or_status (status_for options.status_use f) options.change.status2;
     }
 
+-- the width of all bits of a sample
+abbrev pub full_width : Container → Width
+full_width Octets1 = Bits8
+full_width Octets2 = Bits16
+full_width Octets3 = Bits24
+full_width Octets4 = Bits32
+
+-- the header by which samples are read: where they are taken exactly, with all of their bits, and else with those that
+-- it says are valid
+abbrev pub read_by : Bool → WaveHeader → WaveHeader
+read_by exact header =
+    record header {
+      format = record header.format {
+        width = if exact then full_width header.format.container else header.format.width;
+      };
+    }
+
 -- what is promised of a file with this header
 abbrev pub promise_for : WaveOptions → WaveHeader → Promise Counts
 promise_for options header =
-    wave_file header (channels_for options header.format) options.exact options.words
+    wave_file (read_by options.exact header) (channels_for options header.format) options.exact options.words
     (change_for options header.format)
 
 -- the run over a file of octets b that has this header

@@ -7,7 +7,8 @@ ghost use Rattle.aes3_cell.specs.Ends.{Grew, Told};
 ghost use Rattle.aes3_engine.specs.Sampling.{pcm_words};
 ghost use Rattle.aes3_input.specs.Running.{movement_of};
 ghost use Rattle.aes3_forms_samples.specs.declared.sample_format.SampleFormat.TheVariants.{S32};
-ghost use Rattle.aes3_wave_runs.specs.FromWav.{WaveRun, change_for, channels_for, has_channels, has_second};
+ghost use Rattle.aes3_wave_runs.specs.FromWav.{WaveRun, change_for, channels_for, full_width, has_channels};
+ghost use Rattle.aes3_wave_runs.specs.FromWav.{has_second, read_by};
 ghost use Rattle.aes3_wave.specs.Formats.{frame_len};
 ghost use Rattle.aes3_wave_runs.specs.Wave.{IsWave, SamplesRun, file_samples, frames_in, limit_of};
 ghost use Rattle.aes3_wave_runs.specs.Wave.{wave_file};
@@ -26,7 +27,7 @@ use aes3_forms_samples::SampleFormat;
 use aes3_forms_words::Words;
 use aes3_input::convert;
 use aes3_status::Change;
-use aes3_wave::{Channels, WaveFormat, WaveHeader};
+use aes3_wave::{Channels, Container, WaveFormat, WaveHeader, Width};
 
 /// How many whole frames there are in `octets` octets after a header.
 fn frames_in(header: &WaveHeader, octets: u64) -> u64
@@ -129,10 +130,45 @@ fn change_for(options: &WaveOptions, format: WaveFormat) -> Change
     }
 }
 
+/// The width of all bits of a sample.
+fn full_width(container: Container) -> Width
+    ensures { result ≡ full_width container }
+{
+    match container {
+        Container::Octets1 => Width::Bits8,
+        Container::Octets2 => Width::Bits16,
+        Container::Octets3 => Width::Bits24,
+        Container::Octets4 => Width::Bits32,
+    }
+}
+
+/// The header by which the samples are read. With `exact`, bits that the header calls unused are
+/// read too, so that none that is not 0 is lost.
+fn read_by(exact: bool, header: &WaveHeader) -> WaveHeader
+    ensures { result ≡ read_by exact header.now }
+{
+    let format = header.format;
+    WaveHeader {
+        format: WaveFormat {
+            channels: format.channels,
+            rate: format.rate,
+            container: format.container,
+            width: if exact {
+                full_width(format.container)
+            } else {
+                format.width
+            },
+        },
+        start: header.start,
+        len: header.len,
+    }
+}
+
 /// Writes a block file of the samples of a WAV file: two channels of each frame, as
-/// `from_pcm_words` does with samples of 32 bits whose other bits are 0. The channel status says
-/// the sampling frequency and the width, except for what [`crate::missing_codes`] returns. What comes
-/// after the samples is ignored. Each block is written as soon as its samples have come.
+/// `from_pcm_words` does with samples of 32 bits whose other bits are 0. With `exact`, all bits of a
+/// sample are read, also those that the header calls unused. The channel status says the sampling
+/// frequency and the width, except for what [`crate::missing_codes`] returns. What comes after the
+/// samples is ignored. Each block is written as soon as its samples have come.
 ///
 /// # Errors
 /// `Header` if the header is rejected, `NoChannel` if a chosen channel is not in a frame. Then
@@ -165,7 +201,7 @@ pub fn from_wav<S: Source, T: Sink>(
     ensures file { IfOk result (λ n. (b : List ℕ) → Told (S.given source.old) (S.given source.new) b
         → Grew (T.taken sink.old) (T.taken sink.new)
         (pcm_words S32 options.now.words (change_for options.now n.header.format)
-        (file_samples n.header (channels_for options.now n.header.format) b))) }
+        (file_samples (read_by options.now.exact n.header) (channels_for options.now n.header.format) b))) }
     ensures passed_on { IfOk result (λ _. T.passed sink.new ≡ T.taken sink.new) }
 
     // It returns Ok if neither input nor output failed and the file is right. It must have a header
@@ -174,7 +210,8 @@ pub fn from_wav<S: Source, T: Sink>(
     ensures owed { (b : List ℕ) (header : WaveHeader) → Told (S.given source.old) (S.given source.new) b
         → judged b ≡ Ok (Some header)
         → has_channels header.format (channels_for options.now header.format) ≡ true
-        → IsWave header (channels_for options.now header.format) options.now.exact b
+        → IsWave (read_by options.now.exact header) (channels_for options.now header.format)
+        options.now.exact b
         → length b ≤ limit_of header max_bytes
         → S.failed source.new ≡ S.failed source.old → T.failed sink.new ≡ T.failed sink.old
         → IsOk result }
@@ -198,7 +235,7 @@ pub fn from_wav<S: Source, T: Sink>(
         source,
         sink,
         max_bytes,
-        &header,
+        &read_by(options.exact, &header),
         channels,
         options.exact,
         &change,

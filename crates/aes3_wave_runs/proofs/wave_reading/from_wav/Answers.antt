@@ -23,7 +23,7 @@ returns-then-not-has_channels-clause-owed g c = λ b header t j have i l q k.
 
 pub returns-in-Ok-convert_samples-clause-run : goal.returns-in-Ok-convert_samples-clause-run
 returns-in-Ok-convert_samples-clause-run g c =
-    let ran = rw (c.channels_for-channels.ensures, c.change_for-change.ensures) at c.in-Ok-convert_samples.ensures.run in
+    let ran = rw (c.channels_for-channels.ensures, c.change_for-change.ensures, c.read_by.ensures) at c.in-Ok-convert_samples.ensures.run in
     file-ok c.args.options.now c.args.max_bytes c.in-Ok.header (g.S.Source.has_ended c.read_header.new.source)
     (g.S.Source.has_ended c.convert_samples.new.source) (g.S.Source.given c.args.source.now)
     (g.S.Source.given c.read_header.new.source) (g.S.Source.given c.convert_samples.new.source)
@@ -37,7 +37,7 @@ returns-in-Ok-convert_samples-clause-file g c = λ b t.
 
 pub returns-in-Err-convert_samples-clause-run : goal.returns-in-Err-convert_samples-clause-run
 returns-in-Err-convert_samples-clause-run g c =
-    let ran = rw (c.channels_for-channels.ensures, c.change_for-change.ensures) at c.in-Err-convert_samples.ensures.run in
+    let ran = rw (c.channels_for-channels.ensures, c.change_for-change.ensures, c.read_by.ensures) at c.in-Err-convert_samples.ensures.run in
     file-err c.args.options.now c.args.max_bytes c.in-Ok.header (g.S.Source.has_ended c.read_header.new.source)
     (g.S.Source.has_ended c.convert_samples.new.source) (g.S.Source.given c.args.source.now)
     (g.S.Source.given c.read_header.new.source) (g.S.Source.given c.convert_samples.new.source)
