@@ -346,7 +346,32 @@ def by_hand(folder):
     three = made_by_hand(channels=3)
     rate, width, found = samples_of(three)
     judge("--channels 3,1", ran("from-wav", "--channels", "3,1", data=three).stdout == blocks_of(rate, width, found[2], found[0]))
+    # With --exact all bits are read, also those that the header calls unused.
+    of_20 = made_by_hand(bits=24, counting=20)
+    rate, _, (first, second) = samples_of(made_by_hand(bits=24))
+    judge("20 bits in 24, --exact", ran("from-wav", "--exact", data=of_20).stdout == blocks_of(rate, 20, first, second))
+    judge("20 bits in 24", ran("from-wav", data=of_20).stdout != ran("from-wav", "--exact", data=of_20).stdout)
+    # A file that is cut short is read as far as it goes. Programs that write to a pipe can't know the length.
+    for name, data, missing in (
+        ("a file cut short", made_by_hand()[:-4], 4),
+        ("a file cut at its samples", made_by_hand(data=b"", length=8), 8),
+        ("RF64 cut short", made_by_hand(kind=b"RF64", before=chunk(b"ds64", struct.pack("<QQQI", 100, 2**33, 2, 0)), length=0xFFFFFFFF), 2**33 - 8),
+        ("a length as sox writes it to a pipe", made_by_hand(length=0x7FFFF000), 0),
+        ("a length as arecord writes it to a pipe", made_by_hand(length=0x7FFFFF00), 0),
+        ("a length below these", made_by_hand(length=0x7FFFEFFC), 0x7FFFEFFC - 8),
+        ("a length above these", made_by_hand(length=0x80000000), 0x80000000 - 8),
+        ("a chunk after the samples", made_by_hand(behind=chunk(b"LIST", b"INFO")), 0),
+    ):
+        write(path, data)
+        got = ran("from-wav", data=data)
+        said = f"aes3: the file is cut short: {missing} bytes of samples are missing\n".encode() if missing else b""
+        judge(f"{name}: {got.stderr!r}", got.stderr == said and is_read(path))
+    if shutil.which("sox"):
+        piped = subprocess.run(["sox", "-R", "-n", "-r", "48000", "-c", "2", "-t", "wav", "-", "synth", "0.1", "sine", "997"], capture_output=True).stdout
+        got = ran("from-wav", data=piped)
+        judge(f"sox in a pipe: {got.stderr!r}", got.returncode == 0 and not got.stderr)
     for data, number, place, words in (
+        (made_by_hand(bits=32, counting=24, data=bytes(range(1, 9))), 11, 0, ("--exact",)),
         (made_by_hand(code=FLOAT, bits=32), 14, 20, ()),
         (made_by_hand(code=6, bits=8), 14, 20, ()),
         (b"FORM\0\0\0\0AIFF" + b"\0" * 100, 14, 0, ()),

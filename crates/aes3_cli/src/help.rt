@@ -237,17 +237,20 @@ Writes a block file of two channels: those of --channels, counted from 1, or els
 first two. If the file has only one channel, both channels get its samples. With
 --mono first, channel 1 gets them and channel 2 has zeros. Use only one of --channels
 and --mono. The highest bit of a sample becomes the highest of 24 bits. The lowest 8 of
-32 bits are dropped; with --exact they have to be zero. The last block is filled up with
-samples of zero. What follows the samples in the file is left out.
+32 bits are dropped; with --exact they have to be zero, and bits that the header calls
+unused are read too. The last block is filled up with samples of zero. What follows the
+samples in the file is left out.
 
 V and U are 0. The channel status has what the header says: linear PCM, the sampling
 frequency and the word length. It is consumer status, unless --use professional is
-given. If the status has no code for what the header says, standard error says so at the
-end. --preset, --status1 and --status2 give another status, without what
+given. --preset, --status1 and --status2 give another status, without what
 the header says. --set, --set1, --set2, --rate and --mend-check change the status as in
-`aes3 from-pcm`. At the end standard error lists the settings that the status could not
-take. With --words alsa or am824 the words of the block file have that form, as
-`aes3 encode` reads them.
+`aes3 from-pcm`. With --words alsa or am824 the words of the block file have that form,
+as `aes3 encode` reads them.
+
+At the end standard error says what of the header the status has no code for, and lists
+the settings that it could not take. If the file is cut short, it says how many bytes of
+samples are missing.
 
 Exit status: 0 done; 3 refused: 9 a status is not 48 hexadecimal digits, and nothing is
 read, 14 the header is wrong or of another format, 15 the file has no such channel, 2

@@ -23,7 +23,7 @@ use Rattle.aes3_cli_jobs.specs.declared.wave_refusal.Refusal.TheVariants.{Run}
 use Rattle.aes3_program.specs.declared.outcome.Outcome.{Outcome}
 use Rattle.aes3_program.specs.declared.outcome.Remark.{Remark}
 use Rattle.aes3_program.specs.declared.outcome.Remark.TheVariants.{Nothing, Filled, LeftOut, Settings, UsualRate, Wave, Inexact}
-use Rattle.aes3_program.specs.declared.outcome.Remark.TheVariants.{FilledAtUsualRate}
+use Rattle.aes3_program.specs.declared.outcome.Remark.TheVariants.{CutShort, FilledAtUsualRate}
 use Rattle.aes3_program.specs.declared.outcome.Met.{Met}
 use Rattle.aes3_status.specs.declared.change.Change.{Change}
 use Rattle.aes3_status.specs.declared.setting.Settings.{Settings as GivenSettings}
@@ -176,7 +176,10 @@ of-answer line ended source before (Ok n) failed sink errors status run t = go n
     go (FilledAtUsualRate frames) e s r =
         of-done line n errors status (of-answered-remark line.typed line.job ended source before n run)
         (s ∙ ap (λ (v : Remark). status_for v (status_by line.job n.counts)) e) r
-    go (Wave unsaid first second) e s r =
+    go (CutShort missing) e s r =
+        of-done line n errors status (of-answered-remark line.typed line.job ended source before n run)
+        (s ∙ ap (λ (v : Remark). status_for v (status_by line.job n.counts)) e) r
+    go (Wave missing unsaid first second) e s r =
         of-done line n errors status (of-answered-remark line.typed line.job ended source before n run)
         (s ∙ ap (λ (v : Remark). status_for v (status_by line.job n.counts)) e) r
     go (Inexact at) e s r =

@@ -62,7 +62,7 @@ use Rattle.aes3_program.specs.declared.outcome.Outcome.{Outcome}
 use Rattle.aes3_program.specs.Lines.{refusal_line, remark_line}
 use Rattle.aes3_program.specs.declared.outcome.Remark.{Remark}
 use Rattle.aes3_program.specs.declared.outcome.Remark.TheVariants.{Nothing, Filled, LeftOut, Settings, UsualRate, Wave, Inexact}
-use Rattle.aes3_program.specs.declared.outcome.Remark.TheVariants.{FilledAtUsualRate}
+use Rattle.aes3_program.specs.declared.outcome.Remark.TheVariants.{CutShort, FilledAtUsualRate}
 use Rattle.aes3_program.specs.Outcomes.{RemarkTold, of_counts, of_exact, of_filled, of_rewritten}
 use Rattle.aes3_program.specs.Outcomes.{of_exact_wave, of_filled_wave}
 use Rattle.aes3_program.specs.Outcomes.{of_samples, of_wave, of_words, run_answer, told_as, wave_answer}
@@ -205,7 +205,8 @@ status_for (LeftOut words) status = status
 status_for (Settings first second) status = status
 status_for UsualRate status = status
 status_for (FilledAtUsualRate frames) status = status
-status_for (Wave unsaid first second) status = status
+status_for (CutShort missing) status = status
+status_for (Wave missing unsaid first second) status = status
 status_for (Inexact at) status = 3
 
 abbrev pub end_status : Job → Outcome → ℕ

@@ -8,7 +8,7 @@ use Rattle.aes3_cli_jobs.specs.declared.wave_refusal.Refusal.TheVariants.{Run}
 use Rattle.aes3_status.specs.Refusals.{refusal_text}
 use Rattle.aes3_program.specs.declared.outcome.Remark.{Remark}
 use Rattle.aes3_program.specs.declared.outcome.Remark.TheVariants.{Nothing, Filled, LeftOut, Settings, Inexact}
-use Rattle.aes3_program.specs.declared.outcome.Remark.TheVariants.{UsualRate, FilledAtUsualRate, Wave}
+use Rattle.aes3_program.specs.declared.outcome.Remark.TheVariants.{UsualRate, FilledAtUsualRate, CutShort, Wave}
 use Rattle.aes3_program.specs.declared.outcome.UnsaidFormat.{UnsaidFormat}
 use Rattle.aes3_program.specs.declared.outcome.Met.{Met}
 use Rattle.aes3_status.specs.Untaken.{texts_of, untaken_lines}
@@ -52,6 +52,19 @@ unsaid_width_line (Some bits) = no_width_line bits
 abbrev pub unsaid_lines : UnsaidFormat → List ℕ
 unsaid_lines unsaid = unsaid_rate_line unsaid.rate ++ unsaid_width_line unsaid.bits
 
+-- what is told of a WAV file that ends so many bytes before its header says
+abbrev pub cut_short_line : ℕ → List ℕ
+cut_short_line missing = codes "aes3: the file is cut short: " ++ decimal missing ++ codes " bytes of samples are missing\n"
+
+abbrev pub missing_line : Option ℕ → List ℕ
+missing_line None = []
+missing_line (Some missing) = cut_short_line missing
+
+-- what is told of a WAV file: of its format, and of settings
+abbrev pub wave_lines : TypedSettings → UnsaidFormat → Met → Met → List ℕ
+wave_lines typed unsaid first second =
+    unsaid_lines unsaid ++ (met_lines 1 (texts_of typed.first) first ++ met_lines 2 (texts_of typed.second) second)
+
 -- what is told of a job that read its input to the end, where its settings were typed so
 abbrev pub remark_line : TypedSettings → Remark → List ℕ
 remark_line typed Nothing = []
@@ -61,8 +74,8 @@ remark_line typed (Settings first second) =
     met_lines 1 (texts_of typed.first) first ++ met_lines 2 (texts_of typed.second) second
 remark_line typed UsualRate = usual_rate_line
 remark_line typed (FilledAtUsualRate frames) = filled_line frames ++ usual_rate_line
-remark_line typed (Wave unsaid first second) =
-    unsaid_lines unsaid ++ (met_lines 1 (texts_of typed.first) first ++ met_lines 2 (texts_of typed.second) second)
+remark_line typed (CutShort missing) = cut_short_line missing
+remark_line typed (Wave missing unsaid first second) = missing_line missing ++ wave_lines typed unsaid first second
 remark_line typed (Inexact at) = refusal_line (Run (refusal.Inexact at))
 
 -- what is told of words that are not UTF-8

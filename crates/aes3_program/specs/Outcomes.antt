@@ -1,7 +1,7 @@
 -- What a job answers that read its input to the end, and what standard error is told of it.
 use Rattle.std.specs.Option.{unwrap_or}
 use Rattle.std.specs.Prelude.{ℕ, ◌==◌, ◌∷◌, if◌then◌else◌, replicate, List, [], Option, Some, None, Result, Ok, Err, ◌≡◌}
-use Rattle.std.specs.Prelude.{Bool, ◌||◌, ◌&&◌, not, is_some}
+use Rattle.std.specs.Prelude.{Bool, ◌||◌, ◌&&◌, ◌-◌, not, is_some, nat_lt}
 use Rattle.aes3_cell.specs.declared.counts.Counts.{Counts}
 use Rattle.aes3_refusals.specs.declared.run_error.RunError.{RunError}
 use Rattle.aes3_cell.specs.Ends.{Grew}
@@ -31,7 +31,7 @@ use Rattle.aes3_engine.specs.declared.filling.Filled.{Filled as FilledRun}
 use Rattle.aes3_program.specs.declared.outcome.Outcome.{Outcome}
 use Rattle.aes3_program.specs.declared.outcome.Remark.{Remark}
 use Rattle.aes3_program.specs.declared.outcome.Remark.TheVariants.{Nothing, Filled, LeftOut, Settings, Inexact}
-use Rattle.aes3_program.specs.declared.outcome.Remark.TheVariants.{UsualRate, FilledAtUsualRate, Wave}
+use Rattle.aes3_program.specs.declared.outcome.Remark.TheVariants.{UsualRate, FilledAtUsualRate, CutShort, Wave}
 use Rattle.aes3_program.specs.declared.outcome.UnsaidFormat.{UnsaidFormat}
 
 -- what a run's answer is as that of a job: nothing is remarked on counts alone
@@ -129,13 +129,29 @@ abbrev pub wave_taken : WaveOptions → WaveFormat → Option (List ℕ) → Opt
 wave_taken options f status settings =
     taken_of settings (sample_status (or_status (status_for options.status_use f) status) ∷ [])
 
+-- a length that programs give that write to a pipe and don't know the right one yet
+abbrev pub is_placeholder : ℕ → Bool
+is_placeholder len = not (nat_lt len 2147479552) && nat_lt len 2147483648
+
+-- how many bytes of samples are missing where a header gives a length and so many are found
+abbrev pub missing_in : Option ℕ → ℕ → Option ℕ
+missing_in None found = None
+missing_in (Some len) found = if nat_lt found len && not (is_placeholder len) then Some (len - found) else None
+
+abbrev pub missing_of : Converted → Option ℕ
+missing_of n = missing_in n.header.len (n.counts.bytes - n.header.start)
+
+abbrev pub cut_remark : Option ℕ → Remark
+cut_remark None = Nothing
+cut_remark (Some missing) = CutShort missing
+
 abbrev pub of_converted : WaveOptions → Converted → Outcome
 of_converted options n = record {
   counts = n.counts;
   remark
       = if n.counts.blocks == 0
-      then Nothing
-      else Wave (unsaid_format options n.header.format)
+      then cut_remark (missing_of n)
+      else Wave (missing_of n) (unsaid_format options n.header.format)
       (record {
         settings = options.change.settings1;
         taken = wave_taken options n.header.format options.change.status1 options.change.settings1;

@@ -6,6 +6,7 @@ ghost use Rattle.aes3_engine.specs.RewritingRuns.{taken_of};
 ghost use Rattle.aes3_program.specs.Outcomes.{answer_as, exactness, of_counts, of_exact, of_filled};
 ghost use Rattle.aes3_program.specs.Outcomes.{bits_of, of_converted, of_rewritten, of_samples, of_wave, of_words};
 ghost use Rattle.aes3_program.specs.Outcomes.{exact_or, filled_remark, of_exact_wave, of_filled_wave, rate_remark};
+ghost use Rattle.aes3_program.specs.Outcomes.{cut_remark, is_placeholder, missing_in, missing_of};
 ghost use Rattle.aes3_program.specs.Outcomes.{refusal_of, run_answer, unsaid_format, wave_answer};
 ghost use Rattle.aes3_wave_runs.specs.FromWav.{or_status};
 ghost use Rattle.aes3_wave_runs.specs.Status.{status_for};
@@ -63,9 +64,15 @@ pub enum Remark {
     FilledAtUsualRate {
         frames: u64,
     },
-    /// The channel status has no code for these parts of the WAV file's format. These settings were
-    /// given for channel 1 and channel 2; those that the status did not take are reported.
+    /// The WAV file has no sample, and ends this number of bytes before its header says.
+    CutShort {
+        missing: u64,
+    },
+    /// The WAV file ends this number of bytes before its header says. The channel status has no
+    /// code for these parts of its format. These settings were given for channel 1 and channel 2;
+    /// those that the status did not take are reported.
     Wave {
+        missing: Option<u64>,
         unsaid: UnsaidFormat,
         first: Met,
         second: Met,
@@ -322,6 +329,42 @@ fn unsaid_format(options: &WaveOptions, format: &WaveFormat) -> UnsaidFormat
     }
 }
 
+/// Whether a program that writes a WAV file to a pipe gives this length, as it can't know the right
+/// one yet (sox and mplayer 0x7ffff000, arecord 0x7fffff00).
+fn is_placeholder(len: u64) -> bool
+    ensures { result ≡ is_placeholder len }
+{
+    (0x7fff_f000..0x8000_0000).contains(&len)
+}
+
+/// How many bytes of samples a file lacks that has `found` of them, if the header gives this length.
+fn missing_in(len: Option<u64>, found: u64) -> Option<u64>
+    ensures { result ≡ missing_in len found }
+{
+    match len {
+        Some(len) if found < len && !is_placeholder(len) => Some(len - found),
+        _ => None,
+    }
+}
+
+/// How many bytes of samples a WAV file lacks that was read to its end.
+fn missing_of(ran: &Converted) -> Option<u64>
+    ensures { result ≡ missing_of ran.now }
+{
+    let found = ran.counts.bytes.saturating_sub(ran.header.start);
+    missing_in(ran.header.len, found)
+}
+
+/// The remark on a WAV file without samples.
+fn cut_remark(missing: Option<u64>) -> Remark
+    ensures { result ≡ cut_remark missing }
+{
+    match missing {
+        Some(missing) => Remark::CutShort { missing },
+        None => Remark::Nothing,
+    }
+}
+
 /// The status that blocks of a WAV file begin with, if one is given.
 fn wave_status(
     given: Option<[u8; 24]>,
@@ -344,15 +387,17 @@ fn outcome_of_conversion(ran: &Converted, options: &WaveOptions) -> Outcome
     let change = &options.change;
     let status1 = wave_status(change.status1, options, format);
     let status2 = wave_status(change.status2, options, format);
+    let missing = missing_of(ran);
     if ran.counts.blocks == 0 {
         return Outcome {
             counts: ran.counts,
-            remark: Remark::Nothing,
+            remark: cut_remark(missing),
         };
     }
     Outcome {
         counts: ran.counts,
         remark: Remark::Wave {
+            missing,
             unsaid: unsaid_format(options, format),
             first: Met {
                 settings: change.settings1,

@@ -5,7 +5,8 @@ ghost use Rattle.aes3_cell.specs.Writes.{Wrote};
 ghost use Rattle.aes3_program.specs.Asides.{AsideOfRun, ErrorsLeft};
 ghost use Rattle.aes3_program.specs.JobRuns.{end_status};
 ghost use Rattle.aes3_status.specs.Untaken.{texts_of, told_line, untaken_line, untaken_lines};
-ghost use Rattle.aes3_program.specs.Lines.{filled_line, left_out_line, met_lines, remark_line};
+ghost use Rattle.aes3_program.specs.Lines.{cut_short_line, filled_line, left_out_line, met_lines};
+ghost use Rattle.aes3_program.specs.Lines.{missing_line, remark_line, wave_lines};
 ghost use Rattle.aes3_program.specs.Lines.{no_rate_line, no_width_line, unsaid_lines, unsaid_rate_line};
 ghost use Rattle.aes3_program.specs.Lines.{unsaid_width_line, usual_rate_line};
 ghost use Rattle.aes3_program.specs.Outcomes.{RemarkTold};
@@ -81,6 +82,17 @@ fn no_width(bits: u8) -> Line
     line.text("aes3: the status has no code for samples of ");
     line.number(u64::from(bits));
     line.text(" bits\n");
+    line
+}
+
+/// The line that says that a WAV file ends this number of bytes before its header says.
+fn cut_short(missing: u64) -> Line
+    ensures { result ≡ cut_short_line missing }
+{
+    let mut line = Line::new();
+    line.text("aes3: the file is cut short: ");
+    line.number(missing);
+    line.text(" bytes of samples are missing\n");
     line
 }
 
@@ -245,7 +257,7 @@ fn put_unsaid<T: Sink>(unsaid: &UnsaidFormat, sink: &mut T) -> Result<(), Fault>
 ///
 /// # Errors
 /// The sink's fault; then it has taken a front of the lines.
-fn put_wave<T: Sink>(
+fn put_status<T: Sink>(
     typed: &TypedSettings<'_>,
     unsaid: &UnsaidFormat,
     first: &Met,
@@ -254,11 +266,44 @@ fn put_wave<T: Sink>(
 ) -> Result<(), Fault>
     requires room { T.failed sink.old + 1 < 2 ^ 64 }
     ensures { Wrote T.taken T.failed sink.old sink.new
-        (unsaid_lines unsaid.now ++ (met_lines 1 (texts_of typed.now.first) first.now
-        ++ met_lines 2 (texts_of typed.now.second) second.now)) result }
+        (wave_lines typed.now unsaid.now first.now second.now) result }
 {
     put_unsaid(unsaid, sink)?;
     put_settings(typed, first, second, sink)
+}
+
+/// Writes the line of the bytes that a WAV file lacks, if it lacks any.
+///
+/// # Errors
+/// The sink's fault; then it has taken a front of the line.
+fn put_missing<T: Sink>(missing: Option<u64>, sink: &mut T) -> Result<(), Fault>
+    requires room { T.failed sink.old + 1 < 2 ^ 64 }
+    ensures { Wrote T.taken T.failed sink.old sink.new (missing_line missing) result }
+{
+    match missing {
+        None => Ok(()),
+        Some(missing) => cut_short(missing).write_to(sink),
+    }
+}
+
+/// Writes what a WAV file lacks, and what its blocks' status does not say or take.
+///
+/// # Errors
+/// The sink's fault; then it has taken a front of the lines.
+fn put_wave<T: Sink>(
+    typed: &TypedSettings<'_>,
+    missing: Option<u64>,
+    unsaid: &UnsaidFormat,
+    first: &Met,
+    second: &Met,
+    sink: &mut T,
+) -> Result<(), Fault>
+    requires room { T.failed sink.old + 1 < 2 ^ 64 }
+    ensures { Wrote T.taken T.failed sink.old sink.new
+        (missing_line missing ++ wave_lines typed.now unsaid.now first.now second.now) result }
+{
+    put_missing(missing, sink)?;
+    put_status(typed, unsaid, first, second, sink)
 }
 
 /// Writes the remark.
@@ -281,11 +326,13 @@ fn put_remark<T: Sink>(
         Remark::Settings { first, second } => put_settings(typed, first, second, sink),
         Remark::UsualRate => usual_rate().write_to(sink),
         Remark::FilledAtUsualRate { frames } => put_filled_at_usual_rate(*frames, sink),
+        Remark::CutShort { missing } => cut_short(*missing).write_to(sink),
         Remark::Wave {
+            missing,
             unsaid,
             first,
             second,
-        } => put_wave(typed, unsaid, first, second, sink),
+        } => put_wave(typed, *missing, unsaid, first, second, sink),
         Remark::Inexact { at } => put_refusal(Refusal::Run(RunError::Inexact { at: *at }), sink),
     }
 }
