@@ -155,7 +155,8 @@ leaves "it" "$folder/out"
 ln -s target "$folder/link"
 aes3 encode -o "$folder/link" < "$zero" 2> "$folder/errors"
 status=$?
-if [ "$status" = 3 ] && grep -q "$folder/link: " "$folder/errors"; then well "a link to a file as output file"; else wrong "a link to a file as output file: $status"; fi
+expect "a link to a file as output file" 3 "aes3: refused 6
+aes3: $folder/link is a link to a file: give the name of the file itself"
 if [ -L "$folder/link" ] && [ ! -s "$folder/target" ]; then well "the link and its file stay"; else wrong "the link or its file is another"; fi
 cp "$folder/wanted" "$folder/other.part"
 aes3 normal -o "$folder/other" "$folder/other.part" 2> "$folder/errors"

@@ -18,7 +18,7 @@ use aes3_program_terminal::{recognise, report_unread, run_and_explain};
 use aes3_wave::Depth;
 use output::{Output, file_named, finish_file};
 use std::cell::Cell;
-use std::io::Error;
+use std::io::{Error, ErrorKind};
 use std::process::ExitCode;
 
 /// What is noted about the streams while they are lent.
@@ -131,12 +131,17 @@ fn say_trouble(rt: &HostRuntime, name: Option<&str>, error: Option<Error>) {
 }
 
 /// Prints why a file was not written, if there is a reason: its name with `.part` is that of
-/// another file, or else the system's message.
+/// another file, its name is a link to a file, or else the system's message.
 fn say_unwritten(rt: &HostRuntime, name: Option<&str>, file: &PartFile, error: Option<Error>) {
     match (name, error, file.taken()) {
         (Some(name), Some(_), Some(part)) => {
             eprintln!(rt;
                 "aes3: {name} can't be written: {part} exists, so remove or rename it, unless a run is writing it"
+            ).unwrap_or(());
+        }
+        (Some(name), Some(error), None) if matches!(error.kind(), ErrorKind::AlreadyExists) => {
+            eprintln!(rt;
+                "aes3: {name} is a link to a file: give the name of the file itself"
             ).unwrap_or(());
         }
         _ => say_trouble(rt, name, error),
