@@ -367,7 +367,7 @@ def by_hand(folder):
         said = f"aes3: the file is cut short: {missing} bytes of samples are missing\n".encode() if missing else b""
         judge(f"{name}: {got.stderr!r}", got.stderr == said and is_read(path))
     if shutil.which("sox"):
-        piped = subprocess.run(["sox", "-R", "-n", "-r", "48000", "-c", "2", "-t", "wav", "-", "synth", "0.1", "sine", "997"], capture_output=True).stdout
+        piped = subprocess.run(["sox", "-R", "-n", "-r", "48000", "-c", "2", "-b", "16", "-t", "wav", "-", "synth", "0.1", "sine", "997"], capture_output=True).stdout
         got = ran("from-wav", data=piped)
         judge(f"sox in a pipe: {got.stderr!r}", got.returncode == 0 and not got.stderr)
     for data, number, place, words in (
