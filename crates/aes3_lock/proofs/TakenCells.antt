@@ -1,13 +1,10 @@
 -- Many cells that a lock takes part by part.
-use Rattle.std.proofs.Common.{◌≡◌, ℕ, ◌+◌, ◌-◌, ◌<◌, ◌≤◌, List, [], ◌++◌, length, take, drop, refl, ap, ◌∙◌, sym, subst}
+use Rattle.std.proofs.Common.{◌≡◌, ◌+◌, ◌-◌, ◌<◌, List, [], ◌++◌, length, take, refl, ap, ◌∙◌, sym, subst}
 use Rattle.std.proofs.Common.{None, Some, Option, false, append-nil, append_assoc, arith, length-append}
 use Rattle.std.specs.Prelude.{option_map, option_to_list}
 use Rattle.std.specs.Option.{is_some}
-use Rattle.std.proofs.lemmas.List.{take-append-drop}
 use Rattle.std.proofs.Math.Seq.{take-append-add}
 use Rattle.aes3_level.specs.declared.level.Level.{Level}
-use Rattle.aes3_level.specs.Words.{low_cells}
-use Rattle.aes3_level.proofs.WordCells.{take-low_cells}
 use Rattle.aes3_lock.specs.declared.report.Ending.{Ending}
 use Rattle.aes3_lock.specs.Reports.{decided}
 use Rattle.aes3_lock.specs.Following.{Follows, HeldBlock, LockState, report_in}

@@ -6,9 +6,9 @@ ghost use Rattle.aes3_lock.specs.Candidates.{front};
 ghost use Rattle.aes3_lock.specs.Reports.{outcome_at, reports, told};
 ghost use Rattle.aes3_lock.specs.Following.{Filled};
 
-use crate::begun_subframe::{PREAMBLE_CELLS, candidate_in, with_cell, with_next};
+use crate::begun_subframe::{PREAMBLE_CELLS, with_cell, with_next};
 use crate::candidate::Candidate;
-use crate::report::{Report, ending_at, left_ending, report_with};
+use crate::report::{Report, report_with};
 use crate::rule::may_stand;
 use aes3_frame::{BLOCK_CELLS, GatheredCells, SUBFRAMES};
 use aes3_level::Level;
@@ -63,7 +63,7 @@ fn report_at(at: u64, cells: &[Level]) -> Option<Report>
     if cells.len() < 8 {
         return None;
     }
-    let Some(begun) = candidate_in(PREAMBLE_CELLS, first_eight(cells)) else {
+    let Some(begun) = Candidate::in_last_eight(PREAMBLE_CELLS, first_eight(cells)) else {
         return None;
     };
     let candidate = Candidate {
@@ -76,9 +76,9 @@ fn report_at(at: u64, cells: &[Level]) -> Option<Report>
     let gathered = GatheredCells::of_words(&words);
     let place = offset as usize;
     let ending = if place < cells.len() {
-        ending_at(candidate, offset, cells[place], previous, &gathered)
+        candidate.ended_by(offset, cells[place], previous, &gathered)
     } else {
-        left_ending(candidate, offset, &gathered)
+        candidate.cut_after(offset, &gathered)
     };
     Some(report_with(ending, &gathered))
 }

@@ -3,18 +3,16 @@
 
 ghost use Rattle.std.specs.Prelude.{◌≡◌, ◌+◌, ◌-◌, ◌%◌, ◌<◌, ◌≤◌, ◌^◌, [], ◌∷◌, ◌++◌, drop, take};
 ghost use Rattle.std.specs.Prelude.{ℕ, true, get_or, length};
-ghost use Rattle.std.specs.Option.{ForSome};
 ghost use Rattle.aes3_level.specs.Words.{level_of, low_cells, word_cells};
 ghost use Rattle.aes3_slot.specs.Rules.{at};
 ghost use Rattle.aes3_slot.specs.Fronts.{IsFrontOf};
 ghost use Rattle.aes3_frame.specs.Blocks.{mark_at};
 ghost use Rattle.aes3_frame.specs.Gathered.{IsRight};
-ghost use Rattle.aes3_lock.specs.Steps.{begins_a_block, begun, eight_with};
+ghost use Rattle.aes3_lock.specs.Steps.{eight_with};
 ghost use Rattle.aes3_lock.specs.Eights.{begun_before};
 
-use crate::candidate::Candidate;
 use aes3_level::Level;
-use aes3_slot::{Mark, mark_of, match_mark, wrong_cells_of_eight};
+use aes3_slot::{mark_of, wrong_cells_of_eight};
 use std::simd::prelude::*;
 
 /// How many cells a preamble has.
@@ -119,37 +117,6 @@ pub(crate) fn last_cell(recent: u8) -> Level
     } else {
         Level::High
     }
-}
-
-/// Whether a preamble is that of a block's first subframe.
-fn is_z(mark: Mark) -> bool
-    ensures { result ≡ begins_a_block mark }
-{
-    match mark {
-        Mark::Z => true,
-        Mark::X | Mark::Y => false,
-    }
-}
-
-/// The candidate that begins with the last eight of all `seen` cells, if they are preamble Z.
-pub(crate) fn candidate_in(seen: u64, recent: u8) -> Option<Candidate>
-    ensures value { result ≡ begun seen (low_cells 8 recent) }
-    ensures placed { ForSome result (λ t. t.at ≤ seen) }
-{
-    if seen < PREAMBLE_CELLS {
-        return None;
-    }
-    let Some((mark, before)) = match_mark(recent) else {
-        return None;
-    };
-    if !is_z(mark) {
-        return None;
-    }
-    Some(Candidate {
-        at: seen - PREAMBLE_CELLS,
-        before,
-        level: before,
-    })
 }
 
 /// The cells that begin the eight subframes that eight words complete: the `len` cells of `begun`,

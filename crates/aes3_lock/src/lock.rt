@@ -5,12 +5,12 @@
 mod one_by_one;
 
 use crate::begun_subframe::{
-    PREAMBLE_CELLS, are_subframes, candidate_in, complete_eight, complete_subframe, first_cell,
-    first_of, last_behind, last_cell, last_octet, last_of, rest_of, with_cell,
+    PREAMBLE_CELLS, are_subframes, complete_eight, complete_subframe, first_cell, first_of,
+    last_behind, last_cell, last_octet, last_of, rest_of, with_cell,
 };
 use crate::candidate::Candidate;
 use crate::parts::LockParts;
-use crate::report::{Ending, Pushed, Report, ending_at, left_ending, refutation, report_with};
+use crate::report::{Ending, Pushed, Report, report_with};
 use aes3_frame::{BLOCK_CELLS, GatheredCells, SUBFRAMES};
 use aes3_level::{Cells, Level};
 use aes3_slot::{SUBFRAME_CELLS, begins_subframe, block_preambles, mark_of, wrong_cells};
@@ -154,7 +154,7 @@ impl Lock {
         let Some(candidate) = self.candidate else {
             return None;
         };
-        Some(left_ending(candidate, self.seen - candidate.at, &self.words))
+        Some(candidate.cut_after(self.seen - candidate.at, &self.words))
     }
 
     /// Takes the end of the cells, and returns the report that it decides.
@@ -353,7 +353,7 @@ impl Lock {
         let begun = block_preambles(cells, rest_of(word, PREAMBLE_CELLS - 1));
         let taken = (begun.trailing_zeros() + 1).min(len);
         self.count(word, taken);
-        self.candidate = candidate_in(self.seen, self.recent);
+        self.candidate = Candidate::in_last_eight(self.seen, self.recent);
         self.subframe = u64::from(self.recent);
         taken
     }
@@ -375,10 +375,10 @@ impl Lock {
         };
         let previous = last_cell(self.recent);
         let offset = self.seen - candidate.at;
-        let ending = ending_at(candidate, offset, cell, previous, &self.words);
+        let ending = candidate.ended_by(offset, cell, previous, &self.words);
         self.recent = with_cell(self.recent, cell);
         self.seen += 1;
-        self.candidate = candidate_in(self.seen, self.recent);
+        self.candidate = Candidate::in_last_eight(self.seen, self.recent);
         self.subframe = u64::from(self.recent);
         ending
     }
@@ -403,11 +403,11 @@ impl Lock {
     {
         let cell = self.seen + u64::from(right);
         self.count(word, right + 1);
-        self.candidate = candidate_in(self.seen, self.recent);
+        self.candidate = Candidate::in_last_eight(self.seen, self.recent);
         self.subframe = u64::from(self.recent);
         Pushed {
             taken: right + 1,
-            ending: Some(refutation(candidate.at, cell)),
+            ending: Some(candidate.refuted_at(cell)),
         }
     }
 

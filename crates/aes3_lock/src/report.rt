@@ -1,10 +1,7 @@
-//! What a lock reports of a place at which a block may begin, and what ends a candidate.
+//! What a lock reports of a place at which a block may begin.
 
-use crate::begun_subframe::PREAMBLE_CELLS;
-use crate::candidate::Candidate;
-use aes3_frame::{BLOCK_CELLS, Block, GatheredCells};
+use aes3_frame::{Block, GatheredCells};
 use aes3_level::Level;
-use aes3_slot::SUBFRAME_CELLS;
 
 /// Why a cell refutes a candidate.
 #[derive(Clone, Copy, PartialEq, Eq, Debug)]
@@ -73,13 +70,9 @@ pub(crate) struct Pushed {
     pub(crate) ending: Option<Ending>,
 }
 
-ghost use Rattle.std.specs.Prelude.{◌≡◌, None, Some, ◌<◌, ◌≤◌, ◌+◌, ◌-◌, ◌^◌};
+ghost use Rattle.std.specs.Prelude.{◌≡◌, None, Some};
 ghost use Rattle.aes3_slot.specs.ReadWords.{read_words};
-ghost use Rattle.aes3_slot.specs.Reading.{differs, same};
-ghost use Rattle.aes3_lock.specs.declared.report.Ending.TheVariants.{Fault};
-ghost use Rattle.aes3_lock.specs.Outcomes.{block_outcome, why_of};
-ghost use Rattle.aes3_lock.specs.Reports.{ending_report, report_of};
-ghost use Rattle.aes3_lock.specs.Steps.{ended, left};
+ghost use Rattle.aes3_lock.specs.Reports.{ending_report};
 
 impl Pushed {
     /// `taken` cells that ended no candidate.
@@ -116,19 +109,6 @@ impl Default for Report {
     }
 }
 
-/// The ending of a block that is closed and has all its subframes.
-fn block_ending(at: u64, before: Level, words: &GatheredCells) -> Ending
-    ensures { ending_report (read_words words.now) result
-        ≡ report_of at (block_outcome before (read_words words.now)) }
-{
-    let wrong = words.wrong_parities();
-    if wrong == 0 {
-        Ending::Whole { at, before }
-    } else {
-        Ending::Marked { at, before, wrong }
-    }
-}
-
 /// The report of an ending, with the block whose subframes have these cells.
 // Inlined, as `block` is, so that no caller has copies of a block on its stack.
 #[inline(always)]
@@ -144,72 +124,5 @@ pub(crate) fn report_with(ending: Ending, words: &GatheredCells) -> Report
         Ending::Marked { at, before, wrong } => Report::Marked { at, before, wrong },
         Ending::Fault { at, cell, why } => Report::Fault { at, cell, why },
         Ending::Unfinished { at, cells } => Report::Unfinished { at, cells },
-    }
-}
-
-/// Why the cell at `offset` refutes a candidate.
-fn reason(offset: u64) -> Why
-    ensures { result ≡ why_of offset }
-{
-    if offset == BLOCK_CELLS {
-        Why::Unclosed
-    } else if offset % SUBFRAME_CELLS < PREAMBLE_CELLS {
-        Why::Preamble
-    } else {
-        Why::Biphase
-    }
-}
-
-/// The ending of the candidate at `at`, which the cell at `cell` refutes.
-pub(crate) fn refutation(at: u64, cell: u64) -> Ending
-    requires { at ≤ cell }
-    ensures { result ≡ Fault at cell (why_of (cell - at)) }
-{
-    Ending::Fault {
-        at,
-        cell,
-        why: reason(cell - at),
-    }
-}
-
-/// Whether the level changes between two cells.
-fn turns(previous: Level, cell: Level) -> bool
-    ensures { result ≡ differs previous cell }
-{
-    cell != previous
-}
-
-/// How a cell at this offset ends a candidate.
-pub(crate) fn ending_at(
-    candidate: Candidate,
-    offset: u64,
-    cell: Level,
-    previous: Level,
-    words: &GatheredCells,
-) -> Ending
-    requires { candidate.at + offset < 2 ^ 64 }
-    ensures { ending_report (read_words words.now) result
-        ≡ report_of candidate.at (ended candidate.before offset (same cell previous)
-        (read_words words.now)) }
-{
-    if offset >= BLOCK_CELLS && turns(previous, cell) {
-        block_ending(candidate.at, candidate.before, words)
-    } else {
-        refutation(candidate.at, candidate.at + offset)
-    }
-}
-
-/// How the end of the cells ends a candidate of which only `cells` cells came.
-pub(crate) fn left_ending(candidate: Candidate, cells: u64, words: &GatheredCells) -> Ending
-    ensures { ending_report (read_words words.now) result
-        ≡ report_of candidate.at (left candidate.before cells (read_words words.now)) }
-{
-    if cells >= BLOCK_CELLS {
-        block_ending(candidate.at, candidate.before, words)
-    } else {
-        Ending::Unfinished {
-            at: candidate.at,
-            cells,
-        }
     }
 }

@@ -12,12 +12,12 @@ returns-then-cells-lt8 c = sym (ap (told c.args.at) (outcome_at-short c.args.cel
 
 pub returns-in_default : goal.returns-in_default
 returns-in_default c = sym (ap (told c.args.at) (outcome_at-none c.args.cells.now (omega arith)
-    (ap (begun 8) (sym c.first_eight.ensures) ∙ sym c.candidate_in.ensures.value ∙ c.in_default.is)))
+    (ap (begun 8) (sym c.first_eight.ensures) ∙ sym c.in_last_eight.ensures.value ∙ c.in_default.is)))
 
 pub returns : goal.returns
 returns c =
     let e = outcome_at-some c.args.cells.now c.in-Some.begun (omega arith)
-    (ap (begun 8) (sym c.first_eight.ensures) ∙ sym c.candidate_in.ensures.value ∙ c.in-Some.is) in
+    (ap (begun 8) (sym c.first_eight.ensures) ∙ sym c.in_last_eight.ensures.value ∙ c.in-Some.is) in
     sym (ap (told c.args.at) e.0 ∙ ap (λ r. r ∷ []) (elim c.if-place-cells.branch [
       | then-place-cells w ↦ ap (report_of c.args.at)
           (place-ended c.args.cells.now c.in-Some.begun.before c.of_words-gathered.result c.go_through-offset.result.0
@@ -26,7 +26,7 @@ returns c =
           (subst (λ ws. Filled ws (take c.go_through-offset.result.0 c.args.cells.now))
           (sym c.of_words-gathered.ensures.words) c.go_through-offset.ensures.words)
           c.of_words-gathered.ensures.len (omega arith))
-          ∙ sym (ap (ending_report (read_words c.of_words-gathered.result)) w.ending-is ∙ w.ending_at-ending.ensures)
+          ∙ sym (ap (ending_report (read_words c.of_words-gathered.result)) w.ending-is ∙ w.ended_by-ending.ensures)
       | else-place-cells w ↦ ap (report_of c.args.at)
           (place-left c.args.cells.now c.in-Some.begun.before c.of_words-gathered.result c.go_through-offset.result.0
           c.go_through-offset.result.1 e.1
@@ -34,5 +34,5 @@ returns c =
           (subst (λ ws. Filled ws (take c.go_through-offset.result.0 c.args.cells.now))
           (sym c.of_words-gathered.ensures.words) c.go_through-offset.ensures.words)
           c.of_words-gathered.ensures.len (omega arith))
-          ∙ sym (ap (ending_report (read_words c.of_words-gathered.result)) w.ending-is ∙ w.left_ending-ending.ensures)
+          ∙ sym (ap (ending_report (read_words c.of_words-gathered.result)) w.ending-is ∙ w.cut_after-ending.ensures)
     ] ∙ sym c.report_with.ensures))

@@ -13,11 +13,11 @@ pub returns-clause-report : goal.returns-clause-report
 returns-clause-report c = λ l f.
     finish-open _ c.in-Some.candidate l
     (subst (λ k. Follows k l) (sym c.self.view_is) f) c.self.invariant.1 c.in-Some.is
-    ∙ ap (λ r. decided l ++ r ∷ []) (sym c.left_ending.ensures
-    ∙ ap (λ k. report_in k c.left_ending.result) c.self.view_is)
+    ∙ ap (λ r. decided l ++ r ∷ []) (sym c.cut_after.ensures
+    ∙ ap (λ k. report_in k c.cut_after.result) c.self.view_is)
 
 pub returns-clause-held : goal.returns-clause-held
 returns-clause-held c = λ l f.
-    subst (λ k. HeldBlock k.words l (Some c.left_ending.result)) c.self.view_is
+    subst (λ k. HeldBlock k.words l (Some c.cut_after.result)) c.self.view_is
     (held-end _ c.in-Some.candidate l (subst (λ k. Follows k l) (sym c.self.view_is) f) c.self.invariant.1 c.in-Some.is
-    c.left_ending.result c.left_ending.ensures)
+    c.cut_after.result c.cut_after.ensures)

@@ -10,7 +10,7 @@ abbrev after : goal.After-self-2-1 → LockState
 after c = record {
   seen = c.self-2.inside.seen;
   recent = low_cells 8 c.self-2.inside.recent;
-  candidate = c.candidate_in-self-inside.result;
+  candidate = c.in_last_eight-self-inside.result;
   subframe = c.from-self-inside.result;
   words = c.self-2.inside.words;
 }
@@ -29,7 +29,7 @@ both c l f =
     c.block_preambles-begun.ensures (omega (arith, m, r)) (omega (arith, m)) (omega (arith, m, r))
     (ap (λ (k : LockState). k.seen) c.self-2.view_is ∙ c.count.ensures.seen)
     (ap (λ (k : LockState). k.recent) c.self-2.view_is ∙ c.count.ensures.recent)
-    c.candidate_in-self-inside.ensures.value (ap (low_cells 8) (sym c.from-self-inside.ensures))
+    c.in_last_eight-self-inside.ensures.value (ap (low_cells 8) (sym c.from-self-inside.ensures))
     (let e = c.from-self-inside.ensures in omega (arith, e))
 
 pub returns-clause-follows : goal.returns-clause-follows

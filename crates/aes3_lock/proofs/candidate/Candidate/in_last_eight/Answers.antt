@@ -4,7 +4,7 @@ use Rattle.aes3_level.specs.Words.{low_cells}
 use Rattle.aes3_slot.specs.declared.mark.Mark.TheVariants.{Z}
 use Rattle.aes3_slot.specs.Slots.{mark_runs}
 use Rattle.aes3_lock.proofs.Codes.{begun-Z, begun-short, begun-other, mark-Z, other-mark}
-use Rattle.aes3_lock.proofs.begun_subframe.candidate_in.Goals as goal
+use Rattle.aes3_lock.proofs.candidate.Candidate.in_last_eight.Goals as goal
 use Rattle.std.proofs.lemmas.Option.{none-some}
 
 pub returns-then-seen-lt-PREAMBLE_CELLS-clause-value : goal.returns-then-seen-lt-PREAMBLE_CELLS-clause-value

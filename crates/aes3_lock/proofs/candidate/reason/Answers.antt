@@ -1,6 +1,6 @@
 use Rattle.std.proofs.Common.{◌≡◌, ◌%◌, eqb, ltb, true, false, refl, arith, eq-eqb, ne_eqb, lt-ltb, le-ltb}
 use Rattle.aes3_frame.specs.Blocks.{block_len}
-use Rattle.aes3_lock.proofs.report.reason.Goals as goal
+use Rattle.aes3_lock.proofs.candidate.reason.Goals as goal
 use Rattle.aes3_frame.proofs.CellLaws.{block_len_24576}
 
 pub returns-then-offset-eq-BLOCK_CELLS : goal.returns-then-offset-eq-BLOCK_CELLS
