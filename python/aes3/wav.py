@@ -5,6 +5,7 @@ from __future__ import annotations
 import array
 import ctypes as c
 import os
+import warnings
 from typing import IO, TYPE_CHECKING, Any, Iterable, List, NamedTuple, Optional, Tuple, Union
 
 from aes3 import calls
@@ -37,6 +38,8 @@ _WHYS = {
 }
 _FORMATS = {2: "ADPCM", 3: "floating point", 6: "A-law", 7: "mu-law", 17: "ADPCM", 80: "MPEG audio", 85: "MP3"}
 _EXTENSIBLE = 0xFFFE
+# Lengths that programs give which write a WAV file to a pipe, as they can't know the right one yet.
+_PLACEHOLDERS = range(0x7FFFF000, 0x80000000)
 
 
 class Wav(NamedTuple):
@@ -67,6 +70,7 @@ def read_wav(file: File, channels: Optional[Tuple[int, int]] = None) -> Wav:
                or the only one twice.
 
     ValueError where the header is wrong or the samples are not PCM, where they end inside a frame, and where a channel is not there.
+    A warning where the file has fewer samples than its header says.
     """
     octets = _octets_of(file)
     header = _header_of(octets)
@@ -75,6 +79,8 @@ def read_wav(file: File, channels: Optional[Tuple[int, int]] = None) -> Wav:
     count = min(header.len, len(octets) - header.start)
     if count % frame:
         raise ValueError(f"octet {header.start + count}: the samples end inside a frame of {frame:,} octets")
+    if header.len not in (count, _UNKNOWN) and header.len not in _PLACEHOLDERS:
+        warnings.warn(f"the file is cut short: {header.len - count:,} octets of samples are missing", stacklevel=2)
     samples: Any
     if numpy is not None:
         samples = numpy.empty((count // frame, 2), numpy.int32)

@@ -16,6 +16,7 @@ import struct
 import sys
 import tempfile
 import traceback
+import warnings
 import wave
 
 import aes3
@@ -529,6 +530,25 @@ def check_written_wav():
     assert flat(aes3.read_wav(name).samples) == []
     os.remove(name)
     os.rmdir(os.path.dirname(name))
+
+
+def check_short_wavs():
+    """A file that is cut short is read as far as it goes, with a warning; one that was written to a pipe without one."""
+    file = sound()
+    size = file.index(b"data") + 4
+    for octets, want in (
+        (file, []),
+        (file[:-4], ["the file is cut short: 4 octets of samples are missing"]),
+        (file[: size + 4], ["the file is cut short: 2,000 octets of samples are missing"]),
+        (file[:size] + struct.pack("<I", 0x7FFFF000) + file[size + 4 :], []),
+        (file[:size] + struct.pack("<I", 0x80000000) + file[size + 4 :], ["the file is cut short: 2,147,481,648 octets of samples are missing"]),
+        (file + b"LIST", []),
+    ):
+        with warnings.catch_warnings(record=True) as told:
+            warnings.simplefilter("always")
+            found = aes3.read_wav(io.BytesIO(octets))
+        assert [str(it.message) for it in told] == want and all(it.filename == __file__ for it in told), (told, want)
+        assert flat(found.samples) == [it << 16 for it in range(1000)][: (len(octets) - size - 4) // 2][:1000]
 
 
 def check_wrong_wavs():
