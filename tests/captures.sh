@@ -152,6 +152,23 @@ judge "$cells cells in the time of $spent" [ $((cells - spent)) -ge -40 -a $((ce
 { cat one; head -c 200000 /dev/urandom; cat two; } >capture
 judge "noise between two lines" sent_back 19
 
+# A line that drops to a half, a third or a quarter of its rate without a pause: samples are named in which it is so, and no others, whether the
+# line has the most edges that one can have or the fewest.
+for drop in 7.8125 11.71875 15.625; do
+    for bits in silence=1 full=1; do
+        "$python" "$here/line.py" "$drop" slow blocks=25 rms=0.2 "$bits"
+        cat one slow >capture
+        "$program" <capture 2>told >cells
+        range=$(sed -n 's/^aes3-cells: from sample \([0-9]*\) to \([0-9]*\) edges are too far apart .*/\1 \2/p' told)
+        judge "a line that drops to $drop samples a cell, $bits: $range" [ "${range#* }" -gt "$(wc -c <one)" -a "${range% *}" -lt "$(wc -c <capture)" ]
+    done
+done
+"$python" "$here/line.py" 3.90625 slow blocks=25 rms=0.2 silence=1
+cat one slow one >capture
+judge "silence has edges enough" sh -c "'$program' <capture 2>told >cells && ! grep -q 'too far apart' told"
+{ cat one; head -c 5000000 /dev/zero; cat one; } >capture
+judge "a dead stretch has no edges to count" sh -c "'$program' <capture 2>told >cells && ! grep -q 'too far apart' told"
+
 # Packed cells are those of the text; pieces of any size are one capture.
 "$program" <one 2>told >text
 "$program" --packed-out <one 2>told >packed

@@ -1,6 +1,6 @@
 -- A run over samples that pauses, and goes on.
-use Rattle.std.proofs.Common.{◌≡◌, ◌∙◌, ℕ, ◌+◌, ◌-◌, ◌≤◌, ◌^◌, ◌⊎◌, inl, inr, arith, ap, sym, subst, append_assoc}
-use Rattle.std.proofs.Common.{Bool, IsTrue, List, [], ◌∷◌, ◌++◌, Option, None, Result, Ok, Err, append-nil}
+use Rattle.std.proofs.Common.{◌≡◌, ◌∙◌, ℕ, ◌-◌, ◌≤◌, ◌^◌, ◌⊎◌, inl, inr, arith, ap, sym, subst, append_assoc}
+use Rattle.std.proofs.Common.{Bool, IsTrue, true, false, List, [], ◌∷◌, ◌++◌, Option, None, Result, Ok, Err, append-nil}
 use Rattle.std.proofs.Common.{length, length-append}
 use Rattle.std.proofs.Common.{refl}
 use Rattle.std.specs.List.{concat}
@@ -51,6 +51,10 @@ took-then-all {taken = taken} {new = new} {after = after} first second p q = rec
 
 pub paused-apart : Paused ≡ Ended → ⊥
 paused-apart is = cc
+
+-- what is due is not what was not asked for
+pub due-apart : {due : Bool} → due ≡ true → due ≡ false → ⊥
+due-apart is isnt = cc
 
 none-whole : (unit : Unit) → AreWhole unit 0
 none-whole (Octets bit) = omega arith

@@ -4,4 +4,5 @@ pub mod Faults
 pub mod Lines
 pub mod Runs
 pub mod Samples
+pub mod Sparse
 pub mod Values

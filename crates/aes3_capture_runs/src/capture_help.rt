@@ -13,8 +13,9 @@ level, 0 or 1. A sample has one octet, or with --unit 2 two octets, the lower on
 Without --bit it takes the lowest bit that has an AES3 line in the first 1,048,576
 octets. If no bit has one, it takes bit 0. A cell has 2.015625 to 8000 samples. The
 program measures how many, and measures again after each stretch without an AES3 line.
-It does not notice if the line changes to a half, a third or a quarter of its rate
-without such a stretch. Then `aes3 check --gaps` prints gaps.
+If the line changes to a half, a third or a quarter of its rate without such a stretch,
+its cells from there on are wrong, and `aes3 check --gaps` prints gaps. If that lasts
+for 2,097,152 samples and 4,096 cells, an output line at the end warns of it.
 With --rate and --at a cell has --rate / (128 * --at) samples. HZ is a number such as
 24000000, 24M, 24000k or 44.1k.
 

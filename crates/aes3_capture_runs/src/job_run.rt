@@ -1,6 +1,6 @@
 //! Runs of jobs: on a file or standard input, and between any source and sink.
 
-ghost use Rattle.std.specs.Prelude.{◌≡◌, ◌<◌, ◌≤◌, ◌+◌, ◌^◌, ◌⊎◌, IfErr, IfOk, IsTrue, List, None, OnErr, ℕ};
+ghost use Rattle.std.specs.Prelude.{◌≡◌, ◌<◌, ◌≤◌, ◌+◌, ◌^◌, ◌⊎◌, IfErr, IfOk, IsTrue, List, None, OnErr, false, ℕ};
 ghost use Rattle.aes3_cell.specs.Ends.{Grew};
 ghost use Rattle.aes3_input.specs.Running.{movement_of};
 ghost use Rattle.aes3_capture_recovery.specs.Reading.{FailedAt, ReadSamples};
@@ -10,6 +10,7 @@ ghost use Rattle.aes3_capture_runs.specs.Runs.{EndSaid, FaultRan, IsNothing, Job
 ghost use Rattle.aes3_capture_runs.specs.Runs.{memory_text, refusal_text};
 
 use crate::capture_job::{Job, unit_of_job};
+use crate::edge_watch::EdgeWatch;
 use crate::figures::{figures_line, found_text, no_line_text};
 use crate::line_bit::line_bit;
 use crate::look::Look;
@@ -28,6 +29,9 @@ use std::io::{self, IsTerminal};
 
 /// The exit status if no line was found.
 pub const NO_LINE: u8 = 1;
+
+/// After how many samples the line's edges are counted.
+const WATCHED: u64 = 1 << 20;
 
 /// Runs the job on what it reads, if that can be a capture, and returns the exit status. `shown`
 /// says whether a line of progress is on standard error.
@@ -225,8 +229,9 @@ fn say_figures<E: Sink>(
     }
 }
 
-/// Recovers the cells of what the source gives, and says during the run what was found of the line,
-/// if that is asked for. Once it fails to say it, it says no more.
+/// Recovers the cells of what the source gives, and watches the line's edges. It says during the
+/// run what was found of the line, if that is asked for. Once it fails to say it, it says no more,
+/// and watches no longer.
 ///
 /// # Errors
 /// Whether the input, the output or memory failed.
@@ -235,6 +240,7 @@ fn recover_telling<S: Source, T: Sink, E: Sink>(
     job: &Job<'_>,
     unit: Unit,
     recovery: &mut Recovery,
+    watch: &mut EdgeWatch,
     source: &mut S,
     sink: &mut T,
     messages: &mut E,
@@ -261,17 +267,40 @@ fn recover_telling<S: Source, T: Sink, E: Sink>(
 {
     let mut until = job.tell_each;
     'tells: for _ in 0..u64::MAX {
-        match recover(source, sink, unit, recovery, until) {
+        let before = recovery.figures();
+        let pause = next_pause(until, before.samples);
+        match recover(source, sink, unit, recovery, Some(pause)) {
             Ok(Progress::Paused) => {}
             end => return end,
         }
         let figures = recovery.figures();
-        if !say_figures(alloc, &figures, job.rate, messages) {
-            return recover(source, sink, unit, recovery, None);
+        watch.note(&figures);
+        if is_telling_due(until, before.dead, &figures) {
+            if !say_figures(alloc, &figures, job.rate, messages) {
+                return recover(source, sink, unit, recovery, None);
+            }
+            until = next_telling(until, job.tell_each, figures.samples);
         }
-        until = next_telling(until, job.tell_each, figures.samples);
     }
     recover(source, sink, unit, recovery, None)
+}
+
+/// How many samples there will be before the watch counts edges, or before the next report at
+/// `until` samples.
+fn next_pause(until: Option<u64>, samples: u64) -> u64 {
+    let watched = samples.saturating_add(WATCHED);
+    until.unwrap_or(watched).min(watched)
+}
+
+/// Whether it has to say what was found: `until` samples have come, or another stretch without
+/// signal after the first `dead`.
+fn is_telling_due(until: Option<u64>, dead: u64, figures: &Figures) -> bool
+    ensures { until ≡ None → result ≡ false }
+{
+    match until {
+        Some(until) => figures.samples >= until || figures.dead != dead,
+        None => false,
+    }
 }
 
 /// The number of samples at which it reports next, once `until` samples have come.
@@ -306,6 +335,7 @@ fn say_end<E: Sink>(
     job: &Job<'_>,
     look: &Look,
     recovery: &Recovery,
+    watch: &EdgeWatch,
     messages: &mut E,
 ) -> u8
     requires { E.failed messages.old + 1 < 2 ^ 64 }
@@ -326,7 +356,7 @@ fn say_end<E: Sink>(
             Err(_) => say_memory(messages),
         }
     } else {
-        match found_text(alloc, &figures, job.rate) {
+        match found_text(alloc, &figures, job.rate, watch.sparse_until(&figures)) {
             Ok(text) => {
                 say(&text, messages);
                 DONE
@@ -370,8 +400,18 @@ pub fn run_job<S: Source, T: Sink, E: Sink>(
     let unit = unit_of_job(job, found);
     say_bit(found, messages);
     let mut recovery = Recovery::new(job.form, job.period);
-    match recover_telling(alloc, job, unit, &mut recovery, source, sink, messages) {
-        Ok(_) => say_end(alloc, job, look, &recovery, messages),
+    let mut watch = EdgeWatch::new();
+    match recover_telling(
+        alloc,
+        job,
+        unit,
+        &mut recovery,
+        &mut watch,
+        source,
+        sink,
+        messages,
+    ) {
+        Ok(_) => say_end(alloc, job, look, &recovery, &watch, messages),
         Err(refusal) => say_refusal(refusal, messages),
     }
 }

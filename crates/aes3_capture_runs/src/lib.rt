@@ -8,6 +8,8 @@ mod capture_argument;
 mod capture_help;
 /// What the words of a command line ask for.
 mod capture_job;
+/// Samples in which a line has too few edges.
+mod edge_watch;
 /// The lines that say what was found.
 mod figures;
 /// A job on a file, standard input or any source and sink, and what is reported of it.
