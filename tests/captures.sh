@@ -159,15 +159,17 @@ for drop in 7.8125 11.71875 15.625; do
         "$python" "$here/line.py" "$drop" slow blocks=25 rms=0.2 "$bits"
         cat one slow >capture
         "$program" <capture 2>told >cells
-        range=$(sed -n 's/^aes3-cells: from sample \([0-9]*\) to \([0-9]*\) edges are too far apart .*/\1 \2/p' told)
-        judge "a line that drops to $drop samples a cell, $bits: $range" [ "${range#* }" -gt "$(wc -c <one)" -a "${range% *}" -lt "$(wc -c <capture)" ]
+        range=$(sed -n 's/^aes3-cells: from sample \([0-9]*\) to \([0-9]*\) the line has too few edges.*/\1 \2/p' told)
+        from=${range% *} to=${range#* }
+        judge "a line that drops to $drop samples a cell, $bits: $range" [ "$to" -gt "$(wc -c <one)" -a "$to" -le "$(($(wc -c <one) + 4194304))" -a $((to - from)) -le 2097152 ]
+        judge "its rest is a line" eval '"$program" capture 2>&1 >cells | sed -n "s/.*\`tail -c \(+[0-9]*\)\`.*/\1/p" >rest && tail -c "$(cat rest)" capture | "$program" 2>told | "$aes3" check | grep -q whole && ! grep -q "too few edges" told'
     done
 done
 "$python" "$here/line.py" 3.90625 slow blocks=25 rms=0.2 silence=1
 cat one slow one >capture
-judge "silence has edges enough" sh -c "'$program' <capture 2>told >cells && ! grep -q 'too far apart' told"
+judge "silence has edges enough" sh -c "'$program' <capture 2>told >cells && ! grep -q 'too few edges' told"
 { cat one; head -c 5000000 /dev/zero; cat one; } >capture
-judge "a dead stretch has no edges to count" sh -c "'$program' <capture 2>told >cells && ! grep -q 'too far apart' told"
+judge "a dead stretch has no edges to count" sh -c "'$program' <capture 2>told >cells && ! grep -q 'too few edges' told"
 
 # Packed cells are those of the text; pieces of any size are one capture.
 "$program" <one 2>told >text

@@ -125,7 +125,7 @@ module _ (job : Job) (found : Option ℕ) (told told_now told_next : Option (Lis
     said = elim end.said [
       | inl none ↦ inl (none.0, none.1, (none.2.0, said-joined (no_line_text end.figures job.period none.2.0) none.2.1))
       | inr some ↦ inr (elim some [
-        | inl line ↦ inl (line.0, line.1, (line.2.0, line.2.1, line.2.2, said-joined line.2.1 line.2.3))
+        | inl line ↦ inl (line.0, line.1, (line.2.0, line.2.1, said-joined line.2.0 line.2.2))
         | inr memory ↦ inr (memory.0, said-joined memory_text memory.1)
       ])
     ];

@@ -3,7 +3,6 @@ use Rattle.std.specs.Prelude.{ℕ, List, [], ◌++◌, ◌≡◌, ◌≤◌, ◌
 use Rattle.std.specs.Prelude.{◌≢◌, ◌⊎◌, ◌&&◌, Bool, Option, Some, None, zero, suc, codes, decimal, if◌then◌else◌}
 use Rattle.std.specs.Prelude.{max, min, nat_le, nat_lt}
 use Rattle.aes3_capture_recovery.specs.declared.figures.Figures.{Figures}
-use Rattle.aes3_capture_runs.specs.declared.edge_watch.SparseSamples.{SparseSamples}
 
 -- a number of so many thousandths
 abbrev pub thousandths : ℕ → List ℕ
@@ -114,24 +113,12 @@ doubt_text figures =
     else if nat_le 400 (distance_of figures) then distance_text (distance_of figures)
     else []
 
--- where the line had too few edges; nothing if it had not
-abbrev pub distant_text : SparseSamples → List ℕ
-distant_text sparse =
-    codes "aes3-cells: from sample " ++ decimal sparse.from ++ codes " to " ++ decimal sparse.to
-    ++ codes
-    " edges are too far apart for an AES3 line of this rate, so cells are likely to be wrong: if the rate changes there, recover both parts by themselves\n"
-
-abbrev pub sparse_text : Option SparseSamples → List ℕ
-sparse_text None = []
-sparse_text (Some sparse) = distant_text sparse
-
 -- what is said at the end of a capture in which a line was found: the line of what was found in all, and why cells are
 -- likely to be wrong
-pub record IsFoundText (figures : Figures) (rate : Option ℕ) (sparse : Option SparseSamples) (text : List ℕ) : Type 0
-  where
-    pub line : List ℕ
-    pub found : IsFoundLine figures (period_in_all figures) rate line
-    pub is : text ≡ line ++ doubt_text figures ++ sparse_text sparse
+pub record IsFoundText (figures : Figures) (rate : Option ℕ) (text : List ℕ) : Type 0 where
+  pub line : List ℕ
+  pub found : IsFoundLine figures (period_in_all figures) rate line
+  pub is : text ≡ line ++ doubt_text figures
 
 -- the line of the bit in which a line was found
 abbrev pub bit_text : ℕ → List ℕ

@@ -20,7 +20,6 @@ use Rattle.aes3_capture_recovery.specs.declared.recovery_run.Refusal.TheVariants
 use Rattle.aes3_capture_runs.specs.Lines.{IsFiguresLine, IsFoundText, bit_line, no_line_text}
 use Rattle.aes3_capture_runs.specs.Samples.{unit_of_job}
 use Rattle.aes3_capture_runs.specs.declared.capture_job.Job.{Job}
-use Rattle.aes3_capture_runs.specs.declared.edge_watch.SparseSamples.{SparseSamples}
 use Rattle.aes3_cli.specs.declared.unread.Unread.{Unread}
 use Rattle.aes3_cli.specs.declared.unread.Unread.TheVariants as unread
 
@@ -96,8 +95,7 @@ IsNoLine before job figures messages status =
 abbrev pub IsLine : (List ℕ → Type 0) → Job → Figures → Movement → ℕ → Type 0
 IsLine before job figures messages status =
     (figures.measured ≢ 0) × (status ≡ 0)
-    × ((sparse : Option SparseSamples) × (text : List ℕ) × IsFoundText figures job.rate sparse text
-    × IsSaid before messages text)
+    × ((text : List ℕ) × IsFoundText figures job.rate text × IsSaid before messages text)
 
 -- the same, or memory for that text was refused
 pub record EndSaid (before : List ℕ → Type 0) (job : Job) (now : Recovery) (messages : Movement) (status : ℕ)

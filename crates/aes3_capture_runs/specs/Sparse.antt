@@ -15,8 +15,7 @@ was_followed before now =
     && (now.dead == before.dead) && nat_lt 0 (now.edges - before.edges)
 
 -- It had more than 33 cells for each 16 edges. An AES3 line has at most two cells for each edge, but for those at the two
--- ends: each time slot of two cells begins with an edge, and a preamble of eight has four. So this is said of 2,048 cells
--- or more.
+-- ends: each time slot of two cells begins with an edge, and a preamble of eight has four.
 abbrev pub has_few_edges : Figures → Figures → Bool
 has_few_edges before now =
     was_followed before now && is_due before now

@@ -15,7 +15,7 @@ octets. If no bit has one, it takes bit 0. A cell has 2.015625 to 8000 samples. 
 program measures how many, and measures again after each stretch without an AES3 line.
 If the line changes to a half, a third or a quarter of its rate without such a stretch,
 its cells from there on are wrong, and `aes3 check --gaps` prints gaps. If that lasts
-for 2,097,152 samples and 4,096 cells, an output line at the end warns of it.
+for 8,192 cells and for 4,194,304 samples, an output line at the end warns of it.
 With --rate and --at a cell has --rate / (128 * --at) samples. HZ is a number such as
 24000000, 24M, 24000k or 44.1k.
 

@@ -6,8 +6,8 @@ ghost use Rattle.aes3_capture_runs.specs.Sparse.{has_few_edges, is_due, sparse_s
 
 use aes3_capture_recovery::Figures;
 
-/// The least number of cells whose edges are counted: of fewer, the time slots that are cut at the
-/// ends would show.
+/// The least number of cells whose edges are counted: of few cells, the time slots that are cut at
+/// the two ends would show.
 const CELLS_OF_COUNT: u64 = 2_048;
 
 /// Samples in which a line that is followed has too few edges.
@@ -41,7 +41,8 @@ impl EdgeWatch {
         }
     }
 
-    /// Takes what was found of the line up to now, and counts its edges if enough cells came.
+    /// Takes what was found of the line up to now, in the middle of a capture, and counts its edges
+    /// if enough cells came. (At the end, cells are given that no edge has ended.)
     pub fn note(&mut self, figures: &Figures)
         ensures latest { is_due self.old.latest figures.now ≡ true → self.new.latest ≡ figures.now }
         ensures sparse { is_due self.old.latest figures.now ≡ true → self.new.sparse
@@ -49,16 +50,16 @@ impl EdgeWatch {
         ensures unchanged { is_due self.old.latest figures.now ≡ false → self.new ≡ self.old }
     {
         if cells_between(&self.latest, figures) >= CELLS_OF_COUNT {
-            self.sparse = self.sparse_until(figures);
+            self.sparse = self.sparse.or(sparse_samples(&self.latest, figures));
             self.latest = *figures;
         }
     }
 
-    /// The first samples with too few edges, if these figures are those at the end.
-    pub fn sparse_until(&self, figures: &Figures) -> Option<SparseSamples>
-        ensures { result ≡ option_or self.now.sparse (sparse_samples self.now.latest figures.now) }
+    /// The first samples with too few edges, if there are any.
+    pub fn sparse(&self) -> Option<SparseSamples>
+        ensures { result ≡ self.now.sparse }
     {
-        self.sparse.or(sparse_samples(&self.latest, figures))
+        self.sparse
     }
 }
 

@@ -2,12 +2,11 @@
 
 ghost use Rattle.std.specs.Prelude.{◌≡◌, ◌++◌, IfOk, decimal};
 ghost use Rattle.aes3_capture_runs.specs.Lines.{IsFiguresLine, IsFoundLine, IsFoundText, IsMean, cells_text};
-ghost use Rattle.aes3_capture_runs.specs.Lines.{dead_text, distance_of, distance_text, distant_text, doubt_text, edges_text};
+ghost use Rattle.aes3_capture_runs.specs.Lines.{dead_text, distance_of, distance_text, doubt_text, edges_text};
 ghost use Rattle.aes3_capture_runs.specs.Lines.{found_behind, frequency_text, has_average, latest_text, lost_text};
 ghost use Rattle.aes3_capture_runs.specs.Lines.{no_line_text, no_line_yet_text, period_in_all, period_text};
-ghost use Rattle.aes3_capture_runs.specs.Lines.{reason_text, sparse_text, thousandths, was_lost};
+ghost use Rattle.aes3_capture_runs.specs.Lines.{reason_text, thousandths, was_lost};
 
-use crate::edge_watch::SparseSamples;
 use aes3_capture_recovery::Figures;
 use itoa::Buffer;
 use std::alloc::{AllocError, Global};
@@ -216,17 +215,11 @@ pub fn figures_line(
 ///
 /// # Errors
 /// `AllocError` if there is no memory.
-pub fn found_text(
-    alloc: Global,
-    figures: &Figures,
-    rate: Option<u64>,
-    sparse: Option<SparseSamples>,
-) -> Result<String, AllocError>
-    ensures { IfOk result (λ text. IsFoundText figures.now rate sparse text.bytes.items) }
+pub fn found_text(alloc: Global, figures: &Figures, rate: Option<u64>) -> Result<String, AllocError>
+    ensures { IfOk result (λ text. IsFoundText figures.now rate text.bytes.items) }
 {
     let mut text = found_line(alloc, figures, period_in_all(figures), rate)?;
     add_doubt(&mut text, figures)?;
-    add_sparse(&mut text, sparse)?;
     Ok(text)
 }
 
@@ -323,28 +316,5 @@ fn add_doubt(text: &mut String, figures: &Figures) -> Result<(), AllocError>
         add_distance(text, distance)
     } else {
         Ok(())
-    }
-}
-
-/// Appends where the line had too few edges.
-fn add_distant(text: &mut String, sparse: SparseSamples) -> Result<(), AllocError>
-    ensures { IfOk result (λ _. text.new.bytes.items ≡ text.old.bytes.items ++ distant_text sparse) }
-{
-    text.push_str("aes3-cells: from sample ")?;
-    add_number(text, sparse.from)?;
-    text.push_str(" to ")?;
-    add_number(text, sparse.to)?;
-    text.push_str(
-        " edges are too far apart for an AES3 line of this rate, so cells are likely to be wrong: if the rate changes there, recover both parts by themselves\n",
-    )
-}
-
-/// Appends where the line had too few edges, if it had.
-fn add_sparse(text: &mut String, sparse: Option<SparseSamples>) -> Result<(), AllocError>
-    ensures { IfOk result (λ _. text.new.bytes.items ≡ text.old.bytes.items ++ sparse_text sparse) }
-{
-    match sparse {
-        Some(sparse) => add_distant(text, sparse),
-        None => Ok(()),
     }
 }

@@ -10,7 +10,7 @@ ghost use Rattle.aes3_capture_runs.specs.Runs.{EndSaid, FaultRan, IsNothing, Job
 ghost use Rattle.aes3_capture_runs.specs.Runs.{memory_text, refusal_text};
 
 use crate::capture_job::{Job, unit_of_job};
-use crate::edge_watch::EdgeWatch;
+use crate::edge_watch::{EdgeWatch, SparseSamples};
 use crate::figures::{figures_line, found_text, no_line_text};
 use crate::line_bit::line_bit;
 use crate::look::Look;
@@ -69,6 +69,7 @@ pub fn run_capture<E: Sink>(
     let is_shown = rt.stdout().is_terminal();
     let output = Clearing::new(StdSink::new(rt.stdout().lock()), told, shown, is_shown);
     let mut sink = BufferedSink::new(rt.alloc(), output)?;
+    let sparse = Cell::new(None);
     let status = match job.picture {
         None if job.places => {
             let mut report = StdSource::new(rt.stdin());
@@ -83,18 +84,24 @@ pub fn run_capture<E: Sink>(
                 messages,
             )
         }
-        Some(name) => run_pictured(rt, job, name, found, &look, source, &mut sink, messages),
+        Some(name) => run_pictured(
+            rt, job, name, found, &look, &sparse, source, &mut sink, messages,
+        ),
         None => run_job(
             rt.alloc(),
             job,
             found,
             &look,
+            &sparse,
             &mut source,
             &mut sink,
             messages,
         ),
     };
-    say_trouble(rt, job.file, trouble.get(), messages);
+    match sparse.get() {
+        Some(sparse) => say_sparse(rt.alloc(), sparse, unit, messages),
+        None => say_trouble(rt, job.file, trouble.get(), messages),
+    }
     Ok(status)
 }
 
@@ -119,6 +126,19 @@ fn say_trouble<E: Sink>(
     if let (Some(name), Some(error)) = (file, trouble)
         && let Ok(text) = format!(in rt.alloc(); "aes3-cells: {name}: {error}\n")
     {
+        say(&text, messages);
+    }
+}
+
+/// Says in which samples the line had too few edges, and how to recover the rest.
+fn say_sparse<E: Sink>(alloc: Global, sparse: SparseSamples, unit: Unit, messages: &mut E)
+    requires { E.failed messages.old + 1 < 2 ^ 64 }
+{
+    let SparseSamples { from, to } = sparse;
+    let octet = to.saturating_mul(unit.len() as u64).saturating_add(1);
+    if let Ok(text) = format!(in alloc;
+        "aes3-cells: from sample {from} to {to} the line has too few edges. If its rate dropped, cells are wrong there and after it, and `tail -c +{octet}` gives a capture of the rest\n"
+    ) {
         say(&text, messages);
     }
 }
@@ -335,7 +355,6 @@ fn say_end<E: Sink>(
     job: &Job<'_>,
     look: &Look,
     recovery: &Recovery,
-    watch: &EdgeWatch,
     messages: &mut E,
 ) -> u8
     requires { E.failed messages.old + 1 < 2 ^ 64 }
@@ -356,7 +375,7 @@ fn say_end<E: Sink>(
             Err(_) => say_memory(messages),
         }
     } else {
-        match found_text(alloc, &figures, job.rate, watch.sparse_until(&figures)) {
+        match found_text(alloc, &figures, job.rate) {
             Ok(text) => {
                 say(&text, messages);
                 DONE
@@ -371,12 +390,13 @@ fn say_end<E: Sink>(
 ///
 /// Unless the sink failed, it has passed on all that it took, also if the input failed. The last
 /// line of what was found is written to `messages`, which are flushed. Faults of `messages` change
-/// nothing.
+/// nothing. If the line had too few edges in some samples, `sparse` has the first of them.
 pub fn run_job<S: Source, T: Sink, E: Sink>(
     alloc: Global,
     job: &Job<'_>,
     found: Option<u8>,
     look: &Look,
+    sparse: &Cell<Option<SparseSamples>>,
     source: &mut S,
     sink: &mut T,
     messages: &mut E,
@@ -411,7 +431,10 @@ pub fn run_job<S: Source, T: Sink, E: Sink>(
         sink,
         messages,
     ) {
-        Ok(_) => say_end(alloc, job, look, &recovery, &watch, messages),
+        Ok(_) => {
+            sparse.set(watch.sparse());
+            say_end(alloc, job, look, &recovery, messages)
+        }
         Err(refusal) => say_refusal(refusal, messages),
     }
 }

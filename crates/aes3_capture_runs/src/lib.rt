@@ -30,6 +30,7 @@ mod value;
 mod wrong;
 
 pub use capture_job::{Job, job_of_words};
+pub use edge_watch::SparseSamples;
 pub use job_run::{report_fault, report_unread, run_capture, run_job};
 pub use look::Look;
 pub use placed_report::run_places;

@@ -6,6 +6,7 @@ ghost use Rattle.aes3_cli.specs.Options.{options_of};
 ghost use Rattle.clap.specs.Walk.{first_of};
 
 use crate::capture_job::{Job, unit_of_job};
+use crate::edge_watch::SparseSamples;
 use crate::job_run::{NO_LINE, run_job, say, say_memory};
 use crate::look::Look;
 use aes3_capture_picture::{Picture, PictureFault, PictureFile, Pictured};
@@ -13,6 +14,7 @@ use aes3_cell::{Sink, Source};
 use aes3_cli::REFUSED;
 use clap::ArgMatches;
 use std::alloc::Global;
+use std::cell::Cell;
 
 /// The name of the file to which a picture is written, if an option names it.
 pub(crate) fn picture_of_options<'a>(options: &ArgMatches<'a>) -> Option<&'a str>
@@ -30,6 +32,7 @@ pub(crate) fn run_pictured<S: Source + Drop, T: Sink, E: Sink>(
     name: &str,
     found: Option<u8>,
     look: &Look,
+    sparse: &Cell<Option<SparseSamples>>,
     source: S,
     sink: &mut T,
     messages: &mut E,
@@ -44,13 +47,31 @@ pub(crate) fn run_pictured<S: Source + Drop, T: Sink, E: Sink>(
         Err(fault) => {
             say_fault(rt.alloc(), name, fault, messages);
             let mut source = source;
-            run_job(rt.alloc(), job, found, look, &mut source, sink, messages);
+            run_job(
+                rt.alloc(),
+                job,
+                found,
+                look,
+                sparse,
+                &mut source,
+                sink,
+                messages,
+            );
             return REFUSED;
         }
     };
     let picture = Picture::new(unit_of_job(job, found), job.period);
     let mut source = Pictured::new(source, picture);
-    let status = run_job(rt.alloc(), job, found, look, &mut source, sink, messages);
+    let status = run_job(
+        rt.alloc(),
+        job,
+        found,
+        look,
+        sparse,
+        &mut source,
+        sink,
+        messages,
+    );
     if status > NO_LINE {
         file.remove(rt);
         return status;
