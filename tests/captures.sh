@@ -165,6 +165,7 @@ for drop in 7.8125 11.71875 15.625; do
         judge "its rest is a line" eval '"$program" capture 2>&1 >cells | sed -n "s/.*\`tail -c \(+[0-9]*\)\`.*/\1/p" >rest && tail -c "$(cat rest)" capture | "$program" 2>told | "$aes3" check | grep -q whole && ! grep -q "too few edges" told'
     done
 done
+judge "pieces of any size, and pauses" sh -c "'$program' <capture >cells 2>told; { dd bs=7 count=1000; dd bs=4099; } <capture 2>/dev/null | '$program' 2>other | cmp - cells && cmp told other"
 "$python" "$here/line.py" 3.90625 slow blocks=25 rms=0.2 silence=1
 cat one slow one >capture
 judge "silence has edges enough" sh -c "'$program' <capture 2>told >cells && ! grep -q 'too few edges' told"

@@ -117,7 +117,7 @@ def captures(program, chance):
     """Captures, each with its name and the words for aes3-cells."""
     cells = cells_of_blocks(program, chance, 2)
     for period in (2.02, 2.3, 3, 4.07, 8, 17.7, 31.9, 32, 32.1, 33, 41, 41.9, 42, 42.1, 43, 100):
-        few = cells[: 49_152 if period < 20 else 12_000]
+        few = cells[: 49_152 if period < 20 else 10_000]  # fewer than 2^20 samples: the read before a pause is short, and a socket drops the rest of a packet
         runs = runs_of(chance, few, period, 0.05 * period)
         yield f"{period} samples a cell", levels_of(runs), []
         octets = levels_of(runs, 0x5A, 0xDA)
