@@ -18,10 +18,7 @@ const HEADER_MOST: u64 = 4096;
 /// `AllocError` if there is no memory.
 pub fn file_named(rt: &HostRuntime, name: Option<&str>) -> Result<Option<PartFile>, AllocError> {
     match name {
-        Some(name) => match PartFile::new(rt, name) {
-            Ok(file) => Ok(Some(file)),
-            Err(error) => Err(error),
-        },
+        Some(name) => Ok(Some(PartFile::new(rt, name)?)),
         None => Ok(None),
     }
 }

@@ -3,7 +3,7 @@ use Rattle.std.specs.Prelude.{ℕ, Bool, List, [], ◌∷◌, ◌++◌, ◌≡�
 use Rattle.std.specs.Prelude.{◌%◌, ◌-◌, false, length, nat_eq, nat_lt, replicate}
 use Rattle.std.specs.List.{before_first, after_first}
 use Rattle.std.specs.Prelude.{if◌then◌else◌, option_and_then, option_map, is_some, not, ◌&&◌, ◌||◌, ◌*◌, ◌==◌, take}
-use Rattle.std.specs.Option.{option_map_or, unwrap_or}
+use Rattle.std.specs.Option.{option_map_or, option_or, unwrap_or}
 use Rattle.std.specs.Str.{bytes_eq}
 use Rattle.std.specs.Str.Parse.{digits_value, without_leading_plus}
 use Rattle.clap.specs.ValueTests.{is_unsigned_in}
@@ -206,12 +206,8 @@ words_in text = if bytes_eq text (codes "own") then Some word_form.Own
 abbrev pub words_named : Options → Option Words
 words_named options = option_and_then words_in (first_of (codes "words") options)
 
-abbrev pub or_own : Option Words → Words
-or_own (Some form) = form
-or_own None = word_form.Own
-
 abbrev pub words_by : Options → Words
-words_by options = or_own (words_named options)
+words_by options = unwrap_or (words_named options) word_form.Own
 
 -- the form of samples of this name, and the one that the options give them: 32 bits where none is named
 abbrev pub format_in : Text → Option SampleFormat
@@ -224,12 +220,8 @@ format_in text = if bytes_eq text (codes "s32") then Some format.S32
 abbrev pub format_named : Options → Option SampleFormat
 format_named options = option_and_then format_in (first_of (codes "pcm") options)
 
-abbrev pub or_s32 : Option SampleFormat → SampleFormat
-or_s32 (Some pcm) = pcm
-or_s32 None = format.S32
-
 abbrev pub format_by : Options → SampleFormat
-format_by options = or_s32 (format_named options)
+format_by options = unwrap_or (format_named options) format.S32
 
 -- the width of the samples of a WAV file by its name, and the one that the options give them: 24 bits where none is
 -- named
@@ -242,12 +234,8 @@ depth_in text = if bytes_eq text (codes "16") then Some Sixteen
 abbrev pub depth_named : Options → Option Depth
 depth_named options = option_and_then depth_in (first_of (codes "bits") options)
 
-abbrev pub or_24 : Option Depth → Depth
-or_24 (Some depth) = depth
-or_24 None = TwentyFour
-
 abbrev pub depth_by : Options → Depth
-depth_by options = or_24 (depth_named options)
+depth_by options = unwrap_or (depth_named options) TwentyFour
 
 -- whether the use of this name is professional, and the one for which the options ask a status of a header: consumer use
 -- where none is named
@@ -259,12 +247,8 @@ use_in text = if bytes_eq text (codes "consumer") then Some false
 abbrev pub use_named : Options → Option Bool
 use_named options = option_and_then use_in (first_of (codes "use") options)
 
-abbrev pub or_consumer : Option Bool → Bool
-or_consumer (Some professional) = professional
-or_consumer None = false
-
 abbrev pub is_professional : Options → Bool
-is_professional options = or_consumer (use_named options)
+is_professional options = unwrap_or (use_named options) false
 
 -- which channels the only one of a WAV file is for by this name, and by the options: both where none are named
 abbrev pub mono_in : Text → Option Mono
@@ -275,12 +259,8 @@ mono_in text = if bytes_eq text (codes "both") then Some mono.Both
 abbrev pub mono_named : Options → Option Mono
 mono_named options = option_and_then mono_in (first_of (codes "mono") options)
 
-abbrev pub or_both : Option Mono → Mono
-or_both (Some named) = named
-or_both None = mono.Both
-
 abbrev pub mono_by : Options → Mono
-mono_by options = or_both (mono_named options)
+mono_by options = unwrap_or (mono_named options) mono.Both
 
 -- the channel that has this number, from 1 on
 abbrev pub channel_in : Text → Option ℕ
@@ -343,18 +323,14 @@ preset_in text = if bytes_eq text (codes "consumer") then Some consumer_status
 abbrev pub preset_by : Options → Option (List ℕ)
 preset_by options = option_and_then preset_in (first_of (codes "preset") options)
 
--- the status that a channel begins with where no text gives one: that of the preset, or `other` where none is named
-abbrev pub or_other : Option (List ℕ) → Option (List ℕ) → Option (List ℕ)
-or_other other (Some status) = Some status
-or_other other None = other
-
 -- the status bytes that an option's text has; `other` where the option is left out
 abbrev pub HasStatus : Option (List ℕ) → Option Text → Option (List ℕ) → Type 0
 HasStatus other None bytes = bytes ≡ other
 HasStatus other (Some text) bytes = (is_some bytes ≡ true) × (status_in text ≡ bytes)
 
+-- the status that a channel begins with: that of the option's text, else that of the preset, else `other`
 abbrev pub IsStatus : Option (List ℕ) → Options → Text → Option (List ℕ) → Type 0
-IsStatus other options name bytes = HasStatus (or_other other (preset_by options)) (first_of name options) bytes
+IsStatus other options name bytes = HasStatus (option_or (preset_by options) other) (first_of name options) bytes
 
 -- the setting that a sampling frequency in hertz stands for, or in thousands of them: some status has a code for each
 abbrev pub rate_in : Text → Option Text

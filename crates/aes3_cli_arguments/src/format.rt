@@ -11,10 +11,7 @@ use clap::ArgMatches;
 pub(crate) fn format(options: &ArgMatches<'_>) -> SampleFormat
     ensures { result ≡ format_by (options_of options.now) }
 {
-    match chosen(options, "pcm") {
-        Some(format) => format,
-        None => SampleFormat::S32,
-    }
+    chosen(options, "pcm").unwrap_or(SampleFormat::S32)
 }
 
 impl Choice for SampleFormat {

@@ -1,7 +1,8 @@
 //! The status that a channel begins with.
 
 ghost use Rattle.std.specs.Prelude.{◌≡◌};
-ghost use Rattle.aes3_cli_arguments.specs.Jobs.{has_unknown_preset, options_of, or_other, preset_by, preset_in};
+ghost use Rattle.std.specs.Option.{option_or};
+ghost use Rattle.aes3_cli_arguments.specs.Jobs.{has_unknown_preset, options_of, preset_by, preset_in};
 ghost use Rattle.aes3_cli_arguments.specs.Jobs.{begun_with, unknown_status_for};
 
 use aes3_status::{Settings, set_fields};
@@ -64,12 +65,9 @@ fn unknown_status_for(settings: &Option<Settings>) -> [u8; 24]
 /// The status that a channel begins with if no text gives one: that of the preset, or `other` if
 /// none is named.
 pub(crate) fn preset_or(options: &ArgMatches<'_>, other: Option<[u8; 24]>) -> Option<[u8; 24]>
-    ensures { result ≡ or_other other (preset_by (options_of options.now)) }
+    ensures { result ≡ option_or (preset_by (options_of options.now)) other }
 {
-    match preset(options) {
-        Some(status) => Some(status),
-        None => other,
-    }
+    preset(options).or(other)
 }
 
 /// The status of the preset that the options name.

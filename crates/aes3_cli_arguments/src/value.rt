@@ -34,8 +34,5 @@ pub(crate) fn bit(options: &ArgMatches<'_>, name: &str) -> Option<bool>
     requires { MayBeWithin 0 1 (options_of options.now) name.now }
     ensures { result ≡ bit_by (options_of options.now) name.now }
 {
-    match number_if_given(options, name) {
-        Some(bit) => Some(bit == 1),
-        None => None,
-    }
+    Some(number_if_given(options, name)? == 1)
 }

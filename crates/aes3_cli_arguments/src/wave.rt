@@ -44,10 +44,7 @@ pub(crate) fn to_wav(options: &ArgMatches<'_>) -> ReadWork
 fn depth(options: &ArgMatches<'_>) -> Depth
     ensures { result ≡ depth_by (options_of options.now) }
 {
-    match chosen(options, "bits") {
-        Some(depth) => depth,
-        None => Depth::TwentyFour,
-    }
+    chosen(options, "bits").unwrap_or(Depth::TwentyFour)
 }
 
 impl Choice for Depth {
@@ -67,10 +64,7 @@ impl Choice for Depth {
 pub(crate) fn is_professional(options: &ArgMatches<'_>) -> bool
     ensures { result ≡ is_professional (options_of options.now) }
 {
-    match use_if_named(options) {
-        Some(is_professional) => is_professional,
-        None => false,
-    }
+    use_if_named(options).unwrap_or(false)
 }
 
 /// Whether the use that the options name is professional.
@@ -108,10 +102,7 @@ fn use_of_text(text: &str) -> Option<bool>
 pub(crate) fn mono(options: &ArgMatches<'_>) -> Mono
     ensures { result ≡ mono_by (options_of options.now) }
 {
-    match chosen(options, "mono") {
-        Some(mono) => mono,
-        None => Mono::Both,
-    }
+    chosen(options, "mono").unwrap_or(Mono::Both)
 }
 
 impl Choice for Mono {
@@ -152,12 +143,8 @@ impl Choice for Channels {
     ghost chosen_by = { channels_in };
 
     fn of_word(word: &str) -> Option<Self> {
-        match word.split_once(',') {
-            Some((first, second)) => {
-                channels_of_two(channel_of_text(first), channel_of_text(second))
-            }
-            None => None,
-        }
+        let (first, second) = word.split_once(',')?;
+        channels_of_two(channel_of_text(first), channel_of_text(second))
     }
 }
 

@@ -11,10 +11,7 @@ use clap::ArgMatches;
 pub(crate) fn words(options: &ArgMatches<'_>) -> Words
     ensures { result ≡ words_by (options_of options.now) }
 {
-    match chosen(options, "words") {
-        Some(words) => words,
-        None => Words::Own,
-    }
+    chosen(options, "words").unwrap_or(Words::Own)
 }
 
 impl Choice for Words {

@@ -27,10 +27,7 @@ const LEAST_RANGE: u64 = 256;
 pub(crate) fn advice_on_width(format: SampleFormat, head: &[u8]) -> Option<&'static str>
     ensures { IfSome result (λ told. IsTrue (is_told told.now)) }
 {
-    match format_by_looks(format, head) {
-        Some(other) => Some(advice_on(other)),
-        None => None,
-    }
+    Some(advice_on(format_by_looks(format, head)?))
 }
 
 /// Another form than this one, if the samples look like it.

@@ -10,7 +10,7 @@ use Rattle.aes3_frame.specs.Samples.{block_samples, samples}
 use Rattle.aes3_lock.specs.declared.report.Report.{Report}
 use Rattle.aes3_lock.specs.declared.report.Report.TheVariants.{Whole, Marked, Fault, Unfinished}
 use Rattle.aes3_lock.specs.Reports.{blocks, decided, reports, wholes}
-use Rattle.aes3_input.specs.Running.{InputRun, Movement}
+use Rattle.aes3_input.specs.Running.{Ends, InputRun}
 use Rattle.aes3_input.specs.Taking.{before_end, with_end}
 use Rattle.aes3_input.specs.Inputs.{cells_of}
 use Rattle.aes3_input.specs.Driving.{CellRun}
@@ -128,20 +128,20 @@ none-refused f h (x ∷ xs) =
     ∙ none-refused f h xs
 
 -- the run in 16 bits
-abbrev ExactRun : ℕ → Form → Bool → Movement → Movement → Result (Counts × ExactBlocks) RunError → Type 0
+abbrev ExactRun : ℕ → Form → Ends → Result (Counts × ExactBlocks) RunError → Type 0
 ExactRun max form = InputRun (told_reports form (exact_writing S16)
     (λ (k : ExactBlocks) r. k.refused ≡ first_unfit S16 (placed r))) max
 
-pub exact-ok : {max : ℕ} (form : Form) {n : Counts} {k : ExactBlocks} {ended : Bool} {source sink : Movement}
-    → ExactRun max form ended source sink (Ok (n, k))
-    → InputRun (exact_cells form S16) max ended source sink (Ok (record { counts = n; refused = k.refused }))
+pub exact-ok : {max : ℕ} (form : Form) {n : Counts} {k : ExactBlocks} {ends : Ends}
+    → ExactRun max form ends (Ok (n, k))
+    → InputRun (exact_cells form S16) max ends (Ok (record { counts = n; refused = k.refused }))
 exact-ok form r =
     run-ok
     (cells-give form (λ c. exact_samples S16 (placed (reports c))) (λ c. exact_samples S16 (placed (decided c)))
     (λ c. with-exact S16 (reports c)) (λ c. before-exact S16 (decided c))) (λ b i h. h) r
 
-pub exact-err : {max : ℕ} (form : Form) {ended : Bool} {source sink : Movement} {x : RunError}
-    → ExactRun max form ended source sink (Err x) → InputRun (exact_cells form S16) max ended source sink (Err x)
+pub exact-err : {max : ℕ} (form : Form) {ends : Ends} {x : RunError}
+    → ExactRun max form ends (Err x) → InputRun (exact_cells form S16) max ends (Err x)
 exact-err form r =
     run-err
     (cells-give form (λ c. exact_samples S16 (placed (reports c))) (λ c. exact_samples S16 (placed (decided c)))
@@ -152,13 +152,13 @@ module _ (form : Form) (f : SampleFormat) (wide : f ≢ S16) where
   given : (r : List Report) → narrowed f (samples (wholes r)) ≡ exact_samples f (placed r)
   given r = sym (all-given f r (none-refused f wide (placed r)))
 
-  pub wide-ok : {max : ℕ} {ended : Bool} {source sink : Movement} {n : Counts}
+  pub wide-ok : {max : ℕ} {ends : Ends} {n : Counts}
       → CellRun max form (record {
         whole = λ c. narrowed f (samples (blocks c));
         begun = λ c. narrowed f (samples (decided_blocks c));
         counts = counts_of form;
-      }) ended source sink (Ok n)
-      → InputRun (exact_cells form f) max ended source sink (Ok (record { counts = n; refused = None }))
+      }) ends (Ok n)
+      → InputRun (exact_cells form f) max ends (Ok (record { counts = n; refused = None }))
   unfolding blocks
   wide-ok r =
       run-ok
@@ -166,13 +166,13 @@ module _ (form : Form) (f : SampleFormat) (wide : f ≢ S16) where
       (λ c. given (reports c)) (λ c. given (decided c)))
       (λ b i h. (h, sym (none-refused f wide (placed (reports (cells_of form b)))))) r
 
-  pub wide-err : {max : ℕ} {ended : Bool} {source sink : Movement} {x : RunError}
+  pub wide-err : {max : ℕ} {ends : Ends} {x : RunError}
       → CellRun max form (record {
         whole = λ c. narrowed f (samples (blocks c));
         begun = λ c. narrowed f (samples (decided_blocks c));
         counts = counts_of form;
-      }) ended source sink (Err x)
-      → InputRun (exact_cells form f) max ended source sink (Err x)
+      }) ends (Err x)
+      → InputRun (exact_cells form f) max ends (Err x)
   unfolding blocks
   wide-err r =
       run-err
@@ -180,16 +180,16 @@ module _ (form : Form) (f : SampleFormat) (wide : f ≢ S16) where
       (λ c. given (reports c)) (λ c. given (decided c))) r
 
 -- the run in any form
-pub exact-is : {max : ℕ} (form : Form) {f h : SampleFormat} {ended : Bool} {source sink : Movement}
-    {r : Result Exact RunError} → f ≡ h → InputRun (exact_cells form f) max ended source sink r
-    → InputRun (exact_cells form h) max ended source sink r
-exact-is {max} form {f} {h} {ended} {source} {sink} {r} e run =
-    subst (λ (v : SampleFormat). InputRun (exact_cells form v) max ended source sink r) e run
+pub exact-is : {max : ℕ} (form : Form) {f h : SampleFormat} {ends : Ends}
+    {r : Result Exact RunError} → f ≡ h → InputRun (exact_cells form f) max ends r
+    → InputRun (exact_cells form h) max ends r
+exact-is {max} form {f} {h} {ends} {r} e run =
+    subst (λ (v : SampleFormat). InputRun (exact_cells form v) max ends r) e run
 
-pub exact-all : {max : ℕ} (form : Form) (f : SampleFormat) {ended : Bool} {source sink : Movement}
-    (r : Result Exact RunError) → InputRun (exact_cells form f) max ended source sink r
-    → IfOk r (λ (n : Exact). (b : List ℕ) → n.refused ≡ None → Told source.old source.new b
-    → Grew sink.old sink.new (narrowed f (samples (blocks (cells_of form b)))))
+pub exact-all : {max : ℕ} (form : Form) (f : SampleFormat) {ends : Ends}
+    (r : Result Exact RunError) → InputRun (exact_cells form f) max ends r
+    → IfOk r (λ (n : Exact). (b : List ℕ) → n.refused ≡ None → Told ends.source.old ends.source.new b
+    → Grew ends.sink.old ends.sink.new (narrowed f (samples (blocks (cells_of form b)))))
 unfolding blocks
 exact-all form f (Ok n) run = λ b e t.
     let ran = run-told run b t in

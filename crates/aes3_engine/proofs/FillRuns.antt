@@ -12,7 +12,7 @@ use Rattle.aes3_frame.specs.Samples.{samples}
 use Rattle.aes3_forms_samples.specs.declared.sample_format.SampleFormat.{SampleFormat}
 use Rattle.aes3_forms_samples.specs.Formats.{narrowed}
 use Rattle.aes3_lock.specs.Reports.{reports, decided, wholes, blocks}
-use Rattle.aes3_input.specs.Running.{Movement, InputRun}
+use Rattle.aes3_input.specs.Running.{Ends, InputRun, Movement}
 use Rattle.aes3_input.specs.Inputs.{cells_of}
 use Rattle.aes3_input.proofs.CellRuns.{cells-give}
 use Rattle.aes3_input.proofs.InputRuns.{run-ok, run-err, run-wrote}
@@ -30,7 +30,7 @@ use Rattle.aes3_engine.proofs.FillTimes.{placed-count, apart-of, row-samples, le
 use Rattle.aes3_engine.proofs.GivenBlocks.{before-mended, with-mended, count-mended, apart-mended, frames-same}
 use Rattle.aes3_engine.proofs.GivenBlocks.{sized-given, apart-given, count-given, none-given}
 
-abbrev pub FillRun : ℕ → Form → SampleFormat → Fill → Bool → Bool → Movement → Movement → Result Filled RunError
+abbrev pub FillRun : ℕ → Form → SampleFormat → Fill → Bool → Ends → Result Filled RunError
     → Type 0
 FillRun max form pcm fill marked = InputRun (filled_cells form pcm fill marked) max
 
@@ -41,7 +41,7 @@ unfolding counts_of blocks
 whole-count form b e = ap (λ (v : Counts). v.blocks) e
 
 -- the run that gives no marked block
-abbrev TellRun : ℕ → Form → SampleFormat → Fill → Bool → Movement → Movement
+abbrev TellRun : ℕ → Form → SampleFormat → Fill → Ends
     → Result (Counts × FilledBlocks) RunError → Type 0
 TellRun max form pcm fill = InputRun (told_reports form (fill_writing pcm fill)
     (λ (k : FilledBlocks) r. k.progress ≡ progress_of k.fill (placed r))) max
@@ -58,27 +58,27 @@ is-filled form fill b k t h p =
     record { frames = t (placed (reports c)) (apart-of c) p (omega arith); blocks = refl }
 
 pub fill-ok : {max : ℕ} (form : Form) (pcm : SampleFormat) (fill : Fill) {n : Counts} {k : FilledBlocks} {frames : ℕ}
-    {ended : Bool} {source sink : Movement}
+    {ends : Ends}
     → ((xs : List Placed) → Apart 0 xs → k.progress ≡ progress_of k.fill xs → n.blocks + 0 ≡ length xs
     → frames ≡ frames_filled xs)
-    → TellRun max form pcm fill ended source sink (Ok (n, k))
-    → FillRun max form pcm fill false ended source sink (Ok (record { counts = n; frames = frames; marked = 0 }))
+    → TellRun max form pcm fill ends (Ok (n, k))
+    → FillRun max form pcm fill false ends (Ok (record { counts = n; frames = frames; marked = 0 }))
 fill-ok form pcm fill {k = k} t r =
     run-ok (cells-give form (λ c. narrowed pcm (filled fill (placed (reports c))))
     (λ c. narrowed pcm (filled fill (placed (decided c)))) (λ c. with-filled pcm fill (reports c))
     (λ c. before-filled pcm fill (decided c)))
     (λ b i h. (h.0, is-filled form fill b k t h.0 h.1)) r
 
-pub fill-err : {max : ℕ} (form : Form) (pcm : SampleFormat) (fill : Fill) {ended : Bool} {source sink : Movement}
-    {x : RunError} → TellRun max form pcm fill ended source sink (Err x)
-    → FillRun max form pcm fill false ended source sink (Err x)
+pub fill-err : {max : ℕ} (form : Form) (pcm : SampleFormat) (fill : Fill) {ends : Ends}
+    {x : RunError} → TellRun max form pcm fill ends (Err x)
+    → FillRun max form pcm fill false ends (Err x)
 fill-err form pcm fill r =
     run-err (cells-give form (λ c. narrowed pcm (filled fill (placed (reports c))))
     (λ c. narrowed pcm (filled fill (placed (decided c)))) (λ c. with-filled pcm fill (reports c))
     (λ c. before-filled pcm fill (decided c))) r
 
 -- the run that gives them
-abbrev HearRun : ℕ → Form → SampleFormat → Fill → Bool → Movement → Movement
+abbrev HearRun : ℕ → Form → SampleFormat → Fill → Ends
     → Result (Counts × MendedBlocks) RunError → Type 0
 HearRun max form pcm fill = InputRun (heard_cells form (mend_writing pcm fill)
     (λ (k : MendedBlocks) c. IsMendedOf k c (reports c))) max
@@ -101,32 +101,32 @@ is-mended form fill b k t z h p =
     }
 
 pub mend-ok : {max : ℕ} (form : Form) (pcm : SampleFormat) (fill : Fill) {n : Counts} {k : MendedBlocks} {frames marked : ℕ}
-    {ended : Bool} {source sink : Movement}
+    {ends : Ends}
     → ((xs : List Placed) → Apart 0 xs → k.filled.progress ≡ progress_of k.filled.fill xs
     → n.blocks + k.marked ≡ length xs → frames ≡ frames_filled xs)
     → marked ≡ k.marked
-    → HearRun max form pcm fill ended source sink (Ok (n, k))
-    → FillRun max form pcm fill true ended source sink
+    → HearRun max form pcm fill ends (Ok (n, k))
+    → FillRun max form pcm fill true ends
     (Ok (record { counts = n; frames = frames; marked = marked }))
 mend-ok form pcm fill {k = k} t z r =
     run-ok (cells-give form (λ c. narrowed pcm (filled fill (given true fill c (reports c))))
     (λ c. narrowed pcm (filled fill (given true fill c (decided c)))) (with-mended pcm fill) (before-mended pcm fill))
     (λ b i h. (h.0, is-mended form fill b k t z h.0 h.1)) r
 
-pub mend-err : {max : ℕ} (form : Form) (pcm : SampleFormat) (fill : Fill) {ended : Bool} {source sink : Movement}
-    {x : RunError} → HearRun max form pcm fill ended source sink (Err x)
-    → FillRun max form pcm fill true ended source sink (Err x)
+pub mend-err : {max : ℕ} (form : Form) (pcm : SampleFormat) (fill : Fill) {ends : Ends}
+    {x : RunError} → HearRun max form pcm fill ends (Err x)
+    → FillRun max form pcm fill true ends (Err x)
 mend-err form pcm fill r =
     run-err (cells-give form (λ c. narrowed pcm (filled fill (given true fill c (reports c))))
     (λ c. narrowed pcm (filled fill (given true fill c (decided c)))) (with-mended pcm fill) (before-mended pcm fill))
     r
 
-pub fill-same : {max : ℕ} (form : Form) (marked : Bool) {p q : SampleFormat} {f h : Fill} {ended : Bool}
-    {source sink : Movement} {r : Result Filled RunError} → p ≡ q → f ≡ h
-    → FillRun max form p f marked ended source sink r → FillRun max form q h marked ended source sink r
-fill-same {max} form marked {p} {q} {f} {h} {ended} {source} {sink} {r} d e run =
-    subst (λ (v : SampleFormat). FillRun max form v h marked ended source sink r) d
-    (subst (λ (v : Fill). FillRun max form p v marked ended source sink r) e run)
+pub fill-same : {max : ℕ} (form : Form) (marked : Bool) {p q : SampleFormat} {f h : Fill} {ends : Ends}
+    {r : Result Filled RunError} → p ≡ q → f ≡ h
+    → FillRun max form p f marked ends r → FillRun max form q h marked ends r
+fill-same {max} form marked {p} {q} {f} {h} {ends} {r} d e run =
+    subst (λ (v : SampleFormat). FillRun max form v h marked ends r) d
+    (subst (λ (v : Fill). FillRun max form p v marked ends r) e run)
 
 -- a listener of no cell
 pub nothing-mended : (k : MendedBlocks) → k.filled.progress ≡ None → k.before ≡ zero_block → k.marked ≡ 0
@@ -135,32 +135,32 @@ unfolding decided
 nothing-mended k p b m = record { progress = p; before = b; marked = m }
 
 -- its clauses
-pub run-whole : {max : ℕ} (input : Form) (pcm : SampleFormat) (fill : Fill) (marked : Bool) {ended : Bool}
-    {source sink : Movement} (r : Result Filled RunError) → FillRun max input pcm fill marked ended source sink r
-    → IfOk r (λ (n : Filled). (b : List ℕ) → Told source.old source.new b
+pub run-whole : {max : ℕ} (input : Form) (pcm : SampleFormat) (fill : Fill) (marked : Bool)
+    {ends : Ends} (r : Result Filled RunError) → FillRun max input pcm fill marked ends r
+    → IfOk r (λ (n : Filled). (b : List ℕ) → Told ends.source.old ends.source.new b
     → marked_given marked (reports (cells_of input b)) ≡ 0
-    → Grew sink.old sink.new (narrowed pcm (filled fill (placed (reports (cells_of input b))))))
+    → Grew ends.sink.old ends.sink.new (narrowed pcm (filled fill (placed (reports (cells_of input b))))))
 run-whole input pcm fill marked (Ok n) run =
     λ b t z. let c = cells_of input b in
     grew-is (ap (λ xs. narrowed pcm (filled fill xs)) (none-given marked fill c (reports c) z))
     (run-wrote (Ok n) run b t)
 run-whole input pcm fill marked (Err e) run = tt
 
-pub run-row : {max : ℕ} (input : Form) (pcm : SampleFormat) (fill : Fill) (marked : Bool) {ended : Bool}
-    {source sink : Movement} (r : Result Filled RunError) → FillRun max input pcm fill marked ended source sink r
-    → IfOk r (λ (n : Filled). (b : List ℕ) (p : ℕ) → Told source.old source.new b
+pub run-row : {max : ℕ} (input : Form) (pcm : SampleFormat) (fill : Fill) (marked : Bool)
+    {ends : Ends} (r : Result Filled RunError) → FillRun max input pcm fill marked ends r
+    → IfOk r (λ (n : Filled). (b : List ℕ) (p : ℕ) → Told ends.source.old ends.source.new b
     → marked_given marked (reports (cells_of input b)) ≡ 0
     → InRow p (placed (reports (cells_of input b)))
-    → Grew sink.old sink.new (narrowed pcm (samples (blocks (cells_of input b)))))
+    → Grew ends.sink.old ends.sink.new (narrowed pcm (samples (blocks (cells_of input b)))))
 run-row input pcm fill marked (Ok n) run =
     λ b p t z h. grew-is (ap (narrowed pcm) (row-samples fill p (cells_of input b) h))
     (run-whole input pcm fill marked (Ok n) run b t z)
 run-row input pcm fill marked (Err e) run = tt
 
-pub run-in-time : {max : ℕ} (input : Form) (pcm : SampleFormat) (fill : Fill) (marked : Bool) {ended : Bool}
-    {source sink : Movement} (r : Result Filled RunError) → FillRun max input pcm fill marked ended source sink r
-    → IfOk r (λ (n : Filled). (b : List ℕ) → Told source.old source.new b
-    → (o : List ℕ) × Grew sink.old sink.new (narrowed pcm o)
+pub run-in-time : {max : ℕ} (input : Form) (pcm : SampleFormat) (fill : Fill) (marked : Bool)
+    {ends : Ends} (r : Result Filled RunError) → FillRun max input pcm fill marked ends r
+    → IfOk r (λ (n : Filled). (b : List ℕ) → Told ends.source.old ends.source.new b
+    → (o : List ℕ) × Grew ends.sink.old ends.sink.new (narrowed pcm o)
     × KeepsTime o (given marked fill (cells_of input b) (reports (cells_of input b))))
 run-in-time input pcm fill marked (Ok n) run =
     λ b t. let c = cells_of input b in (
@@ -170,9 +170,9 @@ run-in-time input pcm fill marked (Ok n) run =
     )
 run-in-time input pcm fill marked (Err e) run = tt
 
-pub run-frames : {max : ℕ} (input : Form) (pcm : SampleFormat) (fill : Fill) (marked : Bool) {ended : Bool}
-    {source sink : Movement} (r : Result Filled RunError) → FillRun max input pcm fill marked ended source sink r
-    → IfOk r (λ (n : Filled). WroteFrames pcm n sink)
+pub run-frames : {max : ℕ} (input : Form) (pcm : SampleFormat) (fill : Fill) (marked : Bool)
+    {ends : Ends} (r : Result Filled RunError) → FillRun max input pcm fill marked ends r
+    → IfOk r (λ (n : Filled). WroteFrames pcm n ends.sink)
 unfolding counts_of blocks
 run-frames input pcm fill marked (Ok n) run =
     let c = cells_of input run.bytes in

@@ -18,7 +18,7 @@ use Rattle.aes3_forms_samples.specs.Formats.{narrowed}
 use Rattle.aes3_forms_samples.proofs.Formats.{narrowed-join, narrowed-none}
 use Rattle.aes3_lock.specs.Reports.{blocks, decided, normal, reports}
 use Rattle.aes3_input.specs.Inputs.{cells_of}
-use Rattle.aes3_input.specs.Running.{Movement}
+use Rattle.aes3_input.specs.Running.{Ends}
 use Rattle.aes3_lock_runs.specs.BlockRuns.{decided_blocks, report_bytes, written_stream}
 use Rattle.aes3_lock_runs.specs.ReportRuns.{ReportRun, output}
 use Rattle.aes3_lock_runs.proofs.BlockRuns.{alike-begun, alike-whole, run-alike, run-back, run-normal}
@@ -59,24 +59,25 @@ module _ (pcm : SampleFormat) (g : List (List Bool) → List ℕ)
       → output (report_bytes (λ n b. one b)) (decided c) ≡ narrowed pcm (flat_map g (decided_blocks c))
   narrowed-begun c = alike-begun one c ∙ narrowed-blocks (decided_blocks c)
 
-  pub narrowed-alike : {max : ℕ} (input : Form) {ended : Bool} {source sink : Movement} (r : Result Counts RunError)
-      → ReportRun max input (report_bytes (λ n b. one b)) [] ended source sink r
-      → IfOk r (λ (n : Counts). (b : List ℕ) (ds : List (List (List Bool))) → Told source.old source.new b
-      → blocks (cells_of input b) ≡ ds → Grew sink.old sink.new (narrowed pcm (flat_map g ds)))
+  pub narrowed-alike : {max : ℕ} (input : Form) {ends : Ends} (r : Result Counts RunError)
+      → ReportRun max input (report_bytes (λ n b. one b)) [] ends r
+      → IfOk r (λ (n : Counts). (b : List ℕ) (ds : List (List (List Bool))) → Told ends.source.old ends.source.new b
+      → blocks (cells_of input b) ≡ ds → Grew ends.sink.old ends.sink.new (narrowed pcm (flat_map g ds)))
   narrowed-alike input (Ok n) run =
       λ b ds t e. grew-is (narrowed-blocks ds) (run-alike input one (Ok n) run b ds t e)
   narrowed-alike input (Err e) run = tt
 
-  pub narrowed-back : {max : ℕ} (input : Form) {ended : Bool} {source sink : Movement} (r : Result Counts RunError)
-      → ReportRun max input (report_bytes (λ n b. one b)) [] ended source sink r
+  pub narrowed-back : {max : ℕ} (input : Form) {ends : Ends} (r : Result Counts RunError)
+      → ReportRun max input (report_bytes (λ n b. one b)) [] ends r
       → IfOk r (λ (n : Counts). (bs : List (List (List Bool))) → All IsBlock bs
-      → Told source.old source.new (written_stream input bs) → Grew sink.old sink.new (narrowed pcm (flat_map g bs)))
+      → Told ends.source.old ends.source.new (written_stream input bs)
+      → Grew ends.sink.old ends.sink.new (narrowed pcm (flat_map g bs)))
   narrowed-back input (Ok n) run = λ bs a t. grew-is (narrowed-blocks bs) (run-back input one (Ok n) run bs a t)
   narrowed-back input (Err e) run = tt
 
-  pub narrowed-normal : {max : ℕ} (input : Form) {ended : Bool} {source sink : Movement} (r : Result Counts RunError)
-      → ReportRun max input (report_bytes (λ n b. one b)) [] ended source sink r
-      → IfOk r (λ (n : Counts). (c : List Level) → Told source.old source.new (written input (normal c))
-      → Grew sink.old sink.new (narrowed pcm (flat_map g (blocks c))))
+  pub narrowed-normal : {max : ℕ} (input : Form) {ends : Ends} (r : Result Counts RunError)
+      → ReportRun max input (report_bytes (λ n b. one b)) [] ends r
+      → IfOk r (λ (n : Counts). (c : List Level) → Told ends.source.old ends.source.new (written input (normal c))
+      → Grew ends.sink.old ends.sink.new (narrowed pcm (flat_map g (blocks c))))
   narrowed-normal input (Ok n) run = λ c t. grew-is (narrowed-blocks (blocks c)) (run-normal input one (Ok n) run c t)
   narrowed-normal input (Err e) run = tt

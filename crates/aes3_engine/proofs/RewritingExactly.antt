@@ -27,7 +27,7 @@ use Rattle.aes3_status.specs.declared.setting.Settings.{Settings}
 use Rattle.aes3_status.specs.KindPlaces.{Met, Rising, earlier, first_met, first_place}
 use Rattle.aes3_status.specs.TakingAll.{takes_all}
 use Rattle.aes3_status.proofs.FirstPlaces.{first-either, first-none, first-same, rising-weaker}
-use Rattle.aes3_input.specs.Running.{InputRun, Movement}
+use Rattle.aes3_input.specs.Running.{Ends, InputRun}
 use Rattle.aes3_input.specs.Taking.{before_end, with_end}
 use Rattle.aes3_input.specs.Inputs.{cells_of}
 use Rattle.aes3_input.proofs.InputRuns.{Gives, run-err, run-ok, run-told}
@@ -244,7 +244,7 @@ both-refused change xs r e f =
 abbrev follows : ExactlyRewrittenBlocks → List Report → Type 0
 follows k r = AreMetAt k.met (placed r) × (k.refused ≡ is_some (first_refused k.change (placed r)))
 
-abbrev TellRun : ℕ → Form → Form → Change → Bool → Movement → Movement → Result (Counts × ExactlyRewrittenBlocks) RunError
+abbrev TellRun : ℕ → Form → Form → Change → Ends → Result (Counts × ExactlyRewrittenBlocks) RunError
     → Type 0
 TellRun max input output change = InputRun (told_reports input (exactly_writing output change) follows) max
 
@@ -261,25 +261,25 @@ gives input output change =
       cause = λ max b ended e c. c;
     }
 
-same-run : {max : ℕ} (input : Form) {o output : Form} {h change : Change} {ended : Bool} {source sink : Movement}
+same-run : {max : ℕ} (input : Form) {o output : Form} {h change : Change} {ends : Ends}
     {r : Result (Counts × ExactlyRewrittenBlocks) RunError} → o ≡ output → h ≡ change
-    → TellRun max input o h ended source sink r → TellRun max input output change ended source sink r
-same-run {max} input {o} {output} {h} {change} {ended} {source} {sink} {r} p q run =
-    subst (λ (v : Change). TellRun max input output v ended source sink r) q
-    (subst (λ (v : Form). TellRun max input v h ended source sink r) p run)
+    → TellRun max input o h ends r → TellRun max input output change ends r
+same-run {max} input {o} {output} {h} {change} {ends} {r} p q run =
+    subst (λ (v : Change). TellRun max input output v ends r) q
+    (subst (λ (v : Form). TellRun max input v h ends r) p run)
 
 pub exactly-ok : {max : ℕ} (input : Form) {o output : Form} {h change : Change} {n : Counts}
-    {k : ExactlyRewrittenBlocks} {m : Exact} {ended : Bool} {source sink : Movement} → o ≡ output → h ≡ change
+    {k : ExactlyRewrittenBlocks} {m : Exact} {ends : Ends} → o ≡ output → h ≡ change
     → ((b : List ℕ) → n ≡ counts_of input b → AreMetAt k.met (placed (reports (cells_of input b)))
     → AnswersExactly input change b m)
-    → TellRun max input o h ended source sink (Ok (n, k))
-    → InputRun (exactly_rewritten_cells input output change) max ended source sink (Ok m)
+    → TellRun max input o h ends (Ok (n, k))
+    → InputRun (exactly_rewritten_cells input output change) max ends (Ok m)
 exactly-ok input {output = output} {change = change} p q t r =
     run-ok (gives input output change) (λ b i d. t b d.0 d.1.0) (same-run input p q r)
 
-pub exactly-err : {max : ℕ} (input : Form) {o output : Form} {h change : Change} {ended : Bool}
-    {source sink : Movement} {x : RunError} → o ≡ output → h ≡ change → TellRun max input o h ended source sink (Err x)
-    → InputRun (exactly_rewritten_cells input output change) max ended source sink (Err x)
+pub exactly-err : {max : ℕ} (input : Form) {o output : Form} {h change : Change} {ends : Ends} {x : RunError}
+    → o ≡ output → h ≡ change → TellRun max input o h ends (Err x)
+    → InputRun (exactly_rewritten_cells input output change) max ends (Err x)
 exactly-err input {output = output} {change = change} p q r =
     run-err (gives input output change) (same-run input p q r)
 
@@ -304,11 +304,11 @@ unfolding blocks
 all-written form change c h =
     ap (λ (v : List (List (List Bool))). written_stream form (rewritten_blocks change v)) (none-left change (reports c) h)
 
-pub exactly-all : {max : ℕ} (input output : Form) (change : Change) {ended : Bool} {source sink : Movement}
+pub exactly-all : {max : ℕ} (input output : Form) (change : Change) {ends : Ends}
     (r : Result Exact RunError)
-    → InputRun (exactly_rewritten_cells input output change) max ended source sink r
-    → IfOk r (λ (n : Exact). (b : List ℕ) → n.refused ≡ None → Told source.old source.new b
-    → Grew sink.old sink.new (written_stream output (rewritten_blocks change (blocks (cells_of input b)))))
+    → InputRun (exactly_rewritten_cells input output change) max ends r
+    → IfOk r (λ (n : Exact). (b : List ℕ) → n.refused ≡ None → Told ends.source.old ends.source.new b
+    → Grew ends.sink.old ends.sink.new (written_stream output (rewritten_blocks change (blocks (cells_of input b)))))
 exactly-all input output change (Ok n) run = λ b e t.
     let ran = run-told run b t in
     grew-is (all-written output change (cells_of input b) (sym ran.1.1 ∙ e)) ran.4

@@ -22,7 +22,7 @@ use Rattle.aes3_status.specs.declared.setting.Settings.{Settings}
 use Rattle.aes3_status.specs.declared.taken.Taken.{Taken}
 use Rattle.aes3_status.specs.Taken.{nothing_taken, taken_by}
 use Rattle.aes3_status.proofs.TakenKinds.{nothing-taken, same-taken}
-use Rattle.aes3_input.specs.Running.{Movement, InputRun}
+use Rattle.aes3_input.specs.Running.{Ends, InputRun}
 use Rattle.aes3_input.specs.Taking.{Writing}
 use Rattle.aes3_input.specs.Inputs.{cells_of}
 use Rattle.aes3_input.proofs.InputRuns.{Gives, run-ok, run-err}
@@ -90,7 +90,7 @@ writes output change = report_writing (report_bytes (rewritten_block output chan
 abbrev follows : RewrittenBlocks → List Report → Type 0
 follows k r = AreMet k.met (wholes r)
 
-abbrev TellRun : ℕ → Form → Form → Change → Bool → Movement → Movement → Result (Counts × RewrittenBlocks) RunError
+abbrev TellRun : ℕ → Form → Form → Change → Ends → Result (Counts × RewrittenBlocks) RunError
     → Type 0
 TellRun max input output change = InputRun (told_reports input (writes output change) follows) max
 
@@ -106,25 +106,25 @@ gives input output change =
       cause = λ max b ended e c. c;
     }
 
-same-run : {max : ℕ} (input : Form) {o output : Form} {h change : Change} {ended : Bool} {source sink : Movement}
+same-run : {max : ℕ} (input : Form) {o output : Form} {h change : Change} {ends : Ends}
     {r : Result (Counts × RewrittenBlocks) RunError} → o ≡ output → h ≡ change
-    → TellRun max input o h ended source sink r → TellRun max input output change ended source sink r
-same-run {max} input {o} {output} {h} {change} {ended} {source} {sink} {r} p q run =
-    subst (λ (v : Change). TellRun max input output v ended source sink r) q
-    (subst (λ (v : Form). TellRun max input v h ended source sink r) p run)
+    → TellRun max input o h ends r → TellRun max input output change ends r
+same-run {max} input {o} {output} {h} {change} {ends} {r} p q run =
+    subst (λ (v : Change). TellRun max input output v ends r) q
+    (subst (λ (v : Form). TellRun max input v h ends r) p run)
 
 pub rewrite-ok : {max : ℕ} (input : Form) {o output : Form} {h change : Change} {n : Counts} {k : RewrittenBlocks}
-    {m : Rewritten} {ended : Bool} {source sink : Movement} → o ≡ output → h ≡ change
+    {m : Rewritten} {ends : Ends} → o ≡ output → h ≡ change
     → ((b : List ℕ) → n ≡ counts_of input b → AreMet k.met (wholes (reports (cells_of input b)))
     → m ≡ rewritten_answer input change b)
-    → TellRun max input o h ended source sink (Ok (n, k))
-    → InputRun (rewritten_cells input output change) max ended source sink (Ok m)
+    → TellRun max input o h ends (Ok (n, k))
+    → InputRun (rewritten_cells input output change) max ends (Ok m)
 rewrite-ok input {output = output} {change = change} p q t r =
     run-ok (gives input output change) (λ b i d. t b d.0 d.1) (same-run input p q r)
 
-pub rewrite-err : {max : ℕ} (input : Form) {o output : Form} {h change : Change} {ended : Bool}
-    {source sink : Movement} {x : RunError} → o ≡ output → h ≡ change → TellRun max input o h ended source sink (Err x)
-    → InputRun (rewritten_cells input output change) max ended source sink (Err x)
+pub rewrite-err : {max : ℕ} (input : Form) {o output : Form} {h change : Change} {ends : Ends} {x : RunError}
+    → o ≡ output → h ≡ change → TellRun max input o h ends (Err x)
+    → InputRun (rewritten_cells input output change) max ends (Err x)
 rewrite-err input {output = output} {change = change} p q r =
     run-err (gives input output change) (same-run input p q r)
 

@@ -22,7 +22,7 @@ use Rattle.aes3_forms_samples.specs.Formats.{narrowed}
 use Rattle.aes3_engine.proofs.PcmRuns.{narrowed-whole, valid-whole}
 use Rattle.aes3_lock.specs.Reports.{blocks}
 use Rattle.aes3_input.specs.Inputs.{cells_of}
-use Rattle.aes3_input.specs.Running.{Movement}
+use Rattle.aes3_input.specs.Running.{Ends}
 use Rattle.aes3_input.proofs.InputRuns.{run-wrote}
 use Rattle.aes3_lock_runs.specs.ReportRuns.{ReportRun}
 use Rattle.aes3_lock_runs.specs.BlockRuns.{report_bytes}
@@ -62,11 +62,11 @@ all-valid [] h = refl
 all-valid (b ∷ bs) h =
     ap₂ ◌++◌ (valid-block b (h 0 [] (omega arith))) (all-valid bs (λ k d l. h (suc k) d (omega arith)))
 
-pub run-all-valid : {max : ℕ} (pcm : SampleFormat) (input : Form) {ended : Bool} {source sink : Movement}
+pub run-all-valid : {max : ℕ} (pcm : SampleFormat) (input : Form) {ends : Ends}
     (r : Result Counts RunError)
-    → ReportRun max input (report_bytes (λ n b. narrowed pcm (valid_block_samples b))) [] ended source sink r
-    → IfOk r (λ (n : Counts). (b : List ℕ) → Told source.old source.new b → All IsAllValid (blocks (cells_of input b))
-    → Grew sink.old sink.new (narrowed pcm (samples (blocks (cells_of input b)))))
+    → ReportRun max input (report_bytes (λ n b. narrowed pcm (valid_block_samples b))) [] ends r
+    → IfOk r (λ (n : Counts). (b : List ℕ) → Told ends.source.old ends.source.new b → All IsAllValid (blocks (cells_of input b))
+    → Grew ends.sink.old ends.sink.new (narrowed pcm (samples (blocks (cells_of input b)))))
 run-all-valid pcm input (Ok n) run = λ b t h.
     grew-is (narrowed-whole pcm valid_block_samples valid-whole (cells_of input b)
     ∙ ap (narrowed pcm) (all-valid (blocks (cells_of input b)) h))

@@ -24,7 +24,7 @@ use Rattle.aes3_frame.proofs.FileLaws.{file_blocks-file, length-bytes}
 use Rattle.aes3_refusals.specs.declared.run_error.RunError.{RunError}
 use Rattle.aes3_cell.specs.Ends.{Grew, Told}
 use Rattle.aes3_cell.proofs.Growing.{grew-is}
-use Rattle.aes3_input.specs.Running.{InputRun, Movement}
+use Rattle.aes3_input.specs.Running.{Ends, InputRun}
 use Rattle.aes3_input.proofs.InputRuns.{run-told}
 use Rattle.aes3_lock.specs.Reports.{blocks, normal}
 use Rattle.aes3_lock.proofs.NormalStreams.{blocks-lawful}
@@ -130,18 +130,18 @@ whole-back Am824 output c = of-file (words-back Am824 (blocks c) (blocks-lawful 
         ap (λ b. written output (stream Low (file_blocks b))) e
         ∙ ap (λ bs. written output (stream Low bs)) (file_blocks-file (blocks c) (blocks-lawful c))
 
-pub decoded-back : (form : Words) (output : Form) {max : ℕ} {ended : Bool} {source sink : Movement}
-    (r : Result EncodedWords RunError) → InputRun (told_words form output) max ended source sink r
-    → IfOk r (λ (n : EncodedWords). (c : List Level) → Told source.old source.new (words_file form (blocks c))
-    → Grew sink.old sink.new (written output (normal c)))
+pub decoded-back : (form : Words) (output : Form) {max : ℕ} {ends : Ends}
+    (r : Result EncodedWords RunError) → InputRun (told_words form output) max ends r
+    → IfOk r (λ (n : EncodedWords). (c : List Level) → Told ends.source.old ends.source.new (words_file form (blocks c))
+    → Grew ends.sink.old ends.sink.new (written output (normal c)))
 decoded-back form output (Ok n) run = λ c t.
     grew-is (whole-back form output c) (run-told {p = told_words form output} run (words_file form (blocks c)) t).4
 decoded-back form output (Err e) run = tt
 
 -- the same of a form that is known
-pub words-is : {form form' : Words} (output : Form) {max : ℕ} {ended : Bool} {source sink : Movement}
+pub words-is : {form form' : Words} (output : Form) {max : ℕ} {ends : Ends}
     {r : Result EncodedWords RunError}
-    → form ≡ form' → InputRun (told_words form' output) max ended source sink r
-    → InputRun (told_words form output) max ended source sink r
-words-is output {max} {ended} {source} {sink} {r} e run =
-    subst (λ (w : Words). InputRun (told_words w output) max ended source sink r) (sym e) run
+    → form ≡ form' → InputRun (told_words form' output) max ends r
+    → InputRun (told_words form output) max ends r
+words-is output {max} {ends} {r} e run =
+    subst (λ (w : Words). InputRun (told_words w output) max ends r) (sym e) run

@@ -12,7 +12,7 @@ ghost use Rattle.aes3_frame.specs.Blocks.{IsBlock, block_cells, stream};
 ghost use Rattle.aes3_frame.specs.Files.{file, IsBlockFile, file_blocks};
 ghost use Rattle.aes3_block.specs.Readers.{TakesBlock, TakesQuietly};
 ghost use Rattle.aes3_lock.specs.Reports.{blocks, normal};
-ghost use Rattle.aes3_input.specs.Running.{FrontRan, InputRun, PieceRan, movement_of};
+ghost use Rattle.aes3_input.specs.Running.{FrontRan, InputRun, PieceRan, ends_of, movement_of};
 ghost use Rattle.aes3_engine.specs.Encoding.{Encodes, encoded_file, encoding_state};
 
 use aes3_block::{BLOCK_BYTES, BLOCK_CELLS, Block, BlockFile, SUBFRAMES, fill_block_cells};
@@ -191,7 +191,6 @@ pub fn encode<S: Source, T: Sink>(
     ensures decoded { IfOk result (λ _. (c : List Level)
         → Told (S.given source.old) (S.given source.new) (file (blocks c))
         → Grew (T.taken sink.old) (T.taken sink.new) (written output (normal c))) }
-    ensures passed_on { IfOk result (λ _. T.passed sink.new ≡ T.taken sink.new) }
 
     // It returns Ok if the input is a block file that fits, and neither input nor output failed.
     ensures owed { (b : List ℕ) → Told (S.given source.old) (S.given source.new) b → IsBlockFile b
@@ -200,9 +199,8 @@ pub fn encode<S: Source, T: Sink>(
         → IsOk result }
 
     // What it returns for every input, and what it has written then.
-    ensures run { InputRun (encoded_file output) max_bytes (S.has_ended source.new)
-        (movement_of S.given S.failed source.old source.new)
-        (movement_of T.taken T.failed sink.old sink.new) result }
+    ensures run { InputRun (encoded_file output) max_bytes
+        (ends_of S.Source source.old source.new T.Sink sink.old sink.new) result }
 {
     let mut file = BlockFile::new();
     let mut encoder = Encoder {

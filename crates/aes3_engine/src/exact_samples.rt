@@ -7,7 +7,7 @@ ghost use Rattle.aes3_frame.specs.Samples.{samples};
 ghost use Rattle.aes3_lock.specs.Following.{report_in};
 ghost use Rattle.aes3_lock.specs.Reports.{blocks};
 ghost use Rattle.aes3_input.specs.Inputs.{cells_of};
-ghost use Rattle.aes3_input.specs.Running.{InputRun, movement_of};
+ghost use Rattle.aes3_input.specs.Running.{InputRun, ends_of};
 ghost use Rattle.aes3_forms_samples.specs.declared.sample_format.SampleFormat.TheVariants.{S16};
 ghost use Rattle.aes3_forms_samples.specs.Formats.{narrowed};
 ghost use Rattle.aes3_engine.specs.ExactSamples.{exact_cells, exact_samples, exact_writing, first_unfit};
@@ -119,10 +119,8 @@ fn to_exact_16<S: Source, T: Sink>(
     requires source_room { S.failed source.old + 1 < 2 ^ 64 }
     requires sink_room { T.failed sink.old + 1 < 2 ^ 64 }
     requires limit { max_bytes ≤ 2 ^ 40 }
-    ensures run { InputRun (exact_cells input S16) max_bytes (S.has_ended source.new)
-        (movement_of S.given S.failed source.old source.new)
-        (movement_of T.taken T.failed sink.old sink.new) result }
-    ensures passed_on { IfOk result (λ _. T.passed sink.new ≡ T.taken sink.new) }
+    ensures { InputRun (exact_cells input S16) max_bytes
+        (ends_of S.Source source.old source.new T.Sink sink.old sink.new) result }
 {
     let (counts, blocks) = run_reports(source, sink, max_bytes, input, ExactBlocks::new())?;
     Ok(Exact {
@@ -143,10 +141,8 @@ fn to_exact_24<S: Source, T: Sink>(
     requires sink_room { T.failed sink.old + 1 < 2 ^ 64 }
     requires limit { max_bytes ≤ 2 ^ 40 }
     requires wide { format ≢ S16 }
-    ensures run { InputRun (exact_cells input format) max_bytes (S.has_ended source.new)
-        (movement_of S.given S.failed source.old source.new)
-        (movement_of T.taken T.failed sink.old sink.new) result }
-    ensures passed_on { IfOk result (λ _. T.passed sink.new ≡ T.taken sink.new) }
+    ensures { InputRun (exact_cells input format) max_bytes
+        (ends_of S.Source source.old source.new T.Sink sink.old sink.new) result }
 {
     let counts = to_pcm(source, sink, max_bytes, input, format)?;
     Ok(Exact {
@@ -178,10 +174,8 @@ pub fn to_exact_pcm<S: Source, T: Sink>(
         → Grew (T.taken sink.old) (T.taken sink.new)
         (narrowed format (samples (blocks (cells_of input b))))) }
     // What it returns for every input, and what it has written then.
-    ensures run { InputRun (exact_cells input format) max_bytes (S.has_ended source.new)
-        (movement_of S.given S.failed source.old source.new)
-        (movement_of T.taken T.failed sink.old sink.new) result }
-    ensures passed_on { IfOk result (λ _. T.passed sink.new ≡ T.taken sink.new) }
+    ensures run { InputRun (exact_cells input format) max_bytes
+        (ends_of S.Source source.old source.new T.Sink sink.old sink.new) result }
 {
     match format {
         SampleFormat::S16 => to_exact_16(source, sink, max_bytes, input),

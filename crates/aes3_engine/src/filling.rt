@@ -9,7 +9,7 @@ ghost use Rattle.aes3_frame.specs.Samples.{block_samples, samples};
 ghost use Rattle.aes3_lock.specs.Following.{report_in};
 ghost use Rattle.aes3_lock.specs.Reports.{blocks, reports};
 ghost use Rattle.aes3_input.specs.Inputs.{cells_of};
-ghost use Rattle.aes3_input.specs.Running.{InputRun, movement_of};
+ghost use Rattle.aes3_input.specs.Running.{InputRun, ends_of, movement_of};
 ghost use Rattle.aes3_forms_samples.specs.Formats.{narrowed};
 ghost use Rattle.aes3_engine.specs.Filling.{InRow, KeepsTime, Placed, block_frames, filled, filling};
 ghost use Rattle.aes3_engine.specs.Filling.{frame_bytes, frames_between, frames_filled, given};
@@ -273,10 +273,8 @@ fn fill_given<S: Source, T: Sink>(
     requires source_room { S.failed source.old + 1 < 2 ^ 64 }
     requires sink_room { T.failed sink.old + 1 < 2 ^ 64 }
     requires limit { max_bytes ≤ 2 ^ 40 }
-    ensures run { InputRun (filled_cells input format fill marked) max_bytes
-        (S.has_ended source.new) (movement_of S.given S.failed source.old source.new)
-        (movement_of T.taken T.failed sink.old sink.new) result }
-    ensures passed_on { IfOk result (λ _. T.passed sink.new ≡ T.taken sink.new) }
+    ensures { InputRun (filled_cells input format fill marked) max_bytes
+        (ends_of S.Source source.old source.new T.Sink sink.old sink.new) result }
 {
     if marked {
         let mended = MendedBlocks::new(fill, format);
@@ -357,9 +355,7 @@ pub fn to_filled_pcm<S: Source, T: Sink>(
     // A run over cells: it returns Ok if it can. An error has its cause, and what was decided
     // before it is written.
     ensures run { InputRun (filled_cells input format fill marked) max_bytes
-        (S.has_ended source.new) (movement_of S.given S.failed source.old source.new)
-        (movement_of T.taken T.failed sink.old sink.new) result }
-    ensures passed_on { IfOk result (λ _. T.passed sink.new ≡ T.taken sink.new) }
+        (ends_of S.Source source.old source.new T.Sink sink.old sink.new) result }
 {
     fill_given(source, sink, max_bytes, input, format, fill, marked)
 }

@@ -16,7 +16,7 @@ ghost use Rattle.aes3_lock.specs.Remains.{after_changes, after_loss};
 ghost use Rattle.aes3_lock.specs.Pieces.{IsPiece, given_blocks, whole_blocks};
 ghost use Rattle.aes3_input.specs.Driving.{CellRun, IsCause};
 ghost use Rattle.aes3_input.specs.Inputs.{IsInput, cells_before, cells_of};
-ghost use Rattle.aes3_input.specs.Running.{Complete, movement_of};
+ghost use Rattle.aes3_input.specs.Running.{Complete, ends_of};
 ghost use Rattle.aes3_lock_runs.specs.BlockRuns.{begun_stream, cut_block, cut_blocks, decided_blocks};
 ghost use Rattle.aes3_lock_runs.specs.BlockRuns.{normal_block, written_stream};
 ghost use Rattle.aes3_lock_runs.specs.ReportRuns.{counts_of};
@@ -198,8 +198,7 @@ pub fn normalise<S: Source, T: Sink>(
       whole = λ c. written output (normal c);
       begun = λ c. begun_stream output (decided_blocks c);
       counts = counts_of input;
-    }) (S.has_ended source.new) (movement_of S.given S.failed source.old source.new)
-        (movement_of T.taken T.failed sink.old sink.new) result }
+    }) (ends_of S.Source source.old source.new T.Sink sink.old sink.new) result }
 {
     run_blocks(source, sink, max_bytes, input, NormalBlocks { output })
 }
@@ -232,9 +231,7 @@ pub fn decode<S: Source, T: Sink>(
       whole = λ c. file (blocks c);
       begun = λ c. file (decided_blocks c);
       counts = counts_of input;
-    }) (S.has_ended source.new) (movement_of S.given S.failed source.old source.new)
-        (movement_of T.taken T.failed sink.old sink.new) result }
-    ensures passed_on { IfOk result (λ _. T.passed sink.new ≡ T.taken sink.new) }
+    }) (ends_of S.Source source.old source.new T.Sink sink.old sink.new) result }
 {
     decode_words(source, sink, max_bytes, input, Words::Own)
 }
@@ -264,9 +261,7 @@ pub fn decode_words<S: Source, T: Sink>(
       whole = λ c. words_file words (blocks c);
       begun = λ c. words_file words (decided_blocks c);
       counts = counts_of input;
-    }) (S.has_ended source.new) (movement_of S.given S.failed source.old source.new)
-        (movement_of T.taken T.failed sink.old sink.new) result }
-    ensures passed_on { IfOk result (λ _. T.passed sink.new ≡ T.taken sink.new) }
+    }) (ends_of S.Source source.old source.new T.Sink sink.old sink.new) result }
 {
     run_blocks(source, sink, max_bytes, input, FileBlocks { words })
 }
@@ -299,9 +294,7 @@ pub fn cut<S: Source, T: Sink>(
       whole = λ c. written_stream output (cut_blocks from count (blocks c));
       begun = λ c. begun_stream output (cut_blocks from count (decided_blocks c));
       counts = counts_of input;
-    }) (S.has_ended source.new) (movement_of S.given S.failed source.old source.new)
-        (movement_of T.taken T.failed sink.old sink.new) result }
-    ensures passed_on { IfOk result (λ _. T.passed sink.new ≡ T.taken sink.new) }
+    }) (ends_of S.Source source.old source.new T.Sink sink.old sink.new) result }
 {
     let writer = CutBlocks {
         stream: NormalBlocks { output },

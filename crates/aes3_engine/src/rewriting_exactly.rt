@@ -10,7 +10,7 @@ ghost use Rattle.aes3_status.specs.KindPlaces.{AreFirstsOf, Met, Rising};
 ghost use Rattle.aes3_lock.specs.Following.{report_in};
 ghost use Rattle.aes3_lock.specs.Reports.{blocks, reports};
 ghost use Rattle.aes3_input.specs.Inputs.{cells_of};
-ghost use Rattle.aes3_input.specs.Running.{InputRun, movement_of};
+ghost use Rattle.aes3_input.specs.Running.{InputRun, ends_of};
 ghost use Rattle.aes3_lock_runs.specs.BlockRuns.{normal_block, written_stream};
 ghost use Rattle.aes3_lock_runs.specs.ReportRuns.{counts_of};
 ghost use Rattle.aes3_engine.specs.Filling.{Placed, placed};
@@ -278,9 +278,7 @@ pub fn rewrite_exactly<S: Source, T: Sink>(
         (written_stream output (rewritten_blocks change.now (blocks (cells_of input b))))) }
     // What it returns for every input, and what it has written then.
     ensures run { InputRun (exactly_rewritten_cells input output change.now) max_bytes
-        (S.has_ended source.new) (movement_of S.given S.failed source.old source.new)
-        (movement_of T.taken T.failed sink.old sink.new) result }
-    ensures passed_on { IfOk result (λ _. T.passed sink.new ≡ T.taken sink.new) }
+        (ends_of S.Source source.old source.new T.Sink sink.old sink.new) result }
 {
     let blocks = ExactlyRewrittenBlocks::new(output, change);
     let (counts, blocks) = run_reports(source, sink, max_bytes, input, blocks)?;

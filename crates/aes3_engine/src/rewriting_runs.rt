@@ -13,7 +13,7 @@ ghost use Rattle.aes3_lock.specs.declared.report.Report.{Report};
 ghost use Rattle.aes3_lock.specs.Following.{report_in};
 ghost use Rattle.aes3_lock.specs.Reports.{blocks, reports, wholes};
 ghost use Rattle.aes3_input.specs.Inputs.{cells_of};
-ghost use Rattle.aes3_input.specs.Running.{InputRun, movement_of};
+ghost use Rattle.aes3_input.specs.Running.{InputRun, ends_of};
 ghost use Rattle.aes3_lock_runs.specs.BlockRuns.{normal_block, report_bytes, written_stream};
 ghost use Rattle.aes3_lock_runs.specs.ReportRuns.{counts_of, report_writing};
 ghost use Rattle.aes3_engine.specs.Rewriting.{rewritten, rewritten_block, rewritten_blocks};
@@ -260,9 +260,7 @@ pub fn rewrite<S: Source, T: Sink>(
     // A run over cells: it returns Ok if it can, with the settings that the blocks take. An error
     // has its cause, and what was decided before it is written.
     ensures run { InputRun (rewritten_cells input output change.now) max_bytes
-        (S.has_ended source.new) (movement_of S.given S.failed source.old source.new)
-        (movement_of T.taken T.failed sink.old sink.new) result }
-    ensures passed_on { IfOk result (λ _. T.passed sink.new ≡ T.taken sink.new) }
+        (ends_of S.Source source.old source.new T.Sink sink.old sink.new) result }
 {
     let blocks = RewrittenBlocks::new(output, change);
     let (counts, blocks) = run_reports(source, sink, max_bytes, input, blocks)?;

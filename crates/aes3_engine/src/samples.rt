@@ -11,7 +11,7 @@ ghost use Rattle.aes3_frame.specs.Samples.{block_samples, samples};
 ghost use Rattle.aes3_lock.specs.Reports.{blocks, normal};
 ghost use Rattle.aes3_input.specs.Inputs.{cells_of};
 ghost use Rattle.aes3_input.specs.Driving.{CellRun};
-ghost use Rattle.aes3_input.specs.Running.{movement_of};
+ghost use Rattle.aes3_input.specs.Running.{ends_of};
 ghost use Rattle.aes3_forms_samples.specs.Formats.{narrowed};
 ghost use Rattle.aes3_lock_runs.specs.BlockRuns.{decided_blocks, written_stream};
 ghost use Rattle.aes3_lock_runs.specs.ReportRuns.{counts_of};
@@ -104,9 +104,7 @@ pub fn to_pcm<S: Source, T: Sink>(
       whole = λ c. narrowed format (samples (blocks c));
       begun = λ c. narrowed format (samples (decided_blocks c));
       counts = counts_of input;
-    }) (S.has_ended source.new) (movement_of S.given S.failed source.old source.new)
-        (movement_of T.taken T.failed sink.old sink.new) result }
-    ensures passed_on { IfOk result (λ _. T.passed sink.new ≡ T.taken sink.new) }
+    }) (ends_of S.Source source.old source.new T.Sink sink.old sink.new) result }
 {
     run_blocks(source, sink, max_bytes, input, SampleBlocks { format })
 }

@@ -8,7 +8,7 @@ ghost use Rattle.aes3_files.specs.Sound.{begins_sound};
 ghost use Rattle.aes3_cell.specs.Writes.{Wrote};
 ghost use Rattle.aes3_frame.specs.Files.{words_of};
 ghost use Rattle.aes3_frame.specs.Sampled.{payload_of_sample};
-ghost use Rattle.aes3_input.specs.Running.{InputRun, movement_of};
+ghost use Rattle.aes3_input.specs.Running.{InputRun, ends_of};
 ghost use Rattle.aes3_forms_samples.specs.declared.sample_format.SampleFormat.TheVariants.{S32};
 ghost use Rattle.aes3_forms_samples.specs.Formats.{asks_exact, block_len};
 ghost use Rattle.aes3_engine.specs.Rewriting.{rewritten};
@@ -261,7 +261,6 @@ pub fn from_pcm<S: Source, T: Sink>(
     // whole blocks.
     ensures file { IfOk result (λ _. (b : List ℕ) → Told (S.given source.old) (S.given source.new) b
         → Grew (T.taken sink.old) (T.taken sink.new) (pcm_file change.now b)) }
-    ensures passed_on { IfOk result (λ _. T.passed sink.new ≡ T.taken sink.new) }
 
     // It returns Ok if the input is whole frames, is no sound file and fits, and neither input nor
     // output failed. If required, its samples must have at most 24 bits.
@@ -271,9 +270,8 @@ pub fn from_pcm<S: Source, T: Sink>(
         → IsOk result }
 
     // What it returns for every input, and what it has written then.
-    ensures run { InputRun (sampled_file exact change.now) max_bytes (S.has_ended source.new)
-        (movement_of S.given S.failed source.old source.new)
-        (movement_of T.taken T.failed sink.old sink.new) result }
+    ensures run { InputRun (sampled_file exact change.now) max_bytes
+        (ends_of S.Source source.old source.new T.Sink sink.old sink.new) result }
 {
     from_pcm_words(
         source,
@@ -309,7 +307,6 @@ pub fn from_pcm_words<S: Source, T: Sink>(
     // whole blocks.
     ensures file { IfOk result (λ _. (b : List ℕ) → Told (S.given source.old) (S.given source.new) b
         → Grew (T.taken sink.old) (T.taken sink.new) (pcm_words format words change.now b)) }
-    ensures passed_on { IfOk result (λ _. T.passed sink.new ≡ T.taken sink.new) }
 
     // It returns Ok if the input is whole frames, is no sound file and fits, and neither input nor
     // output failed. If required, its samples must have at most 24 bits.
@@ -319,9 +316,8 @@ pub fn from_pcm_words<S: Source, T: Sink>(
         → IsOk result }
 
     // What it returns for every input, and what it has written then.
-    ensures run { InputRun (sampled_words format exact words change.now) max_bytes (S.has_ended source.new)
-        (movement_of S.given S.failed source.old source.new)
-        (movement_of T.taken T.failed sink.old sink.new) result }
+    ensures run { InputRun (sampled_words format exact words change.now) max_bytes
+        (ends_of S.Source source.old source.new T.Sink sink.old sink.new) result }
 {
     let mut input = SampleInput::new(format, exact, words);
     let block_len = format.block_len() as u64;

@@ -6,7 +6,7 @@ ghost use Rattle.aes3_cell.specs.Ends.{Grew, Told};
 ghost use Rattle.aes3_cell.specs.Written.{written};
 ghost use Rattle.aes3_level.specs.declared.level.Level.{Level};
 ghost use Rattle.aes3_lock.specs.Reports.{blocks, normal};
-ghost use Rattle.aes3_input.specs.Running.{FrontRan, InputRun, PieceRan, movement_of};
+ghost use Rattle.aes3_input.specs.Running.{FrontRan, InputRun, PieceRan, ends_of, movement_of};
 ghost use Rattle.aes3_frame.specs.Files.{IsBlockFile};
 ghost use Rattle.aes3_forms_words.specs.declared.alsa_am824.Words.{Words};
 ghost use Rattle.aes3_forms_words.specs.Lists.{own_of};
@@ -202,10 +202,8 @@ fn encode_other<S: Source, T: Sink>(
     requires source_room { S.failed source.old + 1 < 2 ^ 64 }
     requires sink_room { T.failed sink.old + 1 < 2 ^ 64 }
     requires limit { max_bytes ≤ 2 ^ 40 }
-    ensures run { InputRun (with_left_out words (encoded_other words output)) max_bytes
-        (S.has_ended source.new) (movement_of S.given S.failed source.old source.new)
-        (movement_of T.taken T.failed sink.old sink.new) result }
-    ensures passed_on { IfOk result (λ _. T.passed sink.new ≡ T.taken sink.new) }
+    ensures { InputRun (with_left_out words (encoded_other words output)) max_bytes
+        (ends_of S.Source source.old source.new T.Sink sink.old sink.new) result }
 {
     let file = BlockFile::new();
     let reader = WordReader {
@@ -239,10 +237,8 @@ fn encode_in<S: Source, T: Sink>(
     requires source_room { S.failed source.old + 1 < 2 ^ 64 }
     requires sink_room { T.failed sink.old + 1 < 2 ^ 64 }
     requires limit { max_bytes ≤ 2 ^ 40 }
-    ensures run { InputRun (told_words words output) max_bytes (S.has_ended source.new)
-        (movement_of S.given S.failed source.old source.new)
-        (movement_of T.taken T.failed sink.old sink.new) result }
-    ensures passed_on { IfOk result (λ _. T.passed sink.new ≡ T.taken sink.new) }
+    ensures { InputRun (told_words words output) max_bytes
+        (ends_of S.Source source.old source.new T.Sink sink.old sink.new) result }
 {
     match words {
         Words::Own => {
@@ -281,10 +277,8 @@ pub fn encode_words<S: Source, T: Sink>(
         → Grew (T.taken sink.old) (T.taken sink.new) (written output (normal c))) }
 
     // What it returns for every input, and what it has written then.
-    ensures run { InputRun (told_words words output) max_bytes (S.has_ended source.new)
-        (movement_of S.given S.failed source.old source.new)
-        (movement_of T.taken T.failed sink.old sink.new) result }
-    ensures passed_on { IfOk result (λ _. T.passed sink.new ≡ T.taken sink.new) }
+    ensures run { InputRun (told_words words output) max_bytes
+        (ends_of S.Source source.old source.new T.Sink sink.old sink.new) result }
 {
     encode_in(source, sink, max_bytes, output, words)
 }

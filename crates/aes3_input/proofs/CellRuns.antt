@@ -10,7 +10,7 @@ use Rattle.aes3_refusals.specs.declared.run_error.RunError.TheVariants.{TooLong,
 use Rattle.aes3_refusals.specs.declared.run_error.RunError.TheVariants.{SoundHeader, Inexact}
 use Rattle.aes3_cell.specs.declared.counts.Counts.{Counts}
 use Rattle.aes3_cell.specs.CellText.{good}
-use Rattle.aes3_input.specs.Running.{Movement}
+use Rattle.aes3_input.specs.Running.{Ends}
 use Rattle.aes3_input.specs.Taking.{Writing, before_end, with_end}
 use Rattle.aes3_input.specs.Inputs.{IsInput, cells_of, BadByteAt, BadEndAt}
 use Rattle.aes3_input.specs.Driving.{IsCause, Drive, CellRun, over_cells}
@@ -32,28 +32,28 @@ cells-give form g h p q = record {
 -- a run of `drive` that was not refused, and one that was
 pub drove-ok : {max : ℕ} {form : Form} {w : Writing Level} {f z : List Level → Type 0}
     (whole begun : List Level → List ℕ) (counts : List ℕ → Counts)
-    {ended : Bool} {source sink : Movement} {bytes cells : ℕ} (n : Counts)
+    {ends : Ends} {bytes cells : ℕ} (n : Counts)
     → ((c : List Level) → with_end w c ≡ whole c) → ((c : List Level) → before_end w c ≡ begun c)
     → ((b : List ℕ) → bytes ≡ length b → cells ≡ length (cells_of form b) → z (cells_of form b) → n ≡ counts b)
-    → Drive max form w f z ended source sink (Ok (bytes, cells))
-    → CellRun max form (record { whole = whole; begun = begun; counts = counts }) ended source sink (Ok n)
+    → Drive max form w f z ends (Ok (bytes, cells))
+    → CellRun max form (record { whole = whole; begun = begun; counts = counts }) ends (Ok n)
 drove-ok {form = form} whole begun counts n p q k r
     = run-ok (cells-give form whole begun p q) (λ b i h. k b h.1 h.2 h.0) r.run
 
 pub drove-err : {max : ℕ} {form : Form} {w : Writing Level} {f z : List Level → Type 0}
     (whole begun : List Level → List ℕ) (counts : List ℕ → Counts)
-    {ended : Bool} {source sink : Movement} {x : RunError}
+    {ends : Ends} {x : RunError}
     → ((c : List Level) → with_end w c ≡ whole c) → ((c : List Level) → before_end w c ≡ begun c)
-    → Drive max form w f z ended source sink (Err x)
-    → CellRun max form (record { whole = whole; begun = begun; counts = counts }) ended source sink (Err x)
+    → Drive max form w f z ends (Err x)
+    → CellRun max form (record { whole = whole; begun = begun; counts = counts }) ends (Err x)
 drove-err {form = form} whole begun counts p q r = run-err (cells-give form whole begun p q) r.run
 
 pub cells-run : {max : ℕ} (form : Form)
     {whole begun : List Level → List ℕ} {counts : List ℕ
-    → Counts} {ended : Bool} {source sink : Movement} {r : Result Counts RunError} (g h : List Level → List ℕ)
+    → Counts} {ends : Ends} {r : Result Counts RunError} (g h : List Level → List ℕ)
     → ((c : List Level) → whole c ≡ g c) → ((c : List Level) → begun c ≡ h c)
-    → CellRun max form (record { whole = whole; begun = begun; counts = counts }) ended source sink r
-    → CellRun max form (record { whole = g; begun = h; counts = counts }) ended source sink r
+    → CellRun max form (record { whole = whole; begun = begun; counts = counts }) ends r
+    → CellRun max form (record { whole = g; begun = h; counts = counts }) ends r
 cells-run form g h p q run = run-is (cells-give form g h p q) (λ b n e. e) run
 
 -- an input of cells that fits has no cause

@@ -14,7 +14,7 @@ use Rattle.aes3_cell.specs.PackedReading.{end_cells}
 use Rattle.aes3_cell.proofs.PackedCells.{is_packed-packs, packs-is_packed}
 use Rattle.aes3_cell.proofs.PackedReads.{whole_cells-more, cells-end}
 use Rattle.aes3_input.specs.Converting.{fault_behind, first_fault, out, whole}
-use Rattle.aes3_input.specs.Running.{Movement, IsFault, Left, Run, CleanEnd, converted}
+use Rattle.aes3_input.specs.Running.{CleanEnd, Ends, IsFault, Left, Run, converted}
 use Rattle.aes3_input.specs.Taking.{TakerState, Writing, behind, before_end, with_end}
 use Rattle.aes3_input.specs.Forms.{packed_reading, packed_state, PackedTaken, PackedEnded}
 use Rattle.aes3_input.specs.Driving.{IsCause, LeftCells, Drive, driven}
@@ -162,10 +162,10 @@ packed-left max w packed cells f b e h
     = subst (λ (v : List ℕ). f (whole_cells v))
     (before-all (packed_reading w) [] (take max b) (clean-behind w [] (take max b))) h
 
-pub packed-ok : {max : ℕ} (old new : TakerState Level) {packed₀ packed : PackedReader} {cells₀ cells : ℕ} {ended : Bool}
-    {source sink : Movement} {n : ℕ}
-    → Run max (packed_state packed₀ cells₀ old) (packed_state packed cells new) ended source sink (Ok n)
-    → Drive max Packed old.writes new.follows new.finished ended source sink (Ok (n, cells))
+pub packed-ok : {max : ℕ} (old new : TakerState Level) {packed₀ packed : PackedReader} {cells₀ cells : ℕ}
+    {ends : Ends} {n : ℕ}
+    → Run max (packed_state packed₀ cells₀ old) (packed_state packed cells new) ends (Ok n)
+    → Drive max Packed old.writes new.follows new.finished ends (Ok (n, cells))
 packed-ok old new {cells = cells} r =
     record {
       run = run-ok (packed-gives old.writes (PackedEnded cells new.finished) new.finished)
@@ -174,9 +174,9 @@ packed-ok old new {cells = cells} r =
     }
 
 pub packed-err : {max : ℕ} (old new : TakerState Level) {packed₀ packed : PackedReader} {cells₀ cells : ℕ}
-    {ended : Bool} {source sink : Movement} {e : RunError}
-    → Run max (packed_state packed₀ cells₀ old) (packed_state packed cells new) ended source sink (Err e)
-    → Drive max Packed old.writes new.follows new.finished ended source sink (Err e)
+    {ends : Ends} {e : RunError}
+    → Run max (packed_state packed₀ cells₀ old) (packed_state packed cells new) ends (Err e)
+    → Drive max Packed old.writes new.follows new.finished ends (Err e)
 packed-err {max} old new {packed = packed} {cells = cells} {e = e} r =
     record {
       run = run-err (packed-gives old.writes (PackedEnded cells new.finished) new.finished) r.run;

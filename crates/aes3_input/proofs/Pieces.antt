@@ -9,7 +9,7 @@ use Rattle.aes3_refusals.specs.declared.run_error.RunError.TheVariants.{Read, Wr
 use Rattle.aes3_cell.specs.Ends.{Grew}
 use Rattle.aes3_cell.proofs.Growing.{grew-join, grew-is, front-join, front-is}
 use Rattle.aes3_input.specs.Converting.{Reading, before_fault, first_fault, out, whole}
-use Rattle.aes3_input.specs.Running.{Fed, PieceRan, EndRan, InputRan, Left, Run, Movement, Quiet, Clean, CleanEnd}
+use Rattle.aes3_input.specs.Running.{Ends, Fed, PieceRan, EndRan, InputRan, Left, Run, Movement, Quiet, Clean, CleanEnd}
 use Rattle.aes3_input.specs.Running.{InputState, converted}
 use Rattle.aes3_input.proofs.Outputs.{before-all}
 use Rattle.aes3_input.proofs.Feeding.{fed-is, fed-join, ran-join}
@@ -25,6 +25,10 @@ pub record Upto (r₀ r : Reading) (f₀ f : List ℕ → Type 0) (g₀ g t₀ t
 abbrev pub changed : Option (List ℕ) → Option (List ℕ) → ℕ → ℕ → Movement
 changed old new failed_old failed_new
     = record { old = old; new = new; failed_old = failed_old; failed_new = failed_new }
+
+-- both ends by these changes
+abbrev pub ends_by : Bool → Movement → Movement → Option (List ℕ) → Ends
+ends_by ended source sink passed = record { ended = ended; source = source; sink = sink; passed = passed }
 
 -- which of the bytes may be taken, with the last piece
 allowed-is : (max : ℕ) (a buf : List ℕ) (n j room : ℕ) → length a ≤ max → room ≡ max + 1 - length a → n ≤ room
@@ -73,10 +77,10 @@ faultless d h = d.clean [] h
 
 -- the source fails
 pub ran-read : (max : ℕ) (old new : InputState) {g₀ g : Option (List ℕ)}
-    (g' : Option (List ℕ)) {t₀ t : Option (List ℕ)} {seen : ℕ} (ended : Bool) (n₀ n n' k₀ k : ℕ)
+    (g' : Option (List ℕ)) {t₀ t p : Option (List ℕ)} {seen : ℕ} (ended : Bool) (n₀ n n' k₀ k : ℕ)
     → Upto old.reads new.reads old.follows new.follows g₀ g t₀ t seen → old.follows [] → seen ≤ max → n ≡ n₀ → k ≡ k₀
     → n' ≡ n + 1 → g' ≡ g
-    → Run max old new ended (changed g₀ g' n₀ n') (changed t₀ t k₀ k) (Err Read)
+    → Run max old new (ends_by ended (changed g₀ g' n₀ n') (changed t₀ t k₀ k) p) (Err Read)
 ran-read max old new {g₀ = g₀} g' ended n₀ n n' k₀ k u h le es ek e eg =
     let l = u.count in
     let all : take max u.bytes ≡ u.bytes = take_all max u.bytes (omega arith) in
@@ -97,13 +101,13 @@ ran-read max old new {g₀ = g₀} g' ended n₀ n n' k₀ k u h le es ek e eg =
 
 -- the source has ended
 pub ran-end : (max : ℕ) (old mid new : InputState)
-    {g₀ g g' t₀ t : Option (List ℕ)} (t' : Option (List ℕ)) {seen : ℕ} (ended : Bool) (n₀ n k₀ k k' : ℕ)
+    {g₀ g g' t₀ t p : Option (List ℕ)} (t' : Option (List ℕ)) {seen : ℕ} (ended : Bool) (n₀ n k₀ k k' : ℕ)
     → Upto old.reads mid.reads old.follows mid.follows g₀ g t₀ t seen → old.follows [] → seen ≤ max → n ≡ n₀ → k ≡ k₀
     → Grew g g' [] → IsTrue ended
-    → EndRan mid new (changed t t' k k') (Ok tt)
-    → Run max old new ended (changed g₀ g' n₀ n) (changed t₀ t' k₀ k') (Ok seen)
+    → EndRan mid new (changed t t' k k') (Ok tt) → p ≡ t'
+    → Run max old new (ends_by ended (changed g₀ g' n₀ n) (changed t₀ t' k₀ k') p) (Ok seen)
 unfolding whole
-ran-end max old mid new t' ended n₀ n k₀ k k' u h le es ek eg en e =
+ran-end max old mid new t' ended n₀ n k₀ k k' u h le es ek eg en e passed =
     let l = u.count in
     let b = u.bytes in
     let q = e.0 b (u.fed.follows [] h) in
@@ -122,19 +126,20 @@ ran-end max old mid new t' ended n₀ n k₀ k k' u h le es ek eg en e =
           es,
           e.1 ∙ ek,
           grew-join (written u.fed h) (grew-is (ap (λ v. v.ends b) u.fed.same) q.2),
+          passed,
         );
       };
       left = tt;
     }
 
 ended-as : (max : ℕ) (old mid new : InputState) (b : List ℕ) (ended : Bool) (source : Movement)
-    (t₀ t t' : Option (List ℕ)) (k₀ k k' : ℕ) (e : RunError)
+    (t₀ t t' p : Option (List ℕ)) (k₀ k k' : ℕ) (e : RunError)
     → CleanEnd max old.reads b ended → mid.reads ≡ old.reads → mid.follows b → Quiet source → k ≡ k₀
     → Grew t₀ t (out old.reads b)
     → EndRan mid new (changed t t' k k') (Err e)
-    → InputRan (converted old.reads new.finished) max b ended source (changed t₀ t' k₀ k') (Err e)
+    → InputRan (converted old.reads new.finished) max b (ends_by ended source (changed t₀ t' k₀ k') p) (Err e)
 unfolding whole
-ended-as max old mid new b ended source t₀ t t' k₀ k k' Write c same h q ek g w =
+ended-as max old mid new b ended source t₀ t t' p k₀ k k' Write c same h q ek g w =
     let v = w.0 b h in
     let n : old.reads.end_fault b ≡ None = ap (λ v. v.end_fault b) (sym same) ∙ v.0 in (
       q,
@@ -144,9 +149,9 @@ ended-as max old mid new b ended source t₀ t t' k₀ k k' Write c same h q ek 
         front-join g (front-is (ap (λ v. v.ends b) same) v.1),
       ),
     )
-ended-as max old mid new b ended source t₀ t t' k₀ k k' Read c same h q ek g w = absurd w
-ended-as max old mid new b ended source t₀ t t' k₀ k k' TooLong c same h q ek g w = absurd w
-ended-as max old mid new b ended source t₀ t t' k₀ k k' e c same h q ek g w =
+ended-as max old mid new b ended source t₀ t t' p k₀ k k' Read c same h q ek g w = absurd w
+ended-as max old mid new b ended source t₀ t t' p k₀ k k' TooLong c same h q ek g w = absurd w
+ended-as max old mid new b ended source t₀ t t' p k₀ k k' e c same h q ek g w =
     let v = w.0 b h in (
       inr (c, ap (λ v. v.end_fault b) (sym same) ∙ v.0),
       q,
@@ -166,12 +171,13 @@ ended-left max r mid new b sink e c h w =
     subst new.stopped (sym (ap (before_fault r []) (take_all max b c.short) ∙ before-all r [] b c.clean)) (w.0 b h).1
 
 pub ran-end_err : (max : ℕ) (old mid new : InputState)
-    {g₀ g g' t₀ t : Option (List ℕ)} (t' : Option (List ℕ)) {seen : ℕ} (ended : Bool) (n₀ n k₀ k k' : ℕ) (e : RunError)
+    {g₀ g g' t₀ t p : Option (List ℕ)} (t' : Option (List ℕ))
+    {seen : ℕ} (ended : Bool) (n₀ n k₀ k k' : ℕ) (e : RunError)
     → Upto old.reads mid.reads old.follows mid.follows g₀ g t₀ t seen → old.follows [] → seen ≤ max → n ≡ n₀ → k ≡ k₀
     → Grew g g' [] → IsTrue ended
     → EndRan mid new (changed t t' k k') (Err e)
-    → Run max old new ended (changed g₀ g' n₀ n) (changed t₀ t' k₀ k') (Err e)
-ran-end_err max old mid new {g₀} {g} {g'} {t₀} {t} t' {seen} ended n₀ n k₀ k k' e u h le es ek eg en w =
+    → Run max old new (ends_by ended (changed g₀ g' n₀ n) (changed t₀ t' k₀ k') p) (Err e)
+ran-end_err max old mid new {g₀} {g} {g'} {t₀} {t} {p} t' {seen} ended n₀ n k₀ k k' e u h le es ek eg en w =
     let l = u.count in
     let b = u.bytes in
     record {
@@ -179,7 +185,7 @@ ran-end_err max old mid new {g₀} {g} {g'} {t₀} {t} t' {seen} ended n₀ n k�
         bytes = b;
         given = grew-is (append-nil b) (grew-join u.given eg);
         few = omega arith;
-        ran = ended-as max old mid new b ended (changed g₀ g' n₀ n) t₀ t t' k₀ k k' e
+        ran = ended-as max old mid new b ended (changed g₀ g' n₀ n) t₀ t t' p k₀ k k' e
             (record { clean = record { short = omega arith; clean = faultless u.fed h }; end = en }) u.fed.same
             (u.fed.follows [] h) es ek (written u.fed h) w;
       };
@@ -188,14 +194,14 @@ ran-end_err max old mid new {g₀} {g} {g'} {t₀} {t} t' {seen} ended n₀ n k�
     }
 
 -- a piece stops the run
-piece-as : (max : ℕ) (old new : InputState) (b : List ℕ) (ended : Bool) (source sink : Movement) (e : RunError)
-    → PieceRan old new (take max b) sink (Err e) → old.follows [] → Quiet source
-    → InputRan (converted old.reads new.finished) max b ended source sink (Err e)
+piece-as : (max : ℕ) (old new : InputState) (b : List ℕ) (ends : Ends) (e : RunError)
+    → PieceRan old new (take max b) ends.sink (Err e) → old.follows [] → Quiet ends.source
+    → InputRan (converted old.reads new.finished) max b ends (Err e)
 unfolding out first_fault
-piece-as max old new b ended source sink Write w h q = (q, w.0, inl (w.1 [] h))
-piece-as max old new b ended source sink Read w h q = absurd w
-piece-as max old new b ended source sink TooLong w h q = absurd w
-piece-as max old new b ended source sink e w h q = (inl (w.0.fault [] h), q, w.1, w.0.grew [] h)
+piece-as max old new b ends Write w h q = (q, w.0, inl (w.1 [] h))
+piece-as max old new b ends Read w h q = absurd w
+piece-as max old new b ends TooLong w h q = absurd w
+piece-as max old new b ends e w h q = (inl (w.0.fault [] h), q, w.1, w.0.grew [] h)
 
 piece-left : (max : ℕ) (old new : InputState) (b : List ℕ) (sink : Movement) (e : RunError)
     → PieceRan old new (take max b) sink (Err e) → old.follows []
@@ -206,14 +212,14 @@ piece-left max old new b sink TooLong w h = absurd w
 piece-left max old new b sink e w h = w.0.left [] h
 
 pub ran-piece : (max : ℕ) (old mid new : InputState)
-    {g₀ g g' t₀ t : Option (List ℕ)} (t' : Option (List ℕ)) {seen : ℕ} (ended : Bool) (n₀ n k₀ k k' : ℕ)
+    {g₀ g g' t₀ t p : Option (List ℕ)} (t' : Option (List ℕ)) {seen : ℕ} (ended : Bool) (n₀ n k₀ k k' : ℕ)
     (m j room : ℕ) (buf : List ℕ) (e : RunError)
     → Upto old.reads mid.reads old.follows mid.follows g₀ g t₀ t seen → old.follows [] → seen ≤ max → n ≡ n₀ → k ≡ k₀
     → Grew g g' (take m buf) → room ≡ max + 1 - seen → m ≤ room → m ≤ length buf → (m ≡ room → j + 1 ≡ m)
     → (m < room → j ≡ m)
     → PieceRan mid new (take j buf) (changed t t' k k') (Err e)
-    → Run max old new ended (changed g₀ g' n₀ n) (changed t₀ t' k₀ k') (Err e)
-ran-piece max old mid new {g₀} {g} {g'} {t₀} {t} t' {seen} ended n₀ n k₀ k k' m j room buf e u h le es
+    → Run max old new (ends_by ended (changed g₀ g' n₀ n) (changed t₀ t' k₀ k') p) (Err e)
+ran-piece max old mid new {g₀} {g} {g'} {t₀} {t} {p} t' {seen} ended n₀ n k₀ k k' m j room buf e u h le es
     ek eg er mr mb last all w =
     let l = u.count in
     let a = u.bytes in
@@ -221,7 +227,7 @@ ran-piece max old mid new {g₀} {g} {g'} {t₀} {t} t' {seen} ended n₀ n k₀
     let q' : length (take m buf) ≡ m = length-take-le m buf mb in
     let x : take max (a ++ take m buf) ≡ a ++ take j buf
     = allowed-is max a buf m j room (omega arith) (omega arith) mr mb last all in
-    let p : PieceRan old new (take max (a ++ take m buf)) (changed t₀ t' k₀ k') (Err e) =
+    let w' : PieceRan old new (take max (a ++ take m buf)) (changed t₀ t' k₀ k') (Err e) =
     ran-join old mid new t' k' (take j buf) [] (take max (a ++ take m buf)) e u.fed ek
     (ap (λ v. a ++ v) (append-nil (take j buf)) ∙ sym x) w in
     record {
@@ -229,20 +235,21 @@ ran-piece max old mid new {g₀} {g} {g'} {t₀} {t} t' {seen} ended n₀ n k₀
         bytes = a ++ take m buf;
         given = grew-join u.given eg;
         few = omega arith;
-        ran = piece-as max old new (a ++ take m buf) ended (changed g₀ g' n₀ n) (changed t₀ t' k₀ k') e p h es;
+        ran = piece-as max old new (a ++ take m buf)
+            (ends_by ended (changed g₀ g' n₀ n) (changed t₀ t' k₀ k') p) e w' h es;
       };
-      left = piece-left max old new (a ++ take m buf) (changed t₀ t' k₀ k') e p h;
+      left = piece-left max old new (a ++ take m buf) (changed t₀ t' k₀ k') e w' h;
     }
 
 -- one byte too many
 pub ran-long : (max : ℕ) (old mid new : InputState)
-    {g₀ g g' t₀ t t' : Option (List ℕ)} {seen : ℕ} (ended : Bool) (n₀ n k₀ k k' : ℕ)
+    {g₀ g g' t₀ t t' p : Option (List ℕ)} {seen : ℕ} (ended : Bool) (n₀ n k₀ k k' : ℕ)
     (m j room : ℕ) (buf : List ℕ)
     → Upto old.reads mid.reads old.follows mid.follows g₀ g t₀ t seen → old.follows [] → seen ≤ max → n ≡ n₀ → k ≡ k₀
     → k' ≡ k → Grew g g' (take m buf) → room ≡ max + 1 - seen → m ≤ room → m ≤ length buf → (m ≡ room → j + 1 ≡ m)
     → (m < room → j ≡ m) → max < seen + m
     → Fed mid.reads new.reads mid.follows new.follows t t' (take j buf)
-    → Run max old new ended (changed g₀ g' n₀ n) (changed t₀ t' k₀ k') (Err TooLong)
+    → Run max old new (ends_by ended (changed g₀ g' n₀ n) (changed t₀ t' k₀ k') p) (Err TooLong)
 ran-long max old mid new ended n₀ n k₀ k k' m j room buf u h le es ek e eg er mr mb last all long d =
     let l = u.count in
     let a = u.bytes in

@@ -13,7 +13,7 @@ use Rattle.aes3_cell.specs.CellText.{is_good_byte, byte_cells, good_bytes, good,
 use Rattle.aes3_cell.specs.TextReading.{TextReader, text_reader_of}
 use Rattle.aes3_cell.proofs.CellTexts.{good-join, good-bad, text-more, cells-more, cells-bad}
 use Rattle.aes3_input.specs.Converting.{or_else, unless, fault_behind, before_fault, first_fault, out, whole}
-use Rattle.aes3_input.specs.Running.{Movement, IsFault, Left, Run, CleanEnd, converted}
+use Rattle.aes3_input.specs.Running.{CleanEnd, Ends, IsFault, Left, Run, converted}
 use Rattle.aes3_input.specs.Taking.{TakerState, Writing, behind, before_end, with_end}
 use Rattle.aes3_input.specs.Forms.{text_reading, text_state, TextTaken}
 use Rattle.aes3_input.specs.Driving.{IsCause, LeftCells, Drive, driven}
@@ -221,10 +221,9 @@ text-left max w text cells f b Read h = h.taker
 text-left max w text cells f b TooLong h = h.taker
 text-left max w text cells f b e h = subst f (cells-left w (take max b)) h
 
-pub text-ok : {max : ℕ} (old new : TakerState Level) {text₀ text : TextReader} {cells₀ cells : ℕ} {ended : Bool}
-    {source sink : Movement} {n : ℕ}
-    → Run max (text_state text₀ cells₀ old) (text_state text cells new) ended source sink (Ok n)
-    → Drive max Text old.writes new.follows new.finished ended source sink (Ok (n, cells))
+pub text-ok : {max : ℕ} (old new : TakerState Level) {text₀ text : TextReader} {cells₀ cells : ℕ} {ends : Ends} {n : ℕ}
+    → Run max (text_state text₀ cells₀ old) (text_state text cells new) ends (Ok n)
+    → Drive max Text old.writes new.follows new.finished ends (Ok (n, cells))
 text-ok old new {text = text} {cells = cells} r =
     record {
       run = run-ok (text-gives old.writes (TextTaken text cells new.finished) new.finished)
@@ -232,10 +231,10 @@ text-ok old new {text = text} {cells = cells} r =
       left = tt;
     }
 
-pub text-err : {max : ℕ} (old new : TakerState Level) {text₀ text : TextReader} {cells₀ cells : ℕ} {ended : Bool}
-    {source sink : Movement} {e : RunError}
-    → Run max (text_state text₀ cells₀ old) (text_state text cells new) ended source sink (Err e)
-    → Drive max Text old.writes new.follows new.finished ended source sink (Err e)
+pub text-err : {max : ℕ} (old new : TakerState Level) {text₀ text : TextReader} {cells₀ cells : ℕ} {ends : Ends}
+    {e : RunError}
+    → Run max (text_state text₀ cells₀ old) (text_state text cells new) ends (Err e)
+    → Drive max Text old.writes new.follows new.finished ends (Err e)
 text-err {max} old new {text = text} {cells = cells} {e = e} r =
     record {
       run = run-err (text-gives old.writes (TextTaken text cells new.finished) new.finished) r.run;

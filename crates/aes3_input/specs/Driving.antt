@@ -7,7 +7,7 @@ use Rattle.aes3_refusals.specs.declared.run_error.RunError.{RunError}
 use Rattle.aes3_refusals.specs.declared.run_error.RunError.TheVariants.{BadCell, BadLength, BadCode, BadParity, Read, Write}
 use Rattle.aes3_refusals.specs.declared.run_error.RunError.TheVariants.{TooLong, Memory, BadStatusText, BadPadding, BadSample}
 use Rattle.aes3_refusals.specs.declared.run_error.RunError.TheVariants.{SoundHeader, Inexact}
-use Rattle.aes3_input.specs.Running.{Movement, Promise, InputRun}
+use Rattle.aes3_input.specs.Running.{Ends, Promise, InputRun}
 use Rattle.aes3_input.specs.Taking.{Writing, before_end, with_end}
 use Rattle.aes3_input.specs.Inputs.{IsInput, cells_of, cells_before, NoBadByte, BadByteAt, BadEndAt}
 
@@ -51,7 +51,7 @@ pub record CellPromise : Type 0 where
   pub begun : List Level → List ℕ
   pub counts : List ℕ → Counts
 
-abbrev pub CellRun : ℕ → Form → CellPromise → Bool → Movement → Movement → Result Counts RunError → Type 0
+abbrev pub CellRun : ℕ → Form → CellPromise → Ends → Result Counts RunError → Type 0
 CellRun max form p = InputRun (counted_cells form p.whole p.begun p.counts) max
 
 -- what driving a taker promises, of which z holds then: how many bytes and cells there are; the taker was given exactly
@@ -68,7 +68,7 @@ LeftCells max form f b (Err Write) = Unit {0}
 LeftCells max form f b (Err e) = f (cells_before form (take max b))
 
 -- the run that drives a taker
-pub record Drive (max : ℕ) (form : Form) (w : Writing Level) (f z : List Level → Type 0) (ended : Bool)
-    (source sink : Movement) (result : Result (ℕ × ℕ) RunError) : Type 0 where
-  pub run : InputRun (driven form w z) max ended source sink result
+pub record Drive (max : ℕ) (form : Form) (w : Writing Level) (f z : List Level → Type 0) (ends : Ends)
+    (result : Result (ℕ × ℕ) RunError) : Type 0 where
+  pub run : InputRun (driven form w z) max ends result
   pub left : LeftCells max form f run.bytes result

@@ -4,6 +4,8 @@ use Rattle.std.specs.Prelude.{IsTrue, length, take}
 use Rattle.aes3_refusals.specs.declared.run_error.RunError.{RunError}
 use Rattle.aes3_refusals.specs.declared.run_error.RunError.TheVariants.{Read, Write, TooLong}
 use Rattle.aes3_cell.specs.Ends.{Grew, GrewFront}
+use Rattle.aes3_cell.specs.declared.ends.Source.{Ghosts as SourceMembers}
+use Rattle.aes3_cell.specs.declared.ends.Sink.{Ghosts as SinkMembers}
 use Rattle.aes3_input.specs.Converting.{Reading, fault_behind, out_behind, before_fault, first_fault, out, whole}
 
 -- an end's bytes and its count of failures, before a call and after it
@@ -17,6 +19,22 @@ pub record Movement : Type 0 where
 abbrev pub movement_of : {A : Type 0} → (A → Option (List ℕ)) → (A → ℕ) → A → A → Movement
 movement_of bytes failed before after =
     record { old = bytes before; new = bytes after; failed_old = failed before; failed_new = failed after }
+
+-- both ends of a run, before it and after it; whether the source has ended then, and what the sink has passed on
+pub record Ends : Type 0 where
+  pub ended : Bool
+  pub source : Movement
+  pub sink : Movement
+  pub passed : Option (List ℕ)
+
+-- a source and a sink, by the members that their traits have for contracts
+abbrev pub ends_of : {S T : Type 0} → SourceMembers S → S → S → SinkMembers T → T → T → Ends
+ends_of s source source' t sink sink' = record {
+  ended = s.has_ended source';
+  source = movement_of s.given s.failed source source';
+  sink = movement_of t.taken t.failed sink sink';
+  passed = t.passed sink';
+}
 
 -- no failure, one failure
 abbrev pub Quiet : Movement → Type 0
@@ -100,33 +118,34 @@ pub record Complete (is_input : List ℕ → Type 0) (max : ℕ) (b : List ℕ) 
 
 -- What a run answers to the bytes b:
 -- Ok: they are an input of at most `max` bytes, and the source has ended; the answer; neither end failed; what the
---   input writes is written
+--   input writes is written, and the sink has passed on all that it took
 -- Write: the sink failed, once, and the source did not; a front is written of what the bytes up to the limit write
 --   behind which more may come, or, where the input is whole, of what it writes
 -- Read: its cause; the source failed, once, and the sink did not; what the bytes up to the limit write is written
 -- any other refusal: its cause; neither end failed; what the bytes up to the limit write is written
 -- So Ok is owed where the input is in its form and fits and neither end failed: each refusal has a failure or a cause
 -- that says otherwise.
-abbrev pub InputRan : {A : Type 0} → Promise A → ℕ → List ℕ → Bool → Movement → Movement → Result A RunError → Type 0
-InputRan p max b ended source sink (Ok n) =
-    Complete p.input max b ended × p.answer b n × Quiet source × Quiet sink × Grew sink.old sink.new (p.whole b)
-InputRan p max b ended source sink (Err Write) =
-    Quiet source × Failed sink × (GrewFront sink.old sink.new (p.begun (take max b))
-    ⊎ (Complete p.input max b ended × GrewFront sink.old sink.new (p.whole b)))
-InputRan p max b ended source sink (Err Read) =
-    p.cause max b ended Read × Failed source × Quiet sink × Grew sink.old sink.new (p.begun (take max b))
-InputRan p max b ended source sink (Err e) =
-    p.cause max b ended e × Quiet source × Quiet sink × Grew sink.old sink.new (p.begun (take max b))
+abbrev pub InputRan : {A : Type 0} → Promise A → ℕ → List ℕ → Ends → Result A RunError → Type 0
+InputRan p max b ends (Ok n) =
+    Complete p.input max b ends.ended × p.answer b n × Quiet ends.source × Quiet ends.sink
+    × Grew ends.sink.old ends.sink.new (p.whole b) × (ends.passed ≡ ends.sink.new)
+InputRan p max b ends (Err Write) =
+    Quiet ends.source × Failed ends.sink × (GrewFront ends.sink.old ends.sink.new (p.begun (take max b))
+    ⊎ (Complete p.input max b ends.ended × GrewFront ends.sink.old ends.sink.new (p.whole b)))
+InputRan p max b ends (Err Read) =
+    p.cause max b ends.ended Read × Failed ends.source × Quiet ends.sink
+    × Grew ends.sink.old ends.sink.new (p.begun (take max b))
+InputRan p max b ends (Err e) =
+    p.cause max b ends.ended e × Quiet ends.source × Quiet ends.sink
+    × Grew ends.sink.old ends.sink.new (p.begun (take max b))
 
 -- A run over an input of at most max bytes: the bytes that the source gave in it, which are those that it tells where
--- it tells them, at most one more than max; and what it answered to them, where `ended` says whether the source has
--- ended.
-pub record InputRun {A : Type 0} (p : Promise A) (max : ℕ) (ended : Bool) (source sink : Movement)
-    (result : Result A RunError) : Type 0 where
+-- it tells them, at most one more than max; and what it answered to them.
+pub record InputRun {A : Type 0} (p : Promise A) (max : ℕ) (ends : Ends) (result : Result A RunError) : Type 0 where
   pub bytes : List ℕ
-  pub given : Grew source.old source.new bytes
+  pub given : Grew ends.source.old ends.source.new bytes
   pub few : length bytes ≤ max + 1
-  pub ran : InputRan p max bytes ended source sink result
+  pub ran : InputRan p max bytes ends result
 
 -- the bytes b are an input of at most max bytes, none of which is a fault
 pub record Clean (max : ℕ) (r : Reading) (b : List ℕ) : Type 0 where
@@ -170,7 +189,6 @@ Left max r f s b (Err TooLong) = f (take max b)
 Left max r f s b (Err e) = s (before_fault r [] (take max b))
 
 -- a conversion's run
-pub record Run (max : ℕ) (old new : InputState) (ended : Bool) (source sink : Movement) (result : Result ℕ RunError)
-    : Type 0 where
-  pub run : InputRun (converted old.reads new.finished) max ended source sink result
+pub record Run (max : ℕ) (old new : InputState) (ends : Ends) (result : Result ℕ RunError) : Type 0 where
+  pub run : InputRun (converted old.reads new.finished) max ends result
   pub left : Left max old.reads new.follows new.stopped run.bytes result

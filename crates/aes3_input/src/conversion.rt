@@ -3,7 +3,7 @@
 ghost use Rattle.std.specs.Prelude.{◌≡◌, ℕ, ◌+◌, ◌<◌, ◌≤◌, ◌^◌, ◌↔◌, List, [], length, take, IfOk};
 ghost use Rattle.std.specs.Prelude.{OnErr, IsTrue};
 ghost use Rattle.aes3_cell.specs.Ends.{Grew};
-ghost use Rattle.aes3_input.specs.Running.{EndRan, FrontRan, InputState, PieceRan, Run};
+ghost use Rattle.aes3_input.specs.Running.{EndRan, FrontRan, InputState, PieceRan, Run, ends_of};
 ghost use Rattle.aes3_input.specs.Running.{movement_of};
 
 use aes3_cell::{Fault, RunError, Sink, Source};
@@ -194,12 +194,8 @@ pub fn convert<S: Source, T: Sink, K, I: Input<K>>(
     requires limit { max_bytes ≤ 2 ^ 40 }
     requires start { (I.state input.old taker.old).follows [] }
     ensures run { Run max_bytes (I.state input.old taker.old) (I.state input.new taker.new)
-        (S.has_ended source.new) (movement_of S.given S.failed source.old source.new)
-        (movement_of T.taken T.failed sink.old sink.new) result }
-
-    // After Ok the sink has passed on all that it took. It had done so before a read that failed,
-    // too.
-    ensures passed_on { IfOk result (λ _. T.passed sink.new ≡ T.taken sink.new) }
+        (ends_of S.Source source.old source.new T.Sink sink.old sink.new) result }
+    // The sink had passed on all that it took before a read that failed, as it has after Ok.
     ensures passed_before { S.failed source.new ≡ S.failed source.old + 1
         → T.passed sink.old ≡ T.taken sink.old → T.passed sink.new ≡ T.taken sink.new }
 {

@@ -9,7 +9,7 @@ ghost use Rattle.aes3_level.specs.Remaining.{all_of};
 ghost use Rattle.aes3_level.specs.Words.{cells_in, low_cells, word_cells};
 ghost use Rattle.aes3_input.specs.Forms.{CellsRan, SomeCellsRan};
 ghost use Rattle.aes3_input.specs.Taking.{TakerState};
-ghost use Rattle.aes3_input.specs.Running.{movement_of};
+ghost use Rattle.aes3_input.specs.Running.{ends_of, movement_of};
 ghost use Rattle.aes3_input.specs.Driving.{Drive};
 
 use crate::conversion::convert;
@@ -204,11 +204,9 @@ pub fn drive<S: Source, T: Sink, K: Taker>(
     requires sink_room { T.failed sink.old + 1 < 2 ^ 64 }
     requires limit { max_bytes ≤ 2 ^ 40 }
     requires start { (K.state taker.old).follows [] }
-    ensures ran { Drive max_bytes input (K.state taker.old).writes (K.state taker.new).follows
-        (K.state taker.new).finished (S.has_ended source.new)
-        (movement_of S.given S.failed source.old source.new)
-        (movement_of T.taken T.failed sink.old sink.new) result }
-    ensures passed_on { IfOk result (λ _. T.passed sink.new ≡ T.taken sink.new) }
+    ensures { Drive max_bytes input (K.state taker.old).writes (K.state taker.new).follows
+        (K.state taker.new).finished
+        (ends_of S.Source source.old source.new T.Sink sink.old sink.new) result }
 {
     match input {
         Form::Text => {

@@ -39,7 +39,7 @@ use Rattle.aes3_lock.proofs.PieceBlocks.{blocks-whole}
 use Rattle.aes3_lock.proofs.Changes.{blocks-few-changed}
 use Rattle.aes3_lock.proofs.Frames.{blocks-left}
 use Rattle.aes3_lock.proofs.Lost.{blocks-lost}
-use Rattle.aes3_input.specs.Running.{Movement}
+use Rattle.aes3_input.specs.Running.{Ends}
 use Rattle.aes3_input.specs.Inputs.{cells_of}
 use Rattle.aes3_input.proofs.InputRuns.{run-wrote}
 use Rattle.aes3_lock_runs.specs.ReportRuns.{output, ReportRun}
@@ -233,69 +233,70 @@ tells form c d = (
 )
 
 -- the clauses of a normal stream
-run-stream : {max : ℕ} (input : Form) {ended : Bool} {source sink : Movement} (form : Form) (r : Result Counts RunError)
-    → ReportRun max input (report_bytes (normal_block form)) (ending form) ended source sink r
-    → IfOk r (λ (n : Counts). (b : List ℕ) (ds : List (List (List Bool))) → Told source.old source.new b
-    → blocks (cells_of input b) ≡ ds → Grew sink.old sink.new (written_stream form ds))
+run-stream : {max : ℕ} (input : Form) {ends : Ends} (form : Form) (r : Result Counts RunError)
+    → ReportRun max input (report_bytes (normal_block form)) (ending form) ends r
+    → IfOk r (λ (n : Counts). (b : List ℕ) (ds : List (List (List Bool))) → Told ends.source.old ends.source.new b
+    → blocks (cells_of input b) ≡ ds → Grew ends.sink.old ends.sink.new (written_stream form ds))
 unfolding normal
 run-stream input form (Ok n) run =
     λ b ds t e. grew-is (normal-whole form (cells_of input b) ∙ ap (written_stream form) e) (run-wrote (Ok n) run b t)
 run-stream input form (Err e) run = tt
 
-pub run-piece : {max : ℕ} (input : Form) {ended : Bool} {source sink : Movement} (form : Form)
+pub run-piece : {max : ℕ} (input : Form) {ends : Ends} (form : Form)
     (r : Result Counts RunError)
-    → ReportRun max input (report_bytes (normal_block form)) (ending form) ended source sink r
+    → ReportRun max input (report_bytes (normal_block form)) (ending form) ends r
     → IfOk r (λ (n : Counts). (s : Level) (bs : List (List (List Bool))) (i j : ℕ) (b : List ℕ)
-    → Told source.old source.new b → IsPiece s bs i j (cells_of input b)
-    → Grew sink.old sink.new (written_stream form (whole_blocks bs i j)))
+    → Told ends.source.old ends.source.new b → IsPiece s bs i j (cells_of input b)
+    → Grew ends.sink.old ends.sink.new (written_stream form (whole_blocks bs i j)))
 run-piece input form (Ok n) run =
     λ s bs i j b t p. run-stream input form (Ok n) run b (whole_blocks bs i j) t
     (blocks-whole s bs i j (cells_of input b) p)
 run-piece input form (Err e) run = tt
 
 -- and of a piece of which cells are changed or lost
-pub run-damaged : {max : ℕ} (input : Form) {ended : Bool} {source sink : Movement} (form : Form)
+pub run-damaged : {max : ℕ} (input : Form) {ends : Ends} (form : Form)
     (r : Result Counts RunError)
-    → ReportRun max input (report_bytes (normal_block form)) (ending form) ended source sink r
+    → ReportRun max input (report_bytes (normal_block form)) (ending form) ends r
     → IfOk r (λ (n : Counts). (s : Level) (bs : List (List (List Bool))) (i j : ℕ) (c : List Level) (b : List ℕ)
-    → Told source.old source.new b → IsPiece s bs i j c
+    → Told ends.source.old ends.source.new b → IsPiece s bs i j c
     → length (cells_of input b) ≡ length c → apart c (cells_of input b) ≤ 3
-    → Grew sink.old sink.new (written_stream form (given_blocks (after_changes i c (cells_of input b)) bs i j)))
+    → Grew ends.sink.old ends.sink.new
+    (written_stream form (given_blocks (after_changes i c (cells_of input b)) bs i j)))
 run-damaged input form (Ok n) run = λ s bs i j c b t p l a.
     run-stream input form (Ok n) run b (given_blocks (after_changes i c (cells_of input b)) bs i j) t
     (blocks-few-changed s bs i j c (cells_of input b) p l a)
 run-damaged input form (Err e) run = tt
 
-pub run-left : {max : ℕ} (input : Form) {ended : Bool} {source sink : Movement} (form : Form)
+pub run-left : {max : ℕ} (input : Form) {ends : Ends} (form : Form)
     (r : Result Counts RunError)
-    → ReportRun max input (report_bytes (normal_block form)) (ending form) ended source sink r
+    → ReportRun max input (report_bytes (normal_block form)) (ending form) ends r
     → IfOk r (λ (n : Counts). (s : Level) (bs : List (List (List Bool))) (i j : ℕ) (c : List Level) (b : List ℕ)
-    → Told source.old source.new b → IsPiece s bs i j c
+    → Told ends.source.old ends.source.new b → IsPiece s bs i j c
     → length (cells_of input b) ≡ length c → AreClose c (cells_of input b)
     → (found : List PlacedBlock) × AreAllLeft found s bs i c (cells_of input b)
-    × Grew sink.old sink.new (written_stream form (map (λ f. f.block) found)))
+    × Grew ends.sink.old ends.sink.new (written_stream form (map (λ f. f.block) found)))
 run-left input form (Ok n) run = λ s bs i j c b t p l a.
     let r = blocks-left s bs i j c (cells_of input b) p l a in
     (r.0, r.1, run-stream input form (Ok n) run b (map (λ f. f.block) r.0) t r.2)
 run-left input form (Err e) run = tt
 
-pub run-lost : {max : ℕ} (input : Form) {ended : Bool} {source sink : Movement} (form : Form)
+pub run-lost : {max : ℕ} (input : Form) {ends : Ends} (form : Form)
     (r : Result Counts RunError)
-    → ReportRun max input (report_bytes (normal_block form)) (ending form) ended source sink r
+    → ReportRun max input (report_bytes (normal_block form)) (ending form) ends r
     → IfOk r (λ (n : Counts). (s : Level) (bs : List (List (List Bool))) (i j : ℕ) (c : List Level) (b : List ℕ)
-    → Told source.old source.new b → IsPiece s bs i j c
+    → Told ends.source.old ends.source.new b → IsPiece s bs i j c
     → (k : ℕ) → k < length c → cells_of input b ≡ without k c
-    → Grew sink.old sink.new (written_stream form (given_blocks (after_loss (i + k)) bs i j)))
+    → Grew ends.sink.old ends.sink.new (written_stream form (given_blocks (after_loss (i + k)) bs i j)))
 run-lost input form (Ok n) run = λ s bs i j c b t p k l e.
     run-stream input form (Ok n) run b (given_blocks (after_loss (i + k)) bs i j) t (ap blocks e
     ∙ blocks-lost s bs i j c p k l)
 run-lost input form (Err e) run = tt
 
-pub run-again : {max : ℕ} (input : Form) {ended : Bool} {source sink : Movement} (form : Form)
+pub run-again : {max : ℕ} (input : Form) {ends : Ends} (form : Form)
     (r : Result Counts RunError)
-    → ReportRun max input (report_bytes (normal_block form)) (ending form) ended source sink r
-    → IfOk r (λ (n : Counts). (c : List Level) → Told source.old source.new (written input (normal c))
-    → Grew sink.old sink.new (written form (normal c)))
+    → ReportRun max input (report_bytes (normal_block form)) (ending form) ends r
+    → IfOk r (λ (n : Counts). (c : List Level) → Told ends.source.old ends.source.new (written input (normal c))
+    → Grew ends.sink.old ends.sink.new (written form (normal c)))
 run-again input form (Ok n) run = λ c t.
     grew-is (normal-whole form (cells_of input (written input (normal c)))
     ∙ ap (λ v. written form (normal v)) (read-normal input c)
@@ -303,27 +304,27 @@ run-again input form (Ok n) run = λ c t.
 run-again input form (Err e) run = tt
 
 -- and of such blocks: of two lines with the same blocks, of a line that was written of blocks, and of a normal stream
-pub run-alike : {max : ℕ} (input : Form) {ended : Bool} {source sink : Movement} (f : List (List Bool)
-    → List ℕ) (r : Result Counts RunError) → ReportRun max input (report_bytes (λ n b. f b)) [] ended source sink r
-    → IfOk r (λ (n : Counts). (b : List ℕ) (ds : List (List (List Bool))) → Told source.old source.new b
-    → blocks (cells_of input b) ≡ ds → Grew sink.old sink.new (flat_map f ds))
+pub run-alike : {max : ℕ} (input : Form) {ends : Ends} (f : List (List Bool)
+    → List ℕ) (r : Result Counts RunError) → ReportRun max input (report_bytes (λ n b. f b)) [] ends r
+    → IfOk r (λ (n : Counts). (b : List ℕ) (ds : List (List (List Bool))) → Told ends.source.old ends.source.new b
+    → blocks (cells_of input b) ≡ ds → Grew ends.sink.old ends.sink.new (flat_map f ds))
 run-alike input f (Ok n) run =
     λ b ds t e. grew-is (alike-whole f (cells_of input b) ∙ ap (flat_map f) e) (run-wrote (Ok n) run b t)
 run-alike input f (Err e) run = tt
 
-pub run-back : {max : ℕ} (input : Form) {ended : Bool} {source sink : Movement} (f : List (List Bool)
-    → List ℕ) (r : Result Counts RunError) → ReportRun max input (report_bytes (λ n b. f b)) [] ended source sink r
+pub run-back : {max : ℕ} (input : Form) {ends : Ends} (f : List (List Bool)
+    → List ℕ) (r : Result Counts RunError) → ReportRun max input (report_bytes (λ n b. f b)) [] ends r
     → IfOk r (λ (n : Counts). (bs : List (List (List Bool))) → All IsBlock bs
-    → Told source.old source.new (written_stream input bs) → Grew sink.old sink.new (flat_map f bs))
+    → Told ends.source.old ends.source.new (written_stream input bs) → Grew ends.sink.old ends.sink.new (flat_map f bs))
 run-back input f (Ok n) run = λ bs a t.
     run-alike input f (Ok n) run (written_stream input bs) bs t (ap blocks (read-back input bs (each27 bs a))
     ∙ stream-blocks Low bs a)
 run-back input f (Err e) run = tt
 
-pub run-normal : {max : ℕ} (input : Form) {ended : Bool} {source sink : Movement} (f : List (List Bool)
-    → List ℕ) (r : Result Counts RunError) → ReportRun max input (report_bytes (λ n b. f b)) [] ended source sink r
-    → IfOk r (λ (n : Counts). (c : List Level) → Told source.old source.new (written input (normal c))
-    → Grew sink.old sink.new (flat_map f (blocks c)))
+pub run-normal : {max : ℕ} (input : Form) {ends : Ends} (f : List (List Bool)
+    → List ℕ) (r : Result Counts RunError) → ReportRun max input (report_bytes (λ n b. f b)) [] ends r
+    → IfOk r (λ (n : Counts). (c : List Level) → Told ends.source.old ends.source.new (written input (normal c))
+    → Grew ends.sink.old ends.sink.new (flat_map f (blocks c)))
 unfolding normal
 run-normal input f (Ok n) run = λ c t. run-back input f (Ok n) run (blocks c) (blocks-lawful c) t
 run-normal input f (Err e) run = tt

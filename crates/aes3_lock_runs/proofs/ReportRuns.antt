@@ -9,7 +9,7 @@ use Rattle.aes3_lock.specs.declared.report.Report.{Report}
 use Rattle.aes3_lock.specs.declared.tally.Tally.{Tally}
 use Rattle.aes3_lock.specs.Reports.{reports, decided, wholes, blocks}
 use Rattle.aes3_lock.specs.Tallies.{is_faulty, IsTallyOf, Tallies}
-use Rattle.aes3_input.specs.Running.{InputRun, Movement}
+use Rattle.aes3_input.specs.Running.{Ends, InputRun}
 use Rattle.aes3_input.specs.Taking.{Writing, before_end, with_end}
 use Rattle.aes3_input.specs.Inputs.{cells_of}
 use Rattle.aes3_input.specs.Driving.{counted_cells, Drive, over_cells}
@@ -64,18 +64,18 @@ gives-same form {v = v} e = cells-give form (with_end v) (before_end v)
     (λ c. ap (λ (u : Writing Level). with_end u c) e) (λ c. ap (λ (u : Writing Level). before_end u c) e)
 
 pub heard-ok : {A : Type 0} {max : ℕ} {form : Form} {w v : Writing Level} {f : List Level → Type 0}
-    (z : A → List Level → Type 0) {t : Tally} {m : A} {n : Counts} {ended : Bool} {source sink : Movement}
+    (z : A → List Level → Type 0) {t : Tally} {m : A} {n : Counts} {ends : Ends}
     {bytes cells : ℕ} → w ≡ v
     → ((b : List ℕ) → bytes ≡ length b → cells ≡ length (cells_of form b)
     → IsTallyOf t (reports (cells_of form b)) → n ≡ counts_of form b)
-    → Drive max form w f (λ c. IsTallyOf t (reports c) × z m c) ended source sink (Ok (bytes, cells))
-    → InputRun (heard_cells form v z) max ended source sink (Ok (n, m))
+    → Drive max form w f (λ c. IsTallyOf t (reports c) × z m c) ends (Ok (bytes, cells))
+    → InputRun (heard_cells form v z) max ends (Ok (n, m))
 heard-ok {form = form} z e k r = run-ok (gives-same form e) (λ b i h. (k b h.1 h.2 h.0.0, h.0.1)) r.run
 
 pub heard-err : {A : Type 0} {max : ℕ} {form : Form} {w v : Writing Level} {f y : List Level → Type 0}
-    (z : A → List Level → Type 0) {ended : Bool} {source sink : Movement} {x : RunError} → w ≡ v
-    → Drive max form w f y ended source sink (Err x)
-    → InputRun (heard_cells form v z) max ended source sink (Err x)
+    (z : A → List Level → Type 0) {ends : Ends} {x : RunError} → w ≡ v
+    → Drive max form w f y ends (Err x)
+    → InputRun (heard_cells form v z) max ends (Err x)
 heard-err {form = form} z e r = run-err (gives-same form e) r.run
 
 -- that of a reporter
@@ -96,13 +96,13 @@ gives-bytes form f e z = cells-give form (λ c. output f (reports c) ++ e) (λ c
     (λ c. with-output f e (reports c)) (λ c. before-output f e (decided c))
 
 pub told-ok : {A : Type 0} {max : ℕ} (form : Form) (f : ℕ → Report → List ℕ) (e : List ℕ)
-    (z : A → List Report → Type 0) {m : A} {n : Counts} {ended : Bool} {source sink : Movement}
-    → InputRun (told_reports form (report_writing f e) z) max ended source sink (Ok (n, m))
-    → ReportRun max form f e ended source sink (Ok n)
+    (z : A → List Report → Type 0) {m : A} {n : Counts} {ends : Ends}
+    → InputRun (told_reports form (report_writing f e) z) max ends (Ok (n, m))
+    → ReportRun max form f e ends (Ok n)
 told-ok form f e z r = run-ok (gives-bytes form f e z) (λ b i h. h.0) r
 
 pub told-err : {A : Type 0} {max : ℕ} (form : Form) (f : ℕ → Report → List ℕ) (e : List ℕ)
-    (z : A → List Report → Type 0) {ended : Bool} {source sink : Movement} {x : RunError}
-    → InputRun (told_reports form (report_writing f e) z) max ended source sink (Err x)
-    → ReportRun max form f e ended source sink (Err x)
+    (z : A → List Report → Type 0) {ends : Ends} {x : RunError}
+    → InputRun (told_reports form (report_writing f e) z) max ends (Err x)
+    → ReportRun max form f e ends (Err x)
 told-err form f e z r = run-err (gives-bytes form f e z) r

@@ -9,7 +9,7 @@ use Rattle.aes3_lock.specs.declared.report.Report.{Report}
 use Rattle.aes3_lock.specs.Reports.{reports, decided, wholes, blocks}
 use Rattle.aes3_lock.specs.Tallies.{is_faulty, is_unfinished}
 use Rattle.aes3_input.specs.Taking.{Writing, before_end, with_end}
-use Rattle.aes3_input.specs.Running.{Movement, Promise}
+use Rattle.aes3_input.specs.Running.{Ends, Promise}
 use Rattle.aes3_input.specs.Inputs.{cells_of}
 use Rattle.aes3_input.specs.Driving.{CellRun, over_cells}
 
@@ -48,8 +48,7 @@ told_reports form w z =
     (λ b n. (n.0 ≡ counts_of form b) × z n.1 (reports (cells_of form b)))
 
 -- a run over cells that gives each report its bytes, and at the end e
-abbrev pub ReportRun : ℕ → Form → (ℕ → Report → List ℕ) → List ℕ → Bool → Movement → Movement
-    → Result Counts RunError → Type 0
+abbrev pub ReportRun : ℕ → Form → (ℕ → Report → List ℕ) → List ℕ → Ends → Result Counts RunError → Type 0
 ReportRun max form f e = CellRun max form (record {
   whole = λ c. output f (reports c) ++ e;
   begun = λ c. output f (decided c);

@@ -13,7 +13,7 @@ ghost use Rattle.aes3_lock.specs.Following.{Follows, report_in};
 ghost use Rattle.aes3_lock.specs.Reports.{decided, reports, wholes};
 ghost use Rattle.aes3_lock.specs.Tallies.{IsTallyOf};
 ghost use Rattle.aes3_input.specs.Inputs.{cells_of};
-ghost use Rattle.aes3_input.specs.Running.{InputRun, movement_of};
+ghost use Rattle.aes3_input.specs.Running.{InputRun, ends_of};
 ghost use Rattle.aes3_input.specs.Taking.{Writing, behind};
 ghost use Rattle.aes3_lock_runs.specs.Listening.{reports_in, Heard, HeardEnd};
 ghost use Rattle.aes3_lock_runs.specs.ReportRuns.{counts_of, heard_cells, report_writing};
@@ -182,10 +182,8 @@ pub fn run_cells<S: Source, T: Sink, L: Listener + Drop>(
     requires sink_room { T.failed sink.old + 1 < 2 ^ 64 }
     requires limit { max_bytes ≤ 2 ^ 40 }
     requires start { L.follows listener [] }
-    ensures ran { InputRun (heard_cells input (L.writes listener) L.finished) max_bytes
-        (S.has_ended source.new) (movement_of S.given S.failed source.old source.new)
-        (movement_of T.taken T.failed sink.old sink.new) result }
-    ensures passed_on { IfOk result (λ _. T.passed sink.new ≡ T.taken sink.new) }
+    ensures { InputRun (heard_cells input (L.writes listener) L.finished) max_bytes
+        (ends_of S.Source source.old source.new T.Sink sink.old sink.new) result }
 {
     let mut taker = Followed::new(listener);
     let (bytes, cells) = drive(source, sink, max_bytes, input, &mut taker)?;
@@ -296,10 +294,8 @@ pub fn run_reports<S: Source, T: Sink, R: Reporter + Drop>(
     requires sink_room { T.failed sink.old + 1 < 2 ^ 64 }
     requires limit { max_bytes ≤ 2 ^ 40 }
     requires start { R.follows reporter [] }
-    ensures ran { InputRun (told_reports input (R.writes reporter) R.follows) max_bytes
-        (S.has_ended source.new) (movement_of S.given S.failed source.old source.new)
-        (movement_of T.taken T.failed sink.old sink.new) result }
-    ensures passed_on { IfOk result (λ _. T.passed sink.new ≡ T.taken sink.new) }
+    ensures { InputRun (told_reports input (R.writes reporter) R.follows) max_bytes
+        (ends_of S.Source source.old source.new T.Sink sink.old sink.new) result }
 {
     let (counts, reports) = run_cells(source, sink, max_bytes, input, ReportListener { reporter })?;
     Ok((counts, reports.reporter))
@@ -376,11 +372,8 @@ pub fn run_blocks<S: Source, T: Sink, W: BlockWriter + Drop>(
     requires source_room { S.failed source.old + 1 < 2 ^ 64 }
     requires sink_room { T.failed sink.old + 1 < 2 ^ 64 }
     requires limit { max_bytes ≤ 2 ^ 40 }
-    ensures ran { ReportRun max_bytes input (report_bytes (W.writes writer)) (W.ends writer)
-        (S.has_ended source.new)
-        (movement_of S.given S.failed source.old source.new)
-        (movement_of T.taken T.failed sink.old sink.new) result }
-    ensures passed_on { IfOk result (λ _. T.passed sink.new ≡ T.taken sink.new) }
+    ensures { ReportRun max_bytes input (report_bytes (W.writes writer)) (W.ends writer)
+        (ends_of S.Source source.old source.new T.Sink sink.old sink.new) result }
 {
     let (counts, _blocks) = run_reports(source, sink, max_bytes, input, BlockReporter { writer })?;
     Ok(counts)

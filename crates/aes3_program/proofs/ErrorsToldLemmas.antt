@@ -4,7 +4,7 @@ use Rattle.std.proofs.Common.{if◌then◌else◌, nat_lt}
 use Rattle.aes3_cell.specs.declared.counts.Counts.{Counts}
 use Rattle.aes3_cell.specs.declared.form.Form.{Form}
 use Rattle.aes3_refusals.specs.declared.run_error.RunError.TheVariants as refusal
-use Rattle.aes3_input.specs.Running.{Movement, Promise}
+use Rattle.aes3_input.specs.Running.{Ends, Movement, Promise}
 use Rattle.aes3_cell.proofs.Growing.{grew-is}
 use Rattle.aes3_cli_arguments.specs.declared.command_job.LineFault.{LineFault}
 use Rattle.aes3_cli_arguments.specs.declared.command_job.LineFault.TheVariants.{Usage, Help, Refused}
@@ -110,8 +110,8 @@ of-read-remark typed i (ToFilledWav d rate fill marked) b n h s = absurd cc
 of-read-remark typed i (ToBits b' c) b n h s = line-of typed h.2 refl
 
 -- the same of what a job answered
-of-ran-remark : (typed : TypedSettings) (p : Promise Outcome) {ended : Bool} {source sink : Movement} (n : Outcome)
-    → RanAs p ended source sink (Ok n)
+of-ran-remark : (typed : TypedSettings) (p : Promise Outcome) {ends : Ends} (n : Outcome)
+    → RanAs p ends (Ok n)
     → ((b : List ℕ) (m : Outcome) → p.answer b m → remark_line typed m.remark ≡ []) → remark_line typed n.remark ≡ []
 of-ran-remark typed p n (Ok m, run, is) h = line-of typed (answer-is is) (h run.bytes m run.ran.1)
   where
@@ -119,23 +119,23 @@ of-ran-remark typed p n (Ok m, run, is) h = line-of typed (answer-is is) (h run.
     answer-is e = cc
 of-ran-remark typed p n (Err e, run, is) h = cc
 
-of-answered-remark : (typed : TypedSettings) (job : Job) (ended : Bool) (source sink : Movement) (n : Outcome)
-    → Answered job ended source sink (Ok n) → IsFalse (remarks job) → remark_line typed n.remark ≡ []
-of-answered-remark typed (Encode o Own) ended source sink n run s =
+of-answered-remark : (typed : TypedSettings) (job : Job) (ends : Ends) (n : Outcome)
+    → Answered job ends (Ok n) → IsFalse (remarks job) → remark_line typed n.remark ≡ []
+of-answered-remark typed (Encode o Own) ends n run s =
     of-ran-remark typed (encode_promise o Own) n run
     (λ b m h. line-of typed h.2 (none-out typed h.0.left_out (h.1.1 ∙ sym (none-left-out b))))
-of-answered-remark typed (Encode o Alsa) ended source sink n run s = absurd cc
-of-answered-remark typed (Encode o Am824) ended source sink n run s = absurd cc
-of-answered-remark typed (Stream i o work) ended source sink n run s =
+of-answered-remark typed (Encode o Alsa) ends n run s = absurd cc
+of-answered-remark typed (Encode o Am824) ends n run s = absurd cc
+of-answered-remark typed (Stream i o work) ends n run s =
     of-ran-remark typed (stream_promise i o work) n run (λ b m h. of-stream-remark typed i o work b m h s)
-of-answered-remark typed (Read i work) ended source sink n run s =
+of-answered-remark typed (Read i work) ends n run s =
     of-ran-remark typed (read_promise i work) n run (λ b m h. of-read-remark typed i work b m h s)
-of-answered-remark typed (FromPcm p e c w) ended source sink n run s =
+of-answered-remark typed (FromPcm p e c w) ends n run s =
     of-ran-remark typed (sample_promise p e c w) n run
     (λ b m h. line-of typed h.2
     (unset typed (h.0.bytes == 0) c (taken_of c.settings1 (sample_status c.status1 ∷ []))
     (taken_of c.settings2 (sample_status c.status2 ∷ [])) s))
-of-answered-remark typed (FromWav a m e p c w) ended source sink n run s = absurd cc
+of-answered-remark typed (FromWav a m e p c w) ends n run s = absurd cc
 
 -- of a job that read its input to the end and is not refused
 of-done : (line : CommandLine) (n : Outcome) (errors : Movement) (status : ℕ)
@@ -151,36 +151,36 @@ of-done line n errors status a s r =
     }
 
 -- of a job's answer
-of-answer : (line : CommandLine) (ended : Bool) (source before : Movement) (answer : Result Outcome Refusal)
-    (failed : ℕ) (sink errors : Movement) (status : ℕ) → Answered line.job ended source before answer
+of-answer : (line : CommandLine) (ends : Ends) (answer : Result Outcome Refusal)
+    (failed : ℕ) (sink errors : Movement) (status : ℕ) → Answered line.job ends answer
     → AnswerTold line.job line.typed answer failed sink errors status → ErrorsTold (Ok line) errors status
-of-answer line ended source before (Ok n) failed sink errors status run t = go n.remark refl t.0 t.2
+of-answer line ends (Ok n) failed sink errors status run t = go n.remark refl t.0 t.2
   where
     go : (remark : Remark) → n.remark ≡ remark → status ≡ end_status line.job n → RemarkTold (remark_line line.typed n.remark) errors
         → ErrorsTold (Ok line) errors status
     go Nothing e s r =
-        of-done line n errors status (of-answered-remark line.typed line.job ended source before n run)
+        of-done line n errors status (of-answered-remark line.typed line.job ends n run)
         (s ∙ ap (λ (v : Remark). status_for v (status_by line.job n.counts)) e) r
     go (Filled frames) e s r =
-        of-done line n errors status (of-answered-remark line.typed line.job ended source before n run)
+        of-done line n errors status (of-answered-remark line.typed line.job ends n run)
         (s ∙ ap (λ (v : Remark). status_for v (status_by line.job n.counts)) e) r
     go (LeftOut words) e s r =
-        of-done line n errors status (of-answered-remark line.typed line.job ended source before n run)
+        of-done line n errors status (of-answered-remark line.typed line.job ends n run)
         (s ∙ ap (λ (v : Remark). status_for v (status_by line.job n.counts)) e) r
     go (Settings first second) e s r =
-        of-done line n errors status (of-answered-remark line.typed line.job ended source before n run)
+        of-done line n errors status (of-answered-remark line.typed line.job ends n run)
         (s ∙ ap (λ (v : Remark). status_for v (status_by line.job n.counts)) e) r
     go UsualRate e s r =
-        of-done line n errors status (of-answered-remark line.typed line.job ended source before n run)
+        of-done line n errors status (of-answered-remark line.typed line.job ends n run)
         (s ∙ ap (λ (v : Remark). status_for v (status_by line.job n.counts)) e) r
     go (FilledAtUsualRate frames) e s r =
-        of-done line n errors status (of-answered-remark line.typed line.job ended source before n run)
+        of-done line n errors status (of-answered-remark line.typed line.job ends n run)
         (s ∙ ap (λ (v : Remark). status_for v (status_by line.job n.counts)) e) r
     go (CutShort missing) e s r =
-        of-done line n errors status (of-answered-remark line.typed line.job ended source before n run)
+        of-done line n errors status (of-answered-remark line.typed line.job ends n run)
         (s ∙ ap (λ (v : Remark). status_for v (status_by line.job n.counts)) e) r
     go (Wave missing unsaid first second) e s r =
-        of-done line n errors status (of-answered-remark line.typed line.job ended source before n run)
+        of-done line n errors status (of-answered-remark line.typed line.job ends n run)
         (s ∙ ap (λ (v : Remark). status_for v (status_by line.job n.counts)) e) r
     go (Inexact at) e s r =
         let k : status ≡ 3 = s ∙ ap (λ (v : Remark). status_for v (status_by line.job n.counts)) e in
@@ -193,7 +193,7 @@ of-answer line ended source before (Ok n) failed sink errors status run t = go n
             line = grew-is (ap (remark_line line.typed) e) (r.told q);
           };
         }
-of-answer line ended source before (Err error) failed sink errors status run t = record {
+of-answer line ends (Err error) failed sink errors status run t = record {
   known = omega (arith, t.0);
   done = λ s. absurd (omega (arith, t.0, s));
   usage = λ s. absurd (omega (arith, t.0, s));
@@ -220,7 +220,7 @@ of-first line streams status r =
 
 of-run : (line : CommandLine) {streams : Streams} {status : ℕ} → JobRan line.job line.typed streams status
     → ErrorsTold (Ok line) streams.errors status
-of-run line {streams} {status} r = of-answer line _ _ _ r.answer r.failed streams.sink streams.errors status r.run r.told
+of-run line {streams} {status} r = of-answer line _ r.answer r.failed streams.sink streams.errors status r.run r.told
 
 of-packed : (line : CommandLine) (reversed : Bool) (streams : Streams) (status : ℕ)
     → PackedRan reversed line.job line.typed streams status → ErrorsTold (Ok line) streams.errors status

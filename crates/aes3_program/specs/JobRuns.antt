@@ -11,7 +11,7 @@ use Rattle.aes3_cell.specs.Written.{written}
 use Rattle.aes3_frame.specs.Samples.{samples}
 use Rattle.aes3_lock.specs.Preambles.{marks}
 use Rattle.aes3_lock.specs.Reports.{blocks, decided, normal, reports}
-use Rattle.aes3_input.specs.Running.{Movement, Promise, InputRun, Quiet, Failed}
+use Rattle.aes3_input.specs.Running.{Ends, Movement, Promise, InputRun, Quiet, Failed}
 use Rattle.aes3_input.specs.Driving.{counted_cells}
 use Rattle.aes3_forms_samples.specs.Formats.{narrowed}
 use Rattle.aes3_forms_samples.specs.declared.sample_format.SampleFormat.{SampleFormat}
@@ -147,10 +147,10 @@ abbrev pub sample_promise : SampleFormat → Bool → Change → Words → Promi
 sample_promise format exact change words = told_as (of_samples change) (sampled_words format exact words change)
 
 -- a run that writes the normal stream of blocks of its cells, and one that reads cells
-abbrev pub StreamRan : Form → Form → StreamWork → Bool → Movement → Movement → Result Outcome RunError → Type 0
+abbrev pub StreamRan : Form → Form → StreamWork → Ends → Result Outcome RunError → Type 0
 StreamRan i o work = InputRun (stream_promise i o work) most
 
-abbrev pub ReadRan : Form → ReadWork → Bool → Movement → Movement → Result Outcome RunError → Type 0
+abbrev pub ReadRan : Form → ReadWork → Ends → Result Outcome RunError → Type 0
 ReadRan i work = InputRun (read_promise i work) most
 
 -- what a WAV file is read with
@@ -169,15 +169,14 @@ wave_options channels mono exact professional change words = record {
 }
 
 -- what a job answers: by what its run does, which for a WAV file may be refused for its header or its channels too
-abbrev pub RanAs : Promise Outcome → Bool → Movement → Movement → Result Outcome Refusal → Type 0
-RanAs p ended source sink result =
-    (r : Result Outcome RunError) × InputRun p most ended source sink r × (result ≡ run_answer r)
+abbrev pub RanAs : Promise Outcome → Ends → Result Outcome Refusal → Type 0
+RanAs p ends result = (r : Result Outcome RunError) × InputRun p most ends r × (result ≡ run_answer r)
 
-abbrev pub WaveRanAs : WaveOptions → Bool → Movement → Movement → Result Outcome Refusal → Type 0
-WaveRanAs options ended source sink result =
-    (r : Result Converted WaveError) × WaveRun options most ended source sink r × (result ≡ wave_answer options r)
+abbrev pub WaveRanAs : WaveOptions → Ends → Result Outcome Refusal → Type 0
+WaveRanAs options ends result =
+    (r : Result Converted WaveError) × WaveRun options most ends r × (result ≡ wave_answer options r)
 
-abbrev pub Answered : Job → Bool → Movement → Movement → Result Outcome Refusal → Type 0
+abbrev pub Answered : Job → Ends → Result Outcome Refusal → Type 0
 Answered (Encode o words) = RanAs (encode_promise o words)
 Answered (Stream i o work) = RanAs (stream_promise i o work)
 Answered (Read i work) = RanAs (read_promise i work)
@@ -236,9 +235,19 @@ AnswerTold job typed (Err error) failed sink errors status =
     × (((sink.failed_new ≡ failed) × IsTold errors error)
     ⊎ ((error ≢ Run refusal.Write) × (sink.failed_new ≡ failed + 1) × IsTold errors (Run refusal.Write)))
 
--- a job: what its run answered, how often the sink had failed then, and what is told of that
+-- both ends of a job when its run answered: how often the sink had failed then, and what it had passed on
+abbrev pub ends_then : Streams → ℕ → Option (List ℕ) → Ends
+ends_then streams failed passed = record {
+  ended = streams.ended;
+  source = streams.source;
+  sink = before_flush streams.sink failed;
+  passed = passed;
+}
+
+-- a job: what its run answered, how often the sink had failed then and what it had passed on, and what is told of that
 pub record JobRan (job : Job) (typed : TypedSettings) (streams : Streams) (status : ℕ) : Type 0 where
   pub answer : Result Outcome Refusal
   pub failed : ℕ
-  pub run : Answered job streams.ended streams.source (before_flush streams.sink failed) answer
+  pub passed : Option (List ℕ)
+  pub run : Answered job (ends_then streams failed passed) answer
   pub told : AnswerTold job typed answer failed streams.sink streams.errors status

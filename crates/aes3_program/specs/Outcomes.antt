@@ -8,7 +8,6 @@ use Rattle.aes3_cell.specs.Ends.{Grew}
 use Rattle.aes3_input.specs.Running.{Movement, Promise, Quiet}
 use Rattle.aes3_cli_jobs.specs.declared.wave_refusal.Refusal.{Refusal}
 use Rattle.aes3_cli_jobs.specs.declared.wave_refusal.Refusal.TheVariants as job_error
-use Rattle.aes3_wave_runs.specs.FromWav.{or_status}
 use Rattle.aes3_wave_runs.specs.Status.{lacks_rate, lacks_width, status_for}
 use Rattle.aes3_wave_runs.specs.declared.wave_error.WaveError.{WaveError}
 use Rattle.aes3_wave_runs.specs.declared.wave_error.WaveError.TheVariants as wave_error
@@ -127,7 +126,7 @@ unsaid_format options f = record {
 -- blocks of a WAV file all have the status that is given, or the one that is made of its header
 abbrev pub wave_taken : WaveOptions → WaveFormat → Option (List ℕ) → Option GivenSettings → Taken
 wave_taken options f status settings =
-    taken_of settings (sample_status (or_status (status_for options.status_use f) status) ∷ [])
+    taken_of settings (sample_status (Some (unwrap_or status (status_for options.status_use f))) ∷ [])
 
 -- a length that programs give that write to a pipe and don't know the right one yet
 abbrev pub is_placeholder : ℕ → Bool

@@ -1,8 +1,8 @@
 //! A job between a source and a sink, its final flush and its exit status.
 
-ghost use Rattle.std.specs.Prelude.{◌≡◌, ◌≢◌, ◌<◌, ◌≤◌, ◌+◌, ◌^◌, IfOk, None, Some};
+ghost use Rattle.std.specs.Prelude.{◌≡◌, ◌≢◌, ◌<◌, ◌≤◌, ◌+◌, ◌^◌, None, Some};
 ghost use Rattle.aes3_refusals.specs.declared.run_error.RunError.TheVariants.{Write};
-ghost use Rattle.aes3_input.specs.Running.{movement_of};
+ghost use Rattle.aes3_input.specs.Running.{ends_of};
 ghost use Rattle.aes3_cli_jobs.specs.declared.wave_refusal.Refusal.TheVariants.{Run};
 ghost use Rattle.aes3_cli_jobs.specs.declared.work.ReadWork.TheVariants.{ToPcm, ToWav};
 ghost use Rattle.aes3_cli_jobs.specs.declared.work.StreamWork.TheVariants.{Rewrite};
@@ -74,10 +74,8 @@ fn run_samples<S: Source, T: Sink>(
 ) -> Result<Outcome, RunError>
     requires source_room { S.failed source.old + 1 < 2 ^ 64 }
     requires sink_room { T.failed sink.old + 1 < 2 ^ 64 }
-    ensures ran { ReadRan input (ToPcm format valid) (S.has_ended source.new)
-        (movement_of S.given S.failed source.old source.new)
-        (movement_of T.taken T.failed sink.old sink.new) result }
-    ensures passed_on { IfOk result (λ _. T.passed sink.new ≡ T.taken sink.new) }
+    ensures { ReadRan input (ToPcm format valid)
+        (ends_of S.Source source.old source.new T.Sink sink.old sink.new) result }
 {
     if valid {
         plain(to_valid_pcm(source, sink, MAX_BYTES, input, format))
@@ -97,10 +95,8 @@ fn run_wave<S: Source, T: Sink>(
 ) -> Result<Outcome, RunError>
     requires source_room { S.failed source.old + 1 < 2 ^ 64 }
     requires sink_room { T.failed sink.old + 1 < 2 ^ 64 }
-    ensures ran { ReadRan input (ToWav depth rate valid) (S.has_ended source.new)
-        (movement_of S.given S.failed source.old source.new)
-        (movement_of T.taken T.failed sink.old sink.new) result }
-    ensures passed_on { IfOk result (λ _. T.passed sink.new ≡ T.taken sink.new) }
+    ensures { ReadRan input (ToWav depth rate valid)
+        (ends_of S.Source source.old source.new T.Sink sink.old sink.new) result }
 {
     if valid {
         outcome_of_wave(
@@ -123,10 +119,8 @@ fn run_change<S: Source, T: Sink>(
 ) -> Result<Outcome, RunError>
     requires source_room { S.failed source.old + 1 < 2 ^ 64 }
     requires sink_room { T.failed sink.old + 1 < 2 ^ 64 }
-    ensures ran { StreamRan input output (Rewrite change.now exactly) (S.has_ended source.new)
-        (movement_of S.given S.failed source.old source.new)
-        (movement_of T.taken T.failed sink.old sink.new) result }
-    ensures passed_on { IfOk result (λ _. T.passed sink.new ≡ T.taken sink.new) }
+    ensures { StreamRan input output (Rewrite change.now exactly)
+        (ends_of S.Source source.old source.new T.Sink sink.old sink.new) result }
 {
     if exactly {
         exact(rewrite_exactly(source, sink, MAX_BYTES, input, output, change))
@@ -148,10 +142,8 @@ fn run_stream<S: Source, T: Sink>(
 ) -> Result<Outcome, RunError>
     requires source_room { S.failed source.old + 1 < 2 ^ 64 }
     requires sink_room { T.failed sink.old + 1 < 2 ^ 64 }
-    ensures ran { StreamRan input output work.now (S.has_ended source.new)
-        (movement_of S.given S.failed source.old source.new)
-        (movement_of T.taken T.failed sink.old sink.new) result }
-    ensures passed_on { IfOk result (λ _. T.passed sink.new ≡ T.taken sink.new) }
+    ensures { StreamRan input output work.now
+        (ends_of S.Source source.old source.new T.Sink sink.old sink.new) result }
 {
     match *work {
         StreamWork::Normal => plain(normalise(source, sink, MAX_BYTES, input, output)),
@@ -173,10 +165,8 @@ fn run_read<S: Source, T: Sink>(
 ) -> Result<Outcome, RunError>
     requires source_room { S.failed source.old + 1 < 2 ^ 64 }
     requires sink_room { T.failed sink.old + 1 < 2 ^ 64 }
-    ensures ran { ReadRan input work.now (S.has_ended source.new)
-        (movement_of S.given S.failed source.old source.new)
-        (movement_of T.taken T.failed sink.old sink.new) result }
-    ensures passed_on { IfOk result (λ _. T.passed sink.new ≡ T.taken sink.new) }
+    ensures { ReadRan input work.now
+        (ends_of S.Source source.old source.new T.Sink sink.old sink.new) result }
 {
     match *work {
         ReadWork::Decode { words } => plain(decode_words(source, sink, MAX_BYTES, input, words)),
@@ -247,10 +237,8 @@ pub fn run_job<S: Source, T: Sink>(
 ) -> Result<Outcome, Refusal>
     requires source_room { S.failed source.old + 1 < 2 ^ 64 }
     requires sink_room { T.failed sink.old + 1 < 2 ^ 64 }
-    ensures ran { Answered job.now (S.has_ended source.new)
-        (movement_of S.given S.failed source.old source.new)
-        (movement_of T.taken T.failed sink.old sink.new) result }
-    ensures passed_on { IfOk result (λ _. T.passed sink.new ≡ T.taken sink.new) }
+    ensures { Answered job.now
+        (ends_of S.Source source.old source.new T.Sink sink.old sink.new) result }
 {
     match *job {
         Job::Encode { output, words } => of_run(outcome_of_words(encode_words(

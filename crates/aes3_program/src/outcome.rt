@@ -1,6 +1,6 @@
 //! The result of a job that read its input to the end.
 
-ghost use Rattle.std.specs.Prelude.{◌≡◌, [], ◌∷◌, replicate};
+ghost use Rattle.std.specs.Prelude.{◌≡◌, [], ◌∷◌, Some, replicate};
 ghost use Rattle.std.specs.Option.{unwrap_or};
 ghost use Rattle.aes3_engine.specs.RewritingRuns.{taken_of};
 ghost use Rattle.aes3_program.specs.Outcomes.{answer_as, exactness, of_counts, of_exact, of_filled};
@@ -8,7 +8,6 @@ ghost use Rattle.aes3_program.specs.Outcomes.{bits_of, of_converted, of_rewritte
 ghost use Rattle.aes3_program.specs.Outcomes.{exact_or, filled_remark, of_exact_wave, of_filled_wave, rate_remark};
 ghost use Rattle.aes3_program.specs.Outcomes.{cut_remark, is_placeholder, missing_in, missing_of};
 ghost use Rattle.aes3_program.specs.Outcomes.{refusal_of, run_answer, unsaid_format, wave_answer};
-ghost use Rattle.aes3_wave_runs.specs.FromWav.{or_status};
 ghost use Rattle.aes3_wave_runs.specs.Status.{status_for};
 
 use aes3_cell::{Counts, RunError};
@@ -371,7 +370,7 @@ fn wave_status(
     options: &WaveOptions,
     format: &WaveFormat,
 ) -> Option<[u8; 24]>
-    ensures { result ≡ or_status (status_for options.now.status_use format.now) given }
+    ensures { result ≡ Some (unwrap_or given (status_for options.now.status_use format.now)) }
 {
     match given {
         Some(status) => Some(status),

@@ -10,7 +10,7 @@ ghost use Rattle.aes3_capture_recovery.specs.Endings.{finished};
 ghost use Rattle.aes3_input.specs.Driving.{CellRun};
 ghost use Rattle.aes3_input.specs.Forms.{CellsRan};
 ghost use Rattle.aes3_input.specs.Inputs.{cells_of};
-ghost use Rattle.aes3_input.specs.Running.{movement_of};
+ghost use Rattle.aes3_input.specs.Running.{ends_of, movement_of};
 ghost use Rattle.aes3_spoil.specs.Spoiled.{is_odd, level_inverted, spoiled, times};
 ghost use Rattle.aes3_spoil.specs.Spoiling.{Spoils, spoil_counts, spoiler_state, spoiling};
 ghost use Rattle.aes3_spoil.specs.Spoiling.{whole_words};
@@ -189,9 +189,7 @@ pub fn spoil<S: Source, T: Sink>(
       whole = λ c. finished output (spoiled errors.now c);
       begun = λ c. bytes_of output (whole_words (spoiled errors.now c));
       counts = spoil_counts input;
-    }) (S.has_ended source.new) (movement_of S.given S.failed source.old source.new)
-        (movement_of T.taken T.failed sink.old sink.new) result }
-    ensures passed_on { IfOk result (λ _. T.passed sink.new ≡ T.taken sink.new) }
+    }) (ends_of S.Source source.old source.new T.Sink sink.old sink.new) result }
 {
     let mut taker = Spoiler::new(output, errors);
     let (bytes, cells) = drive(source, sink, max_bytes, input, &mut taker)?;

@@ -1,5 +1,5 @@
 -- What the program does for a job, and for words that ask for none.
-use Rattle.std.specs.Prelude.{ℕ, List, Bool, Result, Ok, Err, IsTrue, ◌≡◌, ◌≢◌, ◌≤◌, ◌+◌, ◌^◌, ◌⊎◌, length}
+use Rattle.std.specs.Prelude.{ℕ, List, Option, Result, Ok, Err, IsTrue, ◌≡◌, ◌≢◌, ◌≤◌, ◌+◌, ◌^◌, ◌⊎◌, length}
 use Rattle.aes3_cli.specs.declared.fault.LineFault.{LineFault}
 use Rattle.aes3_cli.specs.declared.fault.LineFault.TheVariants as fault
 use Rattle.aes3_cell.specs.Ends.{Grew}
@@ -9,7 +9,7 @@ use Rattle.aes3_refusals.specs.declared.run_error.RunError.{RunError}
 use Rattle.aes3_refusals.specs.declared.run_error.RunError.TheVariants as refusal
 use Rattle.aes3_input.specs.Driving.{CellPromise, CellRun}
 use Rattle.aes3_input.specs.Inputs.{IsInput}
-use Rattle.aes3_input.specs.Running.{Failed, Movement, Quiet}
+use Rattle.aes3_input.specs.Running.{Ends, Failed, Movement, Quiet}
 use Rattle.aes3_capture_recovery.specs.Endings.{finished}
 use Rattle.aes3_spoil.specs.Spoiled.{spoiled}
 use Rattle.aes3_spoil.specs.Spoiling.{spoil_counts, whole_words}
@@ -31,7 +31,7 @@ promise_of job = record {
 }
 
 -- a run of a job
-abbrev pub RunRan : Job → Bool → Movement → Movement → Result Counts RunError → Type 0
+abbrev pub RunRan : Job → Ends → Result Counts RunError → Type 0
 RunRan job = CellRun most job.input (promise_of job)
 
 -- a refusal after which the sink was flushed: it stays what it was, or that failed
@@ -58,21 +58,23 @@ AnswerReported (Err error) failed sink messages status =
     × (((sink.failed_new ≡ failed) × IsReported messages error)
     ⊎ ((error ≢ refusal.Write) × (sink.failed_new ≡ failed + 1) × IsReported messages refusal.Write))
 
--- a job: what its run answered, how often the sink had failed then, and what is reported of that
-pub record JobRan (job : Job) (ended : Bool) (source sink messages : Movement) (status : ℕ) : Type 0 where
+-- a job: what its run answered, how often the sink had failed then and what it had passed on, and what is reported of
+-- that
+pub record JobRan (job : Job) (ends : Ends) (messages : Movement) (status : ℕ) : Type 0 where
   pub answer : Result Counts RunError
   pub failed : ℕ
-  pub run : RunRan job ended source (before_flush sink failed) answer
-  pub reported : AnswerReported answer failed sink messages status
+  pub passed : Option (List ℕ)
+  pub run : RunRan job (record ends { sink = before_flush ends.sink failed; passed = passed }) answer
+  pub reported : AnswerReported answer failed ends.sink messages status
 
 -- the bytes are an input of the job, of no more than it may have; the source has ended after them, and neither end has
 -- failed
-pub record IsDone (job : Job) (b : List ℕ) (ended : Bool) (source sink : Movement) : Type 0 where
+pub record IsDone (job : Job) (b : List ℕ) (ends : Ends) : Type 0 where
   pub input : IsInput job.input b
   pub few : length b ≤ most
-  pub end : IsTrue ended
-  pub read : Quiet source
-  pub written : Quiet sink
+  pub end : IsTrue ends.ended
+  pub read : Quiet ends.source
+  pub written : Quiet ends.sink
 
 -- words that ask for no job: why not is among the messages, and help in the output
 abbrev pub FaultRan : LineFault → Movement → Movement → ℕ → Type 0
@@ -85,10 +87,10 @@ FaultRan fault.Memory sink messages status =
     (status ≡ 3) × (sink.new ≡ sink.old) × Quiet sink × IsReported messages refusal.Memory
 
 -- words that ask for a job, which is run; or for none, which is reported, and nothing is read
-abbrev pub LineRan : Result Job LineFault → Bool → Movement → Movement → Movement → ℕ → Type 0
-LineRan (Ok job) ended source sink messages status = JobRan job ended source sink messages status
-LineRan (Err why) ended source sink messages status =
-    (source.new ≡ source.old) × Quiet source × FaultRan why sink messages status
+abbrev pub LineRan : Result Job LineFault → Ends → Movement → ℕ → Type 0
+LineRan (Ok job) ends messages status = JobRan job ends messages status
+LineRan (Err why) ends messages status =
+    (ends.source.new ≡ ends.source.old) × Quiet ends.source × FaultRan why ends.sink messages status
 
 -- words that could not be read: what is reported of that
 abbrev pub UnreadReported : Unread → Movement → ℕ → Type 0

@@ -3,7 +3,7 @@
 ghost use Rattle.std.specs.Prelude.{◌≡◌, ◌≢◌, ◌<◌, ◌≤◌, ◌+◌, ◌^◌, ◌↔◌, IfOk, List, OnErr, ℕ};
 ghost use Rattle.aes3_cell.specs.Ends.{Grew, Told};
 ghost use Rattle.aes3_input.specs.Inputs.{cells_of};
-ghost use Rattle.aes3_input.specs.Running.{movement_of};
+ghost use Rattle.aes3_input.specs.Running.{ends_of, movement_of};
 ghost use Rattle.aes3_capture_recovery.specs.Endings.{finished};
 ghost use Rattle.aes3_spoil.specs.Spoiled.{spoiled};
 ghost use Rattle.aes3_spoil_runs.specs.Runs.{FaultRan, Flushed, IsDone, JobRan, LineRan, UnreadReported};
@@ -64,14 +64,11 @@ pub fn run_job<S: Source, T: Sink, E: Sink>(
     // The status is 0 exactly if the input ended correctly and neither input nor output failed,
     // else 3.
     ensures done { (b : List ℕ) → Told (S.given source.old) (S.given source.new) b
-        → (result ≡ 0 ↔ IsDone job.now b (S.has_ended source.new)
-        (movement_of S.given S.failed source.old source.new)
-        (movement_of T.taken T.failed sink.old sink.new)) }
+        → (result ≡ 0 ↔ IsDone job.now b
+        (ends_of S.Source source.old source.new T.Sink sink.old sink.new)) }
     ensures statuses { result ≢ 0 → result ≡ 3 }
     // What was written before an error, its cause and its line.
-    ensures ran { JobRan job.now (S.has_ended source.new)
-        (movement_of S.given S.failed source.old source.new)
-        (movement_of T.taken T.failed sink.old sink.new)
+    ensures ran { JobRan job.now (ends_of S.Source source.old source.new T.Sink sink.old sink.new)
         (movement_of E.taken E.failed messages.old messages.new) result }
     ensures passed_on { T.failed sink.new ≡ T.failed sink.old
         → T.passed sink.new ≡ T.taken sink.new }
@@ -124,9 +121,8 @@ pub fn run_line<S: Source, T: Sink, E: Sink>(
     requires source_room { S.failed source.old + 1 < 2 ^ 64 }
     requires sink_room { T.failed sink.old + 1 < 2 ^ 64 }
     requires messages_room { E.failed messages.old + 1 < 2 ^ 64 }
-    ensures ran { LineRan line.entry (S.has_ended source.new)
-        (movement_of S.given S.failed source.old source.new)
-        (movement_of T.taken T.failed sink.old sink.new)
+    ensures ran { LineRan line.entry
+        (ends_of S.Source source.old source.new T.Sink sink.old sink.new)
         (movement_of E.taken E.failed messages.old messages.new) result }
     ensures passed_on { T.passed sink.old ≡ T.taken sink.old → T.failed sink.new ≡ T.failed sink.old
         → T.passed sink.new ≡ T.taken sink.new }

@@ -1,11 +1,11 @@
 //! The reports on cells, line by line.
 
-ghost use Rattle.std.specs.Prelude.{◌≡◌, ℕ, ◌+◌, ◌<◌, ◌≤◌, ◌^◌, List, [], IfOk};
+ghost use Rattle.std.specs.Prelude.{ℕ, ◌+◌, ◌<◌, ◌≤◌, ◌^◌, List, [], IfOk};
 ghost use Rattle.aes3_cell.specs.Ends.{Grew, Told};
 ghost use Rattle.aes3_lock.specs.Reports.{decided, reports};
 ghost use Rattle.aes3_input.specs.Driving.{CellRun};
 ghost use Rattle.aes3_input.specs.Inputs.{cells_of};
-ghost use Rattle.aes3_input.specs.Running.{movement_of};
+ghost use Rattle.aes3_input.specs.Running.{ends_of};
 ghost use Rattle.aes3_lock_runs.specs.ReportRuns.{counts_of, report_writing};
 ghost use Rattle.aes3_text_reports.specs.Lines.{told_line};
 ghost use Rattle.aes3_text_reports.specs.Lines.{report_lines};
@@ -76,9 +76,7 @@ pub fn check<S: Source, T: Sink>(
       whole = λ c. report_lines lines (reports c);
       begun = λ c. report_lines lines (decided c);
       counts = counts_of input;
-    }) (S.has_ended source.new) (movement_of S.given S.failed source.old source.new)
-        (movement_of T.taken T.failed sink.old sink.new) result }
-    ensures passed_on { IfOk result (λ _. T.passed sink.new ≡ T.taken sink.new) }
+    }) (ends_of S.Source source.old source.new T.Sink sink.old sink.new) result }
 {
     let (counts, _lines) = run_reports(source, sink, max_bytes, input, ReportLines { lines })?;
     Ok(counts)

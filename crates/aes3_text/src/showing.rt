@@ -6,7 +6,7 @@ ghost use Rattle.aes3_cell.specs.Writes.{Wrote};
 ghost use Rattle.aes3_cell.specs.Ends.{Grew, Told};
 ghost use Rattle.aes3_input.specs.Driving.{CellRun};
 ghost use Rattle.aes3_input.specs.Inputs.{cells_of};
-ghost use Rattle.aes3_input.specs.Running.{movement_of};
+ghost use Rattle.aes3_input.specs.Running.{ends_of};
 ghost use Rattle.aes3_frame.specs.Statuses.{status_of};
 ghost use Rattle.aes3_frame.specs.declared.block.Channel.TheVariants as channel;
 ghost use Rattle.aes3_text_lines.specs.StatusLines.{detail_text, status_line_with};
@@ -184,13 +184,11 @@ fn show_lines<S: Source, T: Sink>(
     requires source_room { S.failed source.old + 1 < 2 ^ 64 }
     requires sink_room { T.failed sink.old + 1 < 2 ^ 64 }
     requires limit { max_bytes ≤ 2 ^ 40 }
-    ensures run { CellRun max_bytes input (record {
+    ensures { CellRun max_bytes input (record {
       whole = λ c. details_from changes detail [] (reports c);
       begun = λ c. details_from changes detail [] (decided c);
       counts = counts_of input;
-    }) (S.has_ended source.new) (movement_of S.given S.failed source.old source.new)
-        (movement_of T.taken T.failed sink.old sink.new) result }
-    ensures passed_on { IfOk result (λ _. T.passed sink.new ≡ T.taken sink.new) }
+    }) (ends_of S.Source source.old source.new T.Sink sink.old sink.new) result }
 {
     let lines = StatusLines::new(detail, changes);
     let (counts, _lines) = run_reports(source, sink, max_bytes, input, lines)?;
@@ -223,9 +221,7 @@ pub fn show<S: Source, T: Sink>(
       whole = λ c. status_lines (blocks c);
       begun = λ c. status_lines (decided_blocks c);
       counts = counts_of input;
-    }) (S.has_ended source.new) (movement_of S.given S.failed source.old source.new)
-        (movement_of T.taken T.failed sink.old sink.new) result }
-    ensures passed_on { IfOk result (λ _. T.passed sink.new ≡ T.taken sink.new) }
+    }) (ends_of S.Source source.old source.new T.Sink sink.old sink.new) result }
 {
     show_lines(source, sink, max_bytes, input, Detail::Plain, false)
 }
@@ -257,9 +253,7 @@ pub fn show_detail<S: Source, T: Sink>(
       whole = λ c. detail_lines detail (reports c);
       begun = λ c. detail_lines detail (decided c);
       counts = counts_of input;
-    }) (S.has_ended source.new) (movement_of S.given S.failed source.old source.new)
-        (movement_of T.taken T.failed sink.old sink.new) result }
-    ensures passed_on { IfOk result (λ _. T.passed sink.new ≡ T.taken sink.new) }
+    }) (ends_of S.Source source.old source.new T.Sink sink.old sink.new) result }
 {
     show_lines(source, sink, max_bytes, input, detail, false)
 }
@@ -295,9 +289,7 @@ pub fn show_changes<S: Source, T: Sink>(
       whole = λ c. change_details detail (reports c);
       begun = λ c. change_details detail (decided c);
       counts = counts_of input;
-    }) (S.has_ended source.new) (movement_of S.given S.failed source.old source.new)
-        (movement_of T.taken T.failed sink.old sink.new) result }
-    ensures passed_on { IfOk result (λ _. T.passed sink.new ≡ T.taken sink.new) }
+    }) (ends_of S.Source source.old source.new T.Sink sink.old sink.new) result }
 {
     show_lines(source, sink, max_bytes, input, detail, true)
 }

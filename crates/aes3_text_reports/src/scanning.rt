@@ -12,7 +12,7 @@ ghost use Rattle.aes3_lock.specs.Preambles.{marks};
 ghost use Rattle.aes3_input.specs.Driving.{CellRun};
 ghost use Rattle.aes3_input.specs.Forms.{CellsRan, SomeCellsRan};
 ghost use Rattle.aes3_input.specs.Inputs.{cells_of};
-ghost use Rattle.aes3_input.specs.Running.{movement_of};
+ghost use Rattle.aes3_input.specs.Running.{ends_of, movement_of};
 ghost use Rattle.aes3_input.specs.Taking.{behind};
 ghost use Rattle.aes3_text_lines.specs.Gathering.{AllButHeld};
 ghost use Rattle.aes3_text_lines.specs.MarkLines.{mark_line, mark_lines};
@@ -236,9 +236,7 @@ pub fn scan<S: Source, T: Sink>(
       whole = λ c. mark_lines (marks c);
       begun = λ c. mark_lines (marks c);
       counts = scan_counts input;
-    }) (S.has_ended source.new) (movement_of S.given S.failed source.old source.new)
-        (movement_of T.taken T.failed sink.old sink.new) result }
-    ensures passed_on { IfOk result (λ _. T.passed sink.new ≡ T.taken sink.new) }
+    }) (ends_of S.Source source.old source.new T.Sink sink.old sink.new) result }
 {
     let mut taker = MarkLines::new();
     let (bytes, cells) = drive(source, sink, max_bytes, input, &mut taker)?;

@@ -1,10 +1,10 @@
 //! The account of all cells, line by line: the reports on them, and the gaps between whole blocks.
 
-ghost use Rattle.std.specs.Prelude.{◌≡◌, ℕ, ◌+◌, ◌<◌, ◌≤◌, ◌^◌, List, [], IfOk};
+ghost use Rattle.std.specs.Prelude.{ℕ, ◌+◌, ◌<◌, ◌≤◌, ◌^◌, List, [], IfOk};
 ghost use Rattle.aes3_cell.specs.Ends.{Grew, Told};
 ghost use Rattle.aes3_input.specs.Driving.{CellRun};
 ghost use Rattle.aes3_input.specs.Inputs.{cells_of};
-ghost use Rattle.aes3_input.specs.Running.{movement_of};
+ghost use Rattle.aes3_input.specs.Running.{ends_of};
 ghost use Rattle.aes3_lock_gaps.specs.Gaps.{account, begun_account};
 ghost use Rattle.aes3_watch.specs.Accounting.{account_counts};
 ghost use Rattle.aes3_watch.specs.GapLines.{account_lines};
@@ -48,9 +48,7 @@ pub fn account<S: Source, T: Sink>(
       whole = λ c. account_lines lines (account c);
       begun = λ c. account_lines lines (begun_account c);
       counts = account_counts input;
-    }) (S.has_ended source.new) (movement_of S.given S.failed source.old source.new)
-        (movement_of T.taken T.failed sink.old sink.new) result }
-    ensures passed_on { IfOk result (λ _. T.passed sink.new ≡ T.taken sink.new) }
+    }) (ends_of S.Source source.old source.new T.Sink sink.old sink.new) result }
 {
     let (counts, ledger) = run_cells(source, sink, max_bytes, input, Ledger::new(lines))?;
     Ok(Counts {

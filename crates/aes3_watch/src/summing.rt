@@ -7,7 +7,7 @@ ghost use Rattle.aes3_lock.specs.Following.{report_in};
 ghost use Rattle.aes3_lock.specs.Remains.{place_of};
 ghost use Rattle.aes3_input.specs.Driving.{CellRun};
 ghost use Rattle.aes3_input.specs.Inputs.{cells_of};
-ghost use Rattle.aes3_input.specs.Running.{movement_of};
+ghost use Rattle.aes3_input.specs.Running.{ends_of};
 ghost use Rattle.aes3_watch.specs.Signals.{signals_of};
 ghost use Rattle.aes3_watch.specs.declared.signals.Signals.{Signals};
 ghost use Rattle.aes3_watch.specs.Watching.{Ended, IsKept, event_lines, loss_events, up_to, watch_counts};
@@ -398,9 +398,7 @@ pub fn watch_sums<S: Source, T: Sink>(
       whole = sum_lines style every;
       begun = begun_sums style every;
       counts = watch_counts input;
-    }) (S.has_ended source.new) (movement_of S.given S.failed source.old source.new)
-        (movement_of T.taken T.failed sink.old sink.new) result }
-    ensures passed_on { IfOk result (λ _. T.passed sink.new ≡ T.taken sink.new) }
+    }) (ends_of S.Source source.old source.new T.Sink sink.old sink.new) result }
 {
     let summer = Summer::new(style, every);
     let (counts, summer) = run_cells(source, sink, max_bytes, input, summer)?;

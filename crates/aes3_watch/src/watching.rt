@@ -10,7 +10,7 @@ ghost use Rattle.aes3_lock.specs.Outcomes.{payloads_of};
 ghost use Rattle.aes3_lock.specs.Remains.{place_of};
 ghost use Rattle.aes3_input.specs.Driving.{CellRun};
 ghost use Rattle.aes3_input.specs.Inputs.{cells_of};
-ghost use Rattle.aes3_input.specs.Running.{movement_of};
+ghost use Rattle.aes3_input.specs.Running.{ends_of};
 ghost use Rattle.aes3_text_lines.specs.declared.event.Event.TheVariants.{End};
 ghost use Rattle.aes3_watch.specs.Signals.{change_events, signals_of};
 ghost use Rattle.aes3_watch.specs.Watching.{Ended, IsKept, SaysSo, Watches, begun_watch, behind_whole};
@@ -439,9 +439,7 @@ pub fn watch<S: Source, T: Sink>(
       whole = watch_lines style;
       begun = begun_watch style;
       counts = watch_counts input;
-    }) (S.has_ended source.new) (movement_of S.given S.failed source.old source.new)
-        (movement_of T.taken T.failed sink.old sink.new) result }
-    ensures passed_on { IfOk result (λ _. T.passed sink.new ≡ T.taken sink.new) }
+    }) (ends_of S.Source source.old source.new T.Sink sink.old sink.new) result }
 {
     let (counts, watcher) = run_cells(source, sink, max_bytes, input, Watcher::new(style))?;
     Ok(Counts {

@@ -9,9 +9,9 @@ use Rattle.aes3_cell.specs.declared.counts.Counts.{Counts}
 use Rattle.aes3_refusals.specs.declared.run_error.RunError.{RunError}
 use Rattle.aes3_refusals.specs.declared.run_error.RunError.TheVariants.{BadLength, BadSample, Read, SoundHeader, TooLong, Write}
 use Rattle.aes3_cell.proofs.Growing.{grew-join, told-is}
-use Rattle.aes3_input.specs.Running.{InputRan, InputRun, Movement, Promise, Quiet}
+use Rattle.aes3_input.specs.Running.{Ends, InputRan, InputRun, Movement, Promise, Quiet}
 use Rattle.aes3_input.proofs.InputRuns.{run-owed}
-use Rattle.aes3_input.proofs.Pieces.{changed}
+use Rattle.aes3_input.proofs.Pieces.{changed, ends_by}
 use Rattle.aes3_forms_samples.specs.declared.sample_format.SampleFormat.TheVariants.{S32}
 use Rattle.aes3_engine.specs.Sampling.{IsSound, pcm_words}
 use Rattle.aes3_wave.specs.declared.chunk.WaveHeader.{WaveHeader}
@@ -32,31 +32,35 @@ use Rattle.aes3_wave_runs.proofs.HeaderRuns.{some-none}
 
 -- a source that had not failed before
 source-from : {A : Type 0} (p : Promise A) (max : ℕ) (b : List ℕ) (ended : Bool) (s₀ s₁ s : Option (List ℕ))
-    (n₀ n₁ n : ℕ) (sink : Movement) (r : Result A RunError) → n₁ ≡ n₀
-    → InputRan p max b ended (changed s₁ s n₁ n) sink r → InputRan p max b ended (changed s₀ s n₀ n) sink r
-source-from p max b ended s₀ s₁ s n₀ n₁ n sink (Ok x) e r = (r.0, r.1, r.2 ∙ e, r.3, r.4)
-source-from p max b ended s₀ s₁ s n₀ n₁ n sink (Err Write) e r = (r.0 ∙ e, r.1, r.2)
-source-from p max b ended s₀ s₁ s n₀ n₁ n sink (Err Read) e r = (r.0, r.1 ∙ ap (λ k. k + 1) e, r.2, r.3)
-source-from p max b ended s₀ s₁ s n₀ n₁ n sink (Err x) e r = (r.0, r.1 ∙ e, r.2, r.3)
+    (n₀ n₁ n : ℕ) (sink : Movement) (t : Option (List ℕ)) (r : Result A RunError) → n₁ ≡ n₀
+    → InputRan p max b (ends_by ended (changed s₁ s n₁ n) sink t) r
+    → InputRan p max b (ends_by ended (changed s₀ s n₀ n) sink t) r
+source-from p max b ended s₀ s₁ s n₀ n₁ n sink t (Ok x) e r = (r.0, r.1, r.2 ∙ e, r.3, r.4, r.5)
+source-from p max b ended s₀ s₁ s n₀ n₁ n sink t (Err Write) e r = (r.0 ∙ e, r.1, r.2)
+source-from p max b ended s₀ s₁ s n₀ n₁ n sink t (Err Read) e r = (r.0, r.1 ∙ ap (λ k. k + 1) e, r.2, r.3)
+source-from p max b ended s₀ s₁ s n₀ n₁ n sink t (Err x) e r = (r.0, r.1 ∙ e, r.2, r.3)
 
 -- a whole header, and then a run over the samples
 file-ran : (options : WaveOptions) (max : ℕ) (header : WaveHeader) (ended₁ ended : Bool) (s₀ s₁ s : Option (List ℕ))
-    (n₀ n₁ n : ℕ) (sink : Movement) (r : Result Counts RunError)
+    (n₀ n₁ n : ℕ) (sink : Movement) (t : Option (List ℕ)) (r : Result Counts RunError)
     → (h : HeaderRun max ended₁ (changed s₀ s₁ n₀ n₁) (Ok header))
-    → (u : SamplesRun (read_by options.exact header) (promise_for options header) max ended (changed s₁ s n₁ n) sink r)
-    → RanOn options max header (h.bytes ++ u.rest) ended (changed s₀ s n₀ n) sink r
-file-ran options max header ended₁ ended s₀ s₁ s n₀ n₁ n sink r h u = record {
+    → (u : SamplesRun (read_by options.exact header) (promise_for options header) max
+    (ends_by ended (changed s₁ s n₁ n) sink t) r)
+    → RanOn options max header (h.bytes ++ u.rest) (ends_by ended (changed s₀ s n₀ n) sink t) r
+file-ran options max header ended₁ ended s₀ s₁ s n₀ n₁ n sink t r h u = record {
   header_is = decided-stays h.bytes u.rest (λ q. some-none (sym h.ran.0 ∙ q)) ∙ h.ran.0;
-  ran = source-from (promise_for options header) (limit_of header max) (h.bytes ++ u.rest) ended s₀ s₁ s n₀ n₁ n sink r
+  ran = source-from (promise_for options header) (limit_of header max)
+      (h.bytes ++ u.rest) ended s₀ s₁ s n₀ n₁ n sink t r
       h.ran.3 (u.ran h.bytes h.ran.1);
 }
 
 file-few : (options : WaveOptions) (max : ℕ) (header : WaveHeader) (ended₁ ended : Bool) (s₀ s₁ s : Option (List ℕ))
-    (n₀ n₁ n : ℕ) (sink : Movement) (r : Result Counts RunError)
+    (n₀ n₁ n : ℕ) (sink : Movement) (t : Option (List ℕ)) (r : Result Counts RunError)
     → (h : HeaderRun max ended₁ (changed s₀ s₁ n₀ n₁) (Ok header))
-    → (u : SamplesRun (read_by options.exact header) (promise_for options header) max ended (changed s₁ s n₁ n) sink r)
+    → (u : SamplesRun (read_by options.exact header) (promise_for options header) max
+    (ends_by ended (changed s₁ s n₁ n) sink t) r)
     → length (h.bytes ++ u.rest) ≤ max + 1
-file-few options max header ended₁ ended s₀ s₁ s n₀ n₁ n sink r h u =
+file-few options max header ended₁ ended s₀ s₁ s n₀ n₁ n sink t r h u =
     let l = length-append h.bytes u.rest in
     let start = h.ran.1 in
     let short = h.ran.2 in
@@ -64,34 +68,36 @@ file-few options max header ended₁ ended s₀ s₁ s n₀ n₁ n sink r h u =
     omega arith
 
 pub file-ok : (options : WaveOptions) (max : ℕ) (header : WaveHeader) (ended₁ ended : Bool)
-    (s₀ s₁ s : Option (List ℕ)) (n₀ n₁ n : ℕ) (sink : Movement) (x : Counts)
+    (s₀ s₁ s : Option (List ℕ)) (n₀ n₁ n : ℕ) (sink : Movement) {t : Option (List ℕ)} (x : Counts)
     → HeaderRun max ended₁ (changed s₀ s₁ n₀ n₁) (Ok header)
-    → SamplesRun (read_by options.exact header) (promise_for options header) max ended (changed s₁ s n₁ n) sink (Ok x)
-    → WaveRun options max ended (changed s₀ s n₀ n) sink (Ok (record { header = header; counts = x }))
-file-ok options max header ended₁ ended s₀ s₁ s n₀ n₁ n sink x h u = record {
+    → SamplesRun (read_by options.exact header) (promise_for options header) max
+    (ends_by ended (changed s₁ s n₁ n) sink t) (Ok x)
+    → WaveRun options max (ends_by ended (changed s₀ s n₀ n) sink t) (Ok (record { header = header; counts = x }))
+file-ok options max header ended₁ ended s₀ s₁ s n₀ n₁ n sink {t} x h u = record {
   bytes = h.bytes ++ u.rest;
   given = grew-join h.given u.given;
-  few = file-few options max header ended₁ ended s₀ s₁ s n₀ n₁ n sink (Ok x) h u;
-  ran = file-ran options max header ended₁ ended s₀ s₁ s n₀ n₁ n sink (Ok x) h u;
+  few = file-few options max header ended₁ ended s₀ s₁ s n₀ n₁ n sink t (Ok x) h u;
+  ran = file-ran options max header ended₁ ended s₀ s₁ s n₀ n₁ n sink t (Ok x) h u;
 }
 
 pub file-err : (options : WaveOptions) (max : ℕ) (header : WaveHeader) (ended₁ ended : Bool)
-    (s₀ s₁ s : Option (List ℕ)) (n₀ n₁ n : ℕ) (sink : Movement) (e : RunError)
+    (s₀ s₁ s : Option (List ℕ)) (n₀ n₁ n : ℕ) (sink : Movement) {t : Option (List ℕ)} (e : RunError)
     → HeaderRun max ended₁ (changed s₀ s₁ n₀ n₁) (Ok header)
-    → SamplesRun (read_by options.exact header) (promise_for options header) max ended (changed s₁ s n₁ n) sink (Err e)
-    → WaveRun options max ended (changed s₀ s n₀ n) sink (Err (Run e))
-file-err options max header ended₁ ended s₀ s₁ s n₀ n₁ n sink e h u = record {
+    → SamplesRun (read_by options.exact header) (promise_for options header) max
+    (ends_by ended (changed s₁ s n₁ n) sink t) (Err e)
+    → WaveRun options max (ends_by ended (changed s₀ s n₀ n) sink t) (Err (Run e))
+file-err options max header ended₁ ended s₀ s₁ s n₀ n₁ n sink {t} e h u = record {
   bytes = h.bytes ++ u.rest;
   given = grew-join h.given u.given;
-  few = file-few options max header ended₁ ended s₀ s₁ s n₀ n₁ n sink (Err e) h u;
-  ran = inr (header, file-ran options max header ended₁ ended s₀ s₁ s n₀ n₁ n sink (Err e) h u);
+  few = file-few options max header ended₁ ended s₀ s₁ s n₀ n₁ n sink t (Err e) h u;
+  ran = inr (header, file-ran options max header ended₁ ended s₀ s₁ s n₀ n₁ n sink t (Err e) h u);
 }
 
 -- a channel that there is not
 pub no-channel : (options : WaveOptions) (max : ℕ) (header : WaveHeader) (ended : Bool) (source : Movement)
-    (t : Option (List ℕ)) (k : ℕ) → HeaderRun max ended source (Ok header)
+    {p : Option (List ℕ)} (t : Option (List ℕ)) (k : ℕ) → HeaderRun max ended source (Ok header)
     → has_channels header.format (channels_for options header.format) ≡ false
-    → WaveRun options max ended source (changed t t k k) (Err (NoChannel header.format.channels))
+    → WaveRun options max (ends_by ended source (changed t t k k) p) (Err (NoChannel header.format.channels))
 no-channel options max header ended source t k h none = record {
   bytes = h.bytes;
   given = h.given;
@@ -106,9 +112,9 @@ header-few max b ended source Read r = let short = r.1 in omega arith
 header-few max b ended source TooLong r = let long = r.1 in omega arith
 header-few max b ended source e r = absurd r
 
-pub no-header : (options : WaveOptions) (max : ℕ) (ended : Bool) (source : Movement) (t : Option (List ℕ)) (k : ℕ)
-    (e : WaveError) → HeaderRun max ended source (Err e)
-    → WaveRun options max ended source (changed t t k k) (Err e)
+pub no-header : (options : WaveOptions) (max : ℕ) (ended : Bool) (source : Movement) {p : Option (List ℕ)}
+    (t : Option (List ℕ)) (k : ℕ) (e : WaveError) → HeaderRun max ended source (Err e)
+    → WaveRun options max (ends_by ended source (changed t t k k) p) (Err e)
 no-header options max ended source t k (Header e) h = record {
   bytes = h.bytes;
   given = h.given;
@@ -124,12 +130,12 @@ no-header options max ended source t k (Run e) h = record {
 }
 
 -- of a source that tells its octets
-pub file-written : {options : WaveOptions} {max : ℕ} {ended : Bool} {source sink : Movement} {n : Converted}
-    → WaveRun options max ended source sink (Ok n) → (b : List ℕ) → Told source.old source.new b
-    → Grew sink.old sink.new (pcm_words S32 options.words (change_for options n.header.format)
+pub file-written : {options : WaveOptions} {max : ℕ} {ends : Ends} {n : Converted}
+    → WaveRun options max ends (Ok n) → (b : List ℕ) → Told ends.source.old ends.source.new b
+    → Grew ends.sink.old ends.sink.new (pcm_words S32 options.words (change_for options n.header.format)
     (file_samples (read_by options.exact n.header) (channels_for options n.header.format) b))
-file-written {options} {sink = sink} {n = n} r b t =
-    subst (λ v. Grew sink.old sink.new (pcm_words S32 options.words (change_for options n.header.format)
+file-written {options} {ends = ends} {n = n} r b t =
+    subst (λ v. Grew ends.sink.old ends.sink.new (pcm_words S32 options.words (change_for options n.header.format)
     (file_samples (read_by options.exact n.header) (channels_for options n.header.format) v))) (told-is r.given t) r.ran.ran.4
 
 -- ---- what is owed
@@ -160,51 +166,51 @@ same-header : {h k : WaveHeader} (b : List ℕ) → judged b ≡ Ok (Some h) →
 same-header b p q = cc
 
 -- octets with a header, and how a run over them is refused
-owed-ran : (options : WaveOptions) (max : ℕ) (header : WaveHeader) (b : List ℕ) (ended : Bool) (source sink : Movement)
-    (r : Result Converted WaveError) → Grew source.old source.new b → Told source.old source.new b
+owed-ran : (options : WaveOptions) (max : ℕ) (header : WaveHeader) (b : List ℕ) (ends : Ends)
+    (r : Result Converted WaveError) → Grew ends.source.old ends.source.new b → Told ends.source.old ends.source.new b
     → judged b ≡ Ok (Some header) → has_channels header.format (channels_for options header.format) ≡ true
     → IsWave (read_by options.exact header) (channels_for options header.format) options.exact b → length b ≤ limit_of header max
-    → Quiet source → Quiet sink → WaveRan options max b ended source sink r → IsOk r
-owed-ran options max header b ended source sink (Ok n) g t j have i l q k w = refl
-owed-ran options max header b ended source sink (Err (Header e)) g t j have i l q k w =
+    → Quiet ends.source → Quiet ends.sink → WaveRan options max b ends r → IsOk r
+owed-ran options max header b ends (Ok n) g t j have i l q k w = refl
+owed-ran options max header b ends (Err (Header e)) g t j have i l q k w =
     absurd (wrong (sym (ap (at_end (length b)) j) ∙ w.0.says))
   where
     wrong : {x : WaveHeader} {y : HeaderError} → ◌≡◌ {A = Result WaveHeader HeaderError} (Ok x) (Err y) → ⊥
     wrong q = cc
-owed-ran options max header b ended source sink (Err (NoChannel n)) g t j have i l q k w =
+owed-ran options max header b ends (Err (NoChannel n)) g t j have i l q k w =
     let none : has_channels header.format (channels_for options header.format) ≡ false
     = subst (λ (h : WaveHeader). has_channels h.format (channels_for options h.format) ≡ false) (same-header b w.0.1 j) w.0.3 in
     absurd (differ (sym have ∙ none))
   where
     differ : true ≡ false → ⊥
     differ e = cc
-owed-ran options max header b ended source sink (Err (Run e)) g t j have i l q k w = elim w [
+owed-ran options max header b ends (Err (Run e)) g t j have i l q k w = elim w [
   | inl h ↦ absurd (unread e h.0)
   | inr h ↦
-      (let u : InputRun (promise_for options header) (limit_of header max) ended source sink (Err e)
+      (let u : InputRun (promise_for options header) (limit_of header max) ends (Err e)
       = record {
         bytes = b;
         given = g;
         few = omega (arith, l);
-        ran = subst (λ (v : WaveHeader). InputRan (promise_for options v) (limit_of v max) b ended source sink (Err e))
+        ran = subst (λ (v : WaveHeader). InputRan (promise_for options v) (limit_of v max) b ends (Err e))
             (same-header b h.1.header_is j) h.1.ran;
       } in
       run-owed u b t
-      (no-wave-cause (read_by options.exact header) (channels_for options header.format) options.exact (limit_of header max) b ended i l) q k)
+      (no-wave-cause (read_by options.exact header) (channels_for options header.format) options.exact (limit_of header max) b ends.ended i l) q k)
 ]
   where
-    unread : (e : RunError) → HeaderRan max b ended source (Err (Run e)) → ⊥
+    unread : (e : RunError) → HeaderRan max b ends.ended ends.source (Err (Run e)) → ⊥
     unread Read h = some-none (sym j ∙ h.0)
     unread TooLong h = let n = h.1 in omega arith
     unread e h = h
 
-pub file-owed : {options : WaveOptions} {max : ℕ} {ended : Bool} {source sink : Movement}
-    {r : Result Converted WaveError} → WaveRun options max ended source sink r
-    → (b : List ℕ) (header : WaveHeader) → Told source.old source.new b
+pub file-owed : {options : WaveOptions} {max : ℕ} {ends : Ends}
+    {r : Result Converted WaveError} → WaveRun options max ends r
+    → (b : List ℕ) (header : WaveHeader) → Told ends.source.old ends.source.new b
     → judged b ≡ Ok (Some header) → has_channels header.format (channels_for options header.format) ≡ true
     → IsWave (read_by options.exact header) (channels_for options header.format) options.exact b → length b ≤ limit_of header max
-    → Quiet source → Quiet sink → IsOk r
-file-owed {options} {max} {ended} {source} {sink} {r} run b header t j have i l q k =
+    → Quiet ends.source → Quiet ends.sink → IsOk r
+file-owed {options} {max} {ends} {r} run b header t j have i l q k =
     let e = told-is run.given t in
-    owed-ran options max header b ended source sink r (subst (Grew source.old source.new) e run.given) t j have i l q k
-    (subst (λ v. WaveRan options max v ended source sink r) e run.ran)
+    owed-ran options max header b ends r (subst (Grew ends.source.old ends.source.new) e run.given) t j have i l q k
+    (subst (λ v. WaveRan options max v ends r) e run.ran)

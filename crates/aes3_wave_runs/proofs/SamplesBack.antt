@@ -3,7 +3,7 @@ use Rattle.std.proofs.Common.{◌≡◌, ℕ, zero, suc, ◌*◌, ◌%◌, ◌^�
 use Rattle.std.proofs.Common.{Option, Some, None, length, map, refl, sym, ap, ◌∙◌, subst, append-nil, arith}
 use Rattle.std.proofs.Common.{eqb}
 use Rattle.std.specs.List.{All}
-use Rattle.std.specs.Option.{ForSome}
+use Rattle.std.specs.Option.{ForSome, option_or}
 use Rattle.std.specs.Prelude.{if◌then◌else◌}
 use Rattle.std.proofs.lemmas.Bool.{and_parts, ltb-true}
 use Rattle.std.proofs.lemmas.List.{drop_at, length-append, length-map}
@@ -22,7 +22,7 @@ use Rattle.aes3_wave.specs.Written.{written_format}
 use Rattle.aes3_wave.proofs.ReadBack.{written-read}
 use Rattle.aes3_wave_runs.specs.Frames.{all_parts, parts_of}
 use Rattle.aes3_wave_runs.specs.Laws.{SamplesComeBack}
-use Rattle.aes3_wave_runs.specs.Status.{consumer_rates, or_else, professional_frequencies, professional_rates, rate_in, rate_of_status}
+use Rattle.aes3_wave_runs.specs.Status.{consumer_rates, professional_frequencies, professional_rates, rate_in, rate_of_status}
 use Rattle.aes3_wave_runs.specs.ToWav.{format_of, header_for, named_by, rate_for}
 use Rattle.aes3_wave_runs.proofs.Parts.{all-whole, left-whole}
 use Rattle.aes3_wave_runs.proofs.WrittenFrames.{none-there, pair_of, sixteen, thirty-two, twenty-four}
@@ -96,7 +96,7 @@ rate-few (row ∷ rows) code h =
     go false few rest = rest
 
 either-few : (a b : Option ℕ) → ForSome a (λ n. n < 2 ^ 32) → ForSome b (λ n. n < 2 ^ 32)
-    → ForSome (or_else a b) (λ n. n < 2 ^ 32)
+    → ForSome (option_or a b) (λ n. n < 2 ^ 32)
 either-few (Some x) b p q = p
 either-few None b p q = q
 

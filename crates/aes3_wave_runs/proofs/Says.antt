@@ -1,6 +1,7 @@
 -- What the channel status of a format says.
 use Rattle.std.proofs.Common.{inl, inr, ◌≡◌, ℕ, ◌+◌, ◌*◌, ◌/◌, ◌%◌, ◌^◌, ◌<◌, ◌≤◌, Bool, false, ◌&&◌, eqb, List, [], ◌∷◌}
 use Rattle.std.proofs.Common.{Some, refl, sym, ap, ap₂, ◌∙◌, subst, arith, eq-eqb}
+use Rattle.std.specs.Option.{option_or}
 use Rattle.std.specs.Prelude.{if◌then◌else◌}
 use Rattle.std.proofs.lemmas.Bool.{cases_eq, eqb-false}
 use Rattle.aes3_status.specs.Bits.{field, status_bits}
@@ -13,7 +14,7 @@ use Rattle.aes3_wave.specs.declared.wave_format.Width.{Width}
 use Rattle.aes3_wave.specs.declared.wave_format.Width.TheVariants.{Bits8, Bits16, Bits20, Bits24, Bits32}
 use Rattle.aes3_wave_runs.specs.declared.status_use.StatusUse.TheVariants.{Consumer, Professional}
 use Rattle.aes3_wave_runs.specs.Status.{RateIsNamed, SaysConsumer, SaysProfessional, consumer_rate}
-use Rattle.aes3_wave_runs.specs.Status.{consumer_rates, consumer_status, greatest_code, or_else}
+use Rattle.aes3_wave_runs.specs.Status.{consumer_rates, consumer_status, greatest_code}
 use Rattle.aes3_wave_runs.specs.Status.{professional_frequencies, professional_frequency, professional_rate}
 use Rattle.aes3_wave_runs.specs.Status.{professional_rates, professional_status, rate_in, rate_of_consumer}
 use Rattle.aes3_wave_runs.specs.Status.{rate_of_frequency, rate_of_professional, word_code}
@@ -164,12 +165,12 @@ professional-back : (rate : ℕ) → (eqb (professional_rate rate) 0 && eqb (pro
     → rate_of_professional (professional_rate rate) (professional_frequency rate) ≡ Some rate
 professional-back rate h = elim (cases_eq (professional_rate rate) 0) [
   | inl e ↦
-      ap (λ k. or_else (rate_in professional_rates k) (rate_of_frequency (professional_frequency rate))) e
+      ap (λ k. option_or (rate_in professional_rates k) (rate_of_frequency (professional_frequency rate))) e
       ∙ rate-back professional_frequencies 0 rate refl
       (eqb-false (professional_frequency rate) 0
       (sym (ap (λ t. t && eqb (professional_frequency rate) 0) (eq-eqb (professional_rate rate) 0 e)) ∙ h))
   | inr e ↦
-      ap (λ o. or_else o (rate_of_frequency (professional_frequency rate))) (rate-back professional_rates 0 rate refl e)
+      ap (λ o. option_or o (rate_of_frequency (professional_frequency rate))) (rate-back professional_rates 0 rate refl e)
 ]
 
 pub rate-is-named : RateIsNamed

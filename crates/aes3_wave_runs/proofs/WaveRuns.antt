@@ -15,7 +15,7 @@ use Rattle.aes3_refusals.specs.declared.run_error.RunError.TheVariants.{TooLong,
 use Rattle.aes3_refusals.specs.declared.run_error.RunError.TheVariants.{SoundHeader, Inexact}
 use Rattle.aes3_cell.proofs.Growing.{front-is, grew-is}
 use Rattle.aes3_input.specs.Converting.{Reading, first_fault, or_else, out, whole}
-use Rattle.aes3_input.specs.Running.{Complete, InputRan, InputRun, IsFault, IsFaultless, Movement}
+use Rattle.aes3_input.specs.Running.{Complete, Ends, InputRan, InputRun, IsFault, IsFaultless}
 use Rattle.aes3_input.specs.Running.{Promise, converted}
 use Rattle.aes3_input.proofs.InputRuns.{Gives}
 use Rattle.aes3_forms_samples.specs.declared.sample_format.SampleFormat.TheVariants.{S32}
@@ -57,31 +57,32 @@ as-complete : {A B : Type 0} (p : Promise A) (q : Promise B) (m most : ℕ) (d b
 as-complete p q m most d b ended a c =
     record { input = a.input c.input c.short; short = a.short c.short; end = c.end }
 
-pub as-ok : {A B : Type 0} (p : Promise A) (q : Promise B) (m most : ℕ) (d b : List ℕ) (ended : Bool)
-    (source sink : Movement) (x : A) (y : B) → As p q m most d b ended
-    → (p.input d → length d ≤ m → p.answer d x → q.answer b y) → InputRan p m d ended source sink (Ok x)
-    → InputRan q most b ended source sink (Ok y)
-as-ok p q m most d b ended source sink x y a k r = (
-  as-complete p q m most d b ended a r.0,
+pub as-ok : {A B : Type 0} (p : Promise A) (q : Promise B) (m most : ℕ) (d b : List ℕ) (ends : Ends)
+    (x : A) (y : B) → As p q m most d b ends.ended
+    → (p.input d → length d ≤ m → p.answer d x → q.answer b y) → InputRan p m d ends (Ok x)
+    → InputRan q most b ends (Ok y)
+as-ok p q m most d b ends x y a k r = (
+  as-complete p q m most d b ends.ended a r.0,
   k r.0.input r.0.short r.1,
   r.2,
   r.3,
   grew-is (a.whole r.0.input r.0.short) r.4,
+  r.5,
 )
 
-pub as-err : {A B : Type 0} (p : Promise A) (q : Promise B) (m most : ℕ) (d b : List ℕ) (ended : Bool)
-    (source sink : Movement) (e : RunError) → As p q m most d b ended
-    → InputRan p m d ended source sink (Err e) → InputRan q most b ended source sink (Err e)
-as-err p q m most d b ended source sink Write a r = (
+pub as-err : {A B : Type 0} (p : Promise A) (q : Promise B) (m most : ℕ) (d b : List ℕ) (ends : Ends)
+    (e : RunError) → As p q m most d b ends.ended
+    → InputRan p m d ends (Err e) → InputRan q most b ends (Err e)
+as-err p q m most d b ends Write a r = (
   r.0,
   r.1,
   elim r.2 [
     | inl f ↦ inl (front-is a.begun f)
-    | inr f ↦ inr (as-complete p q m most d b ended a f.0, front-is (a.whole f.0.input f.0.short) f.1)
+    | inr f ↦ inr (as-complete p q m most d b ends.ended a f.0, front-is (a.whole f.0.input f.0.short) f.1)
   ],
 )
-as-err p q m most d b ended source sink Read a r = (a.cause Read r.0, r.1, r.2, grew-is a.begun r.3)
-as-err p q m most d b ended source sink e a r = (a.cause e r.0, r.1, r.2, grew-is a.begun r.3)
+as-err p q m most d b ends Read a r = (a.cause Read r.0, r.1, r.2, grew-is a.begun r.3)
+as-err p q m most d b ends e a r = (a.cause e r.0, r.1, r.2, grew-is a.begun r.3)
 
 -- ---- the samples of a file by the octets after its header
 
@@ -472,39 +473,39 @@ behind-all : (header : WaveHeader) (head : List ℕ) (max m : ℕ) → length he
 behind-all header head max m q e some = record { start = q; few = omega arith; some = some }
 
 pub samples-ok : (header : WaveHeader) (channels : Channels) (exact : Bool) (form : Words) (k : Change) (max m : ℕ)
-    {z : List ℕ → Type 0} {ended : Bool} {source sink : Movement} {n : ℕ} (x : Counts)
+    {z : List ℕ → Type 0} {ends : Ends} {n : ℕ} (x : Counts)
     → header.start ≤ max → m ≡ min (max - header.start) (frames_most header.format) → 0 < frame_len header.format
     → ((head d : List ℕ) → Behind header head m → length d ≤ m → n ≡ length d
     → x ≡ wave_counts header channels (head ++ d))
-    → InputRun (converted (reading_of header channels exact form k) z) m ended source sink (Ok n)
-    → SamplesRun header (wave_file header channels exact form k) max ended source sink (Ok x)
-samples-ok header channels exact form k max m {z} {ended} {source} {sink} {n} x start e some count r = record {
+    → InputRun (converted (reading_of header channels exact form k) z) m ends (Ok n)
+    → SamplesRun header (wave_file header channels exact form k) max ends (Ok x)
+samples-ok header channels exact form k max m {z} {ends} {n} x start e some count r = record {
   rest = r.bytes;
   given = r.given;
   few = let l = r.few in omega arith;
   ran = λ head q.
       let h = behind-all header head max m q e some in
-      subst (λ l. InputRan (wave_file header channels exact form k) l (head ++ r.bytes) ended source sink (Ok x))
+      subst (λ l. InputRan (wave_file header channels exact form k) l (head ++ r.bytes) ends (Ok x))
       (let w : header.start + m ≡ limit_of header max = omega arith in w)
       (as-ok (converted (reading_of header channels exact form k) z) (wave_file header channels exact form k) m
-      (header.start + m) r.bytes (head ++ r.bytes) ended source sink n x
-      (as-wave header channels exact form k head m r.bytes ended z h) (λ i l a. count head r.bytes h l a.1) r.ran);
+      (header.start + m) r.bytes (head ++ r.bytes) ends n x
+      (as-wave header channels exact form k head m r.bytes ends.ended z h) (λ i l a. count head r.bytes h l a.1) r.ran);
 }
 
 pub samples-err : (header : WaveHeader) (channels : Channels) (exact : Bool) (form : Words) (k : Change) (max m : ℕ)
-    {z : List ℕ → Type 0} {ended : Bool} {source sink : Movement} {x : RunError}
+    {z : List ℕ → Type 0} {ends : Ends} {x : RunError}
     → header.start ≤ max → m ≡ min (max - header.start) (frames_most header.format) → 0 < frame_len header.format
-    → InputRun (converted (reading_of header channels exact form k) z) m ended source sink (Err x)
-    → SamplesRun header (wave_file header channels exact form k) max ended source sink (Err x)
-samples-err header channels exact form k max m {z} {ended} {source} {sink} {x} start e some r = record {
+    → InputRun (converted (reading_of header channels exact form k) z) m ends (Err x)
+    → SamplesRun header (wave_file header channels exact form k) max ends (Err x)
+samples-err header channels exact form k max m {z} {ends} {x} start e some r = record {
   rest = r.bytes;
   given = r.given;
   few = let l = r.few in omega arith;
   ran = λ head q.
       let h = behind-all header head max m q e some in
-      subst (λ l. InputRan (wave_file header channels exact form k) l (head ++ r.bytes) ended source sink (Err x))
+      subst (λ l. InputRan (wave_file header channels exact form k) l (head ++ r.bytes) ends (Err x))
       (let w : header.start + m ≡ limit_of header max = omega arith in w)
       (as-err (converted (reading_of header channels exact form k) z) (wave_file header channels exact form k) m
-      (header.start + m) r.bytes (head ++ r.bytes) ended source sink x
-      (as-wave header channels exact form k head m r.bytes ended z h) r.ran);
+      (header.start + m) r.bytes (head ++ r.bytes) ends x
+      (as-wave header channels exact form k head m r.bytes ends.ended z h) r.ran);
 }

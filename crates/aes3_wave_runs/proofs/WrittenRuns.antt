@@ -16,7 +16,7 @@ use Rattle.aes3_frame.specs.Blocks.{zero_block}
 use Rattle.aes3_frame.specs.Samples.{block_samples, samples}
 use Rattle.aes3_input.specs.Driving.{over_cells}
 use Rattle.aes3_input.specs.Inputs.{cells_of}
-use Rattle.aes3_input.specs.Running.{InputRun, Movement, Promise}
+use Rattle.aes3_input.specs.Running.{Ends, InputRun, Movement, Promise}
 use Rattle.aes3_input.specs.Taking.{Writing, before_end, with_end}
 use Rattle.aes3_input.proofs.CellRuns.{cells-give}
 use Rattle.aes3_input.proofs.InputRuns.{Gives, run-err, run-ok, run-told}
@@ -115,15 +115,15 @@ same-headed m {depth} {d} {rate} {o} {w} {u} p q e =
     ap₂ (λ x y. headed m x y u) p q ∙ ap (headed m depth rate) e
 
 abbrev HeardRun : {A : Type 0} → ℕ → Bool → Form → Depth → Option ℕ → Writing Level
-    → (A → List Level → Type 0) → Bool → Movement → Movement → Result (Counts × Headed A) RunError → Type 0
+    → (A → List Level → Type 0) → Ends → Result (Counts × Headed A) RunError → Type 0
 HeardRun {A} max m form depth rate w z = InputRun (heard_cells form (headed m depth rate w)
     (λ (k : Headed A) c. IsOpened m k.header (reports c) × z k.samples c)) max
 
 module _ {A : Type 0} {max : ℕ} (m : Bool) (form : Form) {depth d : Depth} {rate o : Option ℕ} {w u : Writing Level}
     (z : A → List Level → Type 0) (p : d ≡ depth) (q : o ≡ rate) (e : u ≡ w) (quiet : IsQuiet m w) where
-  pub headed-ok : {n : Counts} {k : Headed A} {ended : Bool} {source sink : Movement}
-      → HeardRun max m form d o u z ended source sink (Ok (n, k))
-      → InputRun (headed_cells form depth rate m w z) max ended source sink
+  pub headed-ok : {n : Counts} {k : Headed A} {ends : Ends}
+      → HeardRun max m form d o u z ends (Ok (n, k))
+      → InputRun (headed_cells form depth rate m w z) max ends
       (Ok (record { counts = n; named = k.header.named }, k.samples))
   headed-ok run =
       run-ok (cells-give form
@@ -133,9 +133,9 @@ module _ {A : Type 0} {max : ℕ} (m : Bool) (form : Form) {depth d : Depth} {ra
       (λ c. ap (λ (v : Writing Level). before_end v c) (same-headed m p q e) ∙ before-headed m depth rate w quiet c))
       (λ b i h. (h.0, h.1.0.first, h.1.1)) run
 
-  pub headed-err : {ended : Bool} {source sink : Movement} {x : RunError}
-      → HeardRun max m form d o u z ended source sink (Err x)
-      → InputRun (headed_cells form depth rate m w z) max ended source sink (Err x)
+  pub headed-err : {ends : Ends} {x : RunError}
+      → HeardRun max m form d o u z ends (Err x)
+      → InputRun (headed_cells form depth rate m w z) max ends (Err x)
   headed-err run =
       run-err (cells-give form
       (λ c. header_by depth rate (first_given m (reports c)) ++ with_end w c)
@@ -148,10 +148,10 @@ module _ {A B : Type 0} {max : ℕ} (m : Bool) (form : Form) (depth : Depth) (ra
     (z : A → List Level → Type 0) (pcm : List Level → List Report → List ℕ) {answer : List ℕ → B → Type 0}
     (all : (c : List Level) → with_end w c ≡ pcm c (reports c))
     (begun : (c : List Level) → before_end w c ≡ pcm c (decided c)) where
-  pub written-ok : {n : WaveWritten} {k : A} (x : B) {ended : Bool} {source sink : Movement}
+  pub written-ok : {n : WaveWritten} {k : A} (x : B) {ends : Ends}
       → ((b : List ℕ) → n.counts ≡ counts_of form b → IsNamed form m b n.named → z k (cells_of form b) → answer b x)
-      → InputRun (headed_cells form depth rate m w z) max ended source sink (Ok (n, k))
-      → InputRun (over_cells form (file_by depth rate m pcm) (begun_by depth rate m pcm) answer) max ended source sink
+      → InputRun (headed_cells form depth rate m w z) max ends (Ok (n, k))
+      → InputRun (over_cells form (file_by depth rate m pcm) (begun_by depth rate m pcm) answer) max ends
       (Ok x)
   written-ok x k run =
       run-ok (cells-give form (file_by depth rate m pcm) (begun_by depth rate m pcm)
@@ -159,9 +159,9 @@ module _ {A B : Type 0} {max : ℕ} (m : Bool) (form : Form) (depth : Depth) (ra
       (λ c. ap (λ v. opened_by depth rate (first_given m (decided c)) ++ v) (begun c)))
       (λ b i h. k b h.0 h.1 h.2) run
 
-  pub written-err : {ended : Bool} {source sink : Movement} {e : RunError}
-      → InputRun (headed_cells form depth rate m w z) max ended source sink (Err e)
-      → InputRun (over_cells form (file_by depth rate m pcm) (begun_by depth rate m pcm) answer) max ended source sink
+  pub written-err : {ends : Ends} {e : RunError}
+      → InputRun (headed_cells form depth rate m w z) max ends (Err e)
+      → InputRun (over_cells form (file_by depth rate m pcm) (begun_by depth rate m pcm) answer) max ends
       (Err e)
   written-err run =
       run-err (cells-give form (file_by depth rate m pcm) (begun_by depth rate m pcm)
@@ -230,53 +230,53 @@ gives-all form depth rate =
 
 -- the run of a listener that writes the bytes g of blocks
 abbrev BlocksRun : {A : Type 0} → ℕ → Form → Depth → Option ℕ → (A → List Level → Type 0) → (List (List Bool) → List ℕ)
-    → Bool → Movement → Movement → Result (WaveWritten × A) RunError → SampleFormat → Type 0
-BlocksRun max form depth rate z g ended source sink r f =
-    InputRun (headed_cells form depth rate false (blocks_writing f g) z) max ended source sink r
+    → Ends → Result (WaveWritten × A) RunError → SampleFormat → Type 0
+BlocksRun max form depth rate z g ends r f =
+    InputRun (headed_cells form depth rate false (blocks_writing f g) z) max ends r
 
 module _ {A : Type 0} {max : ℕ} (form : Form) (depth : Depth) (rate : Option ℕ) {f : SampleFormat}
-    (z : A → List Level → Type 0) (e : f ≡ format_of depth) {ended : Bool} {source sink : Movement} where
-  pub all-ok : {n : WaveWritten} {k : A} → BlocksRun max form depth rate z block_samples ended source sink (Ok (n, k)) f
-      → InputRun (wave_cells form depth rate) max ended source sink (Ok n)
+    (z : A → List Level → Type 0) (e : f ≡ format_of depth) {ends : Ends} where
+  pub all-ok : {n : WaveWritten} {k : A} → BlocksRun max form depth rate z block_samples ends (Ok (n, k)) f
+      → InputRun (wave_cells form depth rate) max ends (Ok n)
   all-ok {n} {k} run =
       let p = format_of depth in
       run-ok (gives-all form depth rate) (λ b i h. (h.0, h.1 ∙ named-blocks form b))
       (written-ok false form depth rate (blocks_writing p block_samples) z (all_pcm depth)
       (blocks-all p block_samples block-whole) (blocks-begun p block_samples block-whole) n (λ b q h t. (q, h))
-      (subst (BlocksRun max form depth rate z block_samples ended source sink (Ok (n, k))) e run))
+      (subst (BlocksRun max form depth rate z block_samples ends (Ok (n, k))) e run))
 
-  pub all-err : {x : RunError} → BlocksRun max form depth rate z block_samples ended source sink (Err x) f
-      → InputRun (wave_cells form depth rate) max ended source sink (Err x)
+  pub all-err : {x : RunError} → BlocksRun max form depth rate z block_samples ends (Err x) f
+      → InputRun (wave_cells form depth rate) max ends (Err x)
   all-err {x} run =
       let p = format_of depth in
       run-err (gives-all form depth rate)
       (written-err false form depth rate (blocks_writing p block_samples) z (all_pcm depth)
       (blocks-all p block_samples block-whole) (blocks-begun p block_samples block-whole)
-      (subst (BlocksRun max form depth rate z block_samples ended source sink (Err x)) e run))
+      (subst (BlocksRun max form depth rate z block_samples ends (Err x)) e run))
 
   pub valid-ok : {n x : WaveWritten} {k : A} → x ≡ n
-      → BlocksRun max form depth rate z valid_block_samples ended source sink (Ok (n, k)) f
-      → InputRun (valid_wave_cells form depth rate) max ended source sink (Ok x)
+      → BlocksRun max form depth rate z valid_block_samples ends (Ok (n, k)) f
+      → InputRun (valid_wave_cells form depth rate) max ends (Ok x)
   valid-ok {n} {x} {k} is run =
       let p = format_of depth in
       written-ok false form depth rate (blocks_writing p valid_block_samples) z (valid_pcm depth)
       (blocks-all p valid_block_samples valid-whole) (blocks-begun p valid_block_samples valid-whole) x
       (λ b q h t. (ap (λ (v : WaveWritten). v.counts) is ∙ q, ap (λ (v : WaveWritten). v.named) is ∙ h))
-      (subst (BlocksRun max form depth rate z valid_block_samples ended source sink (Ok (n, k))) e run)
+      (subst (BlocksRun max form depth rate z valid_block_samples ends (Ok (n, k))) e run)
 
-  pub valid-err : {x : RunError} → BlocksRun max form depth rate z valid_block_samples ended source sink (Err x) f
-      → InputRun (valid_wave_cells form depth rate) max ended source sink (Err x)
+  pub valid-err : {x : RunError} → BlocksRun max form depth rate z valid_block_samples ends (Err x) f
+      → InputRun (valid_wave_cells form depth rate) max ends (Err x)
   valid-err {x} run =
       let p = format_of depth in
       written-err false form depth rate (blocks_writing p valid_block_samples) z (valid_pcm depth)
       (blocks-all p valid_block_samples valid-whole) (blocks-begun p valid_block_samples valid-whole)
-      (subst (BlocksRun max form depth rate z valid_block_samples ended source sink (Err x)) e run)
+      (subst (BlocksRun max form depth rate z valid_block_samples ends (Err x)) e run)
 
 -- exact in 16 bits
 abbrev exact_done : ReportListener ExactBlocks → List Level → Type 0
 exact_done k c = k.reporter.refused ≡ first_unfit S16 (placed (reports c))
 
-abbrev ExactRun : ℕ → Form → Option ℕ → Bool → Movement → Movement
+abbrev ExactRun : ℕ → Form → Option ℕ → Ends
     → Result (WaveWritten × ReportListener ExactBlocks) RunError → Type 0
 ExactRun max form rate = InputRun (headed_cells form Sixteen rate false (reporting (exact_writing S16)) exact_done) max
 
@@ -286,17 +286,17 @@ exact-all c = with-reports (exact_writing S16) c ∙ with-exact S16 (reports c)
 exact-begun : (c : List Level) → before_end (reporting (exact_writing S16)) c ≡ exact_pcm Sixteen c (decided c)
 exact-begun c = before-reports (exact_writing S16) c ∙ before-exact S16 (decided c)
 
-module _ {max : ℕ} (form : Form) (rate : Option ℕ) {ended : Bool} {source sink : Movement} where
+module _ {max : ℕ} (form : Form) (rate : Option ℕ) {ends : Ends} where
   pub exact-ok : {n : WaveWritten} {k : ReportListener ExactBlocks} {refused : Option ℕ} → refused ≡ k.reporter.refused
-      → ExactRun max form rate ended source sink (Ok (n, k))
-      → InputRun (exact_wave_cells form Sixteen rate) max ended source sink
+      → ExactRun max form rate ends (Ok (n, k))
+      → InputRun (exact_wave_cells form Sixteen rate) max ends
       (Ok (record { exact = record { counts = n.counts; refused = refused }; named = n.named }))
   exact-ok {n} {k} is run =
       written-ok false form Sixteen rate (reporting (exact_writing S16)) exact_done (exact_pcm Sixteen) exact-all exact-begun _
       (λ b p q t. (p, is ∙ t, q)) run
 
-  pub exact-err : {x : RunError} → ExactRun max form rate ended source sink (Err x)
-      → InputRun (exact_wave_cells form Sixteen rate) max ended source sink (Err x)
+  pub exact-err : {x : RunError} → ExactRun max form rate ends (Err x)
+      → InputRun (exact_wave_cells form Sixteen rate) max ends (Err x)
   exact-err run =
       written-err false form Sixteen rate (reporting (exact_writing S16)) exact_done (exact_pcm Sixteen) exact-all exact-begun run
 
@@ -323,8 +323,8 @@ module _ (depth : Depth) (rate : Option ℕ) (wide : depth ≢ Sixteen) where
       ∙ ap (λ v. opened_by depth rate (first_given false (decided c)) ++ v) (given-all depth wide c (decided c))
 
 module _ (form : Form) (depth : Depth) (rate : Option ℕ) (wide : depth ≢ Sixteen) where
-  pub wide-ok : {max : ℕ} {ended : Bool} {source sink : Movement} {n : WaveWritten} → InputRun (wave_cells form depth rate) max ended source sink (Ok n)
-      → InputRun (exact_wave_cells form depth rate) max ended source sink
+  pub wide-ok : {max : ℕ} {ends : Ends} {n : WaveWritten} → InputRun (wave_cells form depth rate) max ends (Ok n)
+      → InputRun (exact_wave_cells form depth rate) max ends
       (Ok (record { exact = record { counts = n.counts; refused = None }; named = n.named }))
   wide-ok run =
       run-ok (cells-give form (file_by depth rate false (exact_pcm depth)) (begun_by depth rate false (exact_pcm depth))
@@ -335,8 +335,8 @@ module _ (form : Form) (depth : Depth) (rate : Option ℕ) (wide : depth ≢ Six
         h.1 ∙ sym (named-blocks form b),
       )) run
 
-  pub wide-err : {max : ℕ} {ended : Bool} {source sink : Movement} {x : RunError} → InputRun (wave_cells form depth rate) max ended source sink (Err x)
-      → InputRun (exact_wave_cells form depth rate) max ended source sink (Err x)
+  pub wide-err : {max : ℕ} {ends : Ends} {x : RunError} → InputRun (wave_cells form depth rate) max ends (Err x)
+      → InputRun (exact_wave_cells form depth rate) max ends (Err x)
   wide-err run =
       run-err (cells-give form (file_by depth rate false (exact_pcm depth)) (begun_by depth rate false (exact_pcm depth))
       (wide-all depth rate wide) (wide-begun depth rate wide)) run
@@ -345,11 +345,10 @@ module _ (form : Form) (depth : Depth) (rate : Option ℕ) (wide : depth ≢ Six
 abbrev filled_done : ReportListener FilledBlocks → List Level → Type 0
 filled_done k c = k.reporter.progress ≡ progress_of k.reporter.fill (placed (reports c))
 
-abbrev FilledRun : ℕ → Form → Depth → Option ℕ → Bool → Movement → Movement
+abbrev FilledRun : ℕ → Form → Depth → Option ℕ → Ends
     → Result (WaveWritten × ReportListener FilledBlocks) RunError → SampleFormat → Fill → Type 0
-FilledRun max form depth rate ended source sink r f fill =
-    InputRun (headed_cells form depth rate false (reporting (fill_writing f fill)) filled_done) max ended source
-    sink r
+FilledRun max form depth rate ends r f fill =
+    InputRun (headed_cells form depth rate false (reporting (fill_writing f fill)) filled_done) max ends r
 
 -- the same form and the same filling
 both-same : (P : SampleFormat → Fill → Type 0) {f p : SampleFormat} {l m : Fill} → f ≡ p → l ≡ m → P f l → P p m
@@ -366,76 +365,76 @@ module _ (depth : Depth) where
   filled-begun fill c =
       before-reports (fill_writing (format_of depth) fill) c ∙ before-filled (format_of depth) fill (decided c)
 
-module _ {max : ℕ} (form : Form) (depth : Depth) (rate : Option ℕ) {ended : Bool} {source sink : Movement} where
+module _ {max : ℕ} (form : Form) (depth : Depth) (rate : Option ℕ) {ends : Ends} where
   pub filled-ok : {f : SampleFormat} {l : Fill} (fill : Fill) {n : WaveWritten} {k : ReportListener FilledBlocks}
       {frames : ℕ} → f ≡ format_of depth → l ≡ fill
       → ((xs : List Placed) → Apart 0 xs → k.reporter.progress ≡ progress_of k.reporter.fill xs
       → n.counts.blocks + 0 ≡ length xs → frames ≡ frames_filled xs)
-      → FilledRun max form depth rate ended source sink (Ok (n, k)) f l
-      → InputRun (filled_wave_cells form depth rate fill false) max ended source sink
+      → FilledRun max form depth rate ends (Ok (n, k)) f l
+      → InputRun (filled_wave_cells form depth rate fill false) max ends
       (Ok (record { filled = record { counts = n.counts; frames = frames; marked = 0 }; named = n.named }))
   filled-ok fill {n} {k} d e told run =
       written-ok false form depth rate (reporting (fill_writing (format_of depth) fill)) filled_done (filled_pcm depth fill false)
       (filled-all depth fill) (filled-begun depth fill) _
       (λ b p q t. (p, is-filled form fill b k.reporter told p t, q))
-      (both-same (FilledRun max form depth rate ended source sink (Ok (n, k))) d e run)
+      (both-same (FilledRun max form depth rate ends (Ok (n, k))) d e run)
 
   pub filled-err : {f : SampleFormat} {l : Fill} (fill : Fill) {x : RunError} → f ≡ format_of depth → l ≡ fill
-      → FilledRun max form depth rate ended source sink (Err x) f l
-      → InputRun (filled_wave_cells form depth rate fill false) max ended source sink (Err x)
+      → FilledRun max form depth rate ends (Err x) f l
+      → InputRun (filled_wave_cells form depth rate fill false) max ends (Err x)
   filled-err fill {x} d e run =
       written-err false form depth rate (reporting (fill_writing (format_of depth) fill)) filled_done
       (filled_pcm depth fill false) (filled-all depth fill) (filled-begun depth fill)
-      (both-same (FilledRun max form depth rate ended source sink (Err x)) d e run)
+      (both-same (FilledRun max form depth rate ends (Err x)) d e run)
 
 abbrev mended_done : MendedBlocks → List Level → Type 0
 mended_done k c = IsMendedOf k c (reports c)
 
-abbrev MendedRun : ℕ → Form → Depth → Option ℕ → Bool → Movement → Movement
+abbrev MendedRun : ℕ → Form → Depth → Option ℕ → Ends
     → Result (WaveWritten × MendedBlocks) RunError → SampleFormat → Fill → Type 0
-MendedRun max form depth rate ended source sink r f fill =
-    InputRun (headed_cells form depth rate true (mend_writing f fill) mended_done) max ended source sink r
+MendedRun max form depth rate ends r f fill =
+    InputRun (headed_cells form depth rate true (mend_writing f fill) mended_done) max ends r
 
-module _ {max : ℕ} (form : Form) (depth : Depth) (rate : Option ℕ) {ended : Bool} {source sink : Movement} where
+module _ {max : ℕ} (form : Form) (depth : Depth) (rate : Option ℕ) {ends : Ends} where
   pub mended-ok : {f : SampleFormat} {l : Fill} (fill : Fill) {n : WaveWritten} {k : MendedBlocks} {frames marked : ℕ}
       → f ≡ format_of depth → l ≡ fill
       → ((xs : List Placed) → Apart 0 xs → k.filled.progress ≡ progress_of k.filled.fill xs
       → n.counts.blocks + k.marked ≡ length xs → frames ≡ frames_filled xs)
-      → marked ≡ k.marked → MendedRun max form depth rate ended source sink (Ok (n, k)) f l
-      → InputRun (filled_wave_cells form depth rate fill true) max ended source sink
+      → marked ≡ k.marked → MendedRun max form depth rate ends (Ok (n, k)) f l
+      → InputRun (filled_wave_cells form depth rate fill true) max ends
       (Ok (record { filled = record { counts = n.counts; frames = frames; marked = marked }; named = n.named }))
   mended-ok fill {n} {k} d e told marks run =
       written-ok true form depth rate (mend_writing (format_of depth) fill) mended_done (filled_pcm depth fill true)
       (with-mended (format_of depth) fill) (before-mended (format_of depth) fill) _
       (λ b p q t. (p, is-mended form fill b k told marks p t, q))
-      (both-same (MendedRun max form depth rate ended source sink (Ok (n, k))) d e run)
+      (both-same (MendedRun max form depth rate ends (Ok (n, k))) d e run)
 
   pub mended-err : {f : SampleFormat} {l : Fill} (fill : Fill) {x : RunError} → f ≡ format_of depth → l ≡ fill
-      → MendedRun max form depth rate ended source sink (Err x) f l
-      → InputRun (filled_wave_cells form depth rate fill true) max ended source sink (Err x)
+      → MendedRun max form depth rate ends (Err x) f l
+      → InputRun (filled_wave_cells form depth rate fill true) max ends (Err x)
   mended-err fill {x} d e run =
       written-err true form depth rate (mend_writing (format_of depth) fill) mended_done (filled_pcm depth fill true)
       (with-mended (format_of depth) fill) (before-mended (format_of depth) fill)
-      (both-same (MendedRun max form depth rate ended source sink (Err x)) d e run)
+      (both-same (MendedRun max form depth rate ends (Err x)) d e run)
 
 -- ---- the clauses of a file
 
 pub file-clause : {A : Type 0} {max : ℕ} (input : Form) (whole begun : List Level → List ℕ) {answer : List ℕ → A → Type 0}
-    {ended : Bool} {source sink : Movement} (r : Result A RunError)
-    → InputRun (over_cells input whole begun answer) max ended source sink r
-    → IfOk r (λ _. (b : List ℕ) → Told source.old source.new b → Grew sink.old sink.new (whole (cells_of input b)))
+    {ends : Ends} (r : Result A RunError)
+    → InputRun (over_cells input whole begun answer) max ends r
+    → IfOk r (λ _. (b : List ℕ) → Told ends.source.old ends.source.new b → Grew ends.sink.old ends.sink.new (whole (cells_of input b)))
 file-clause input whole begun (Ok n) run = λ b t. (run-told run b t).4
 file-clause input whole begun (Err e) run = tt
 
-pub width-is : {max : ℕ} (form : Form) (rate : Option ℕ) {depth d : Depth} {ended : Bool} {source sink : Movement}
-    {r : Result ExactWave RunError} → d ≡ depth → InputRun (exact_wave_cells form d rate) max ended source sink r
-    → InputRun (exact_wave_cells form depth rate) max ended source sink r
-width-is {max} form rate {ended} {source} {sink} {r} e run =
-    subst (λ (v : Depth). InputRun (exact_wave_cells form v rate) max ended source sink r) e run
+pub width-is : {max : ℕ} (form : Form) (rate : Option ℕ) {depth d : Depth} {ends : Ends}
+    {r : Result ExactWave RunError} → d ≡ depth → InputRun (exact_wave_cells form d rate) max ends r
+    → InputRun (exact_wave_cells form depth rate) max ends r
+width-is {max} form rate {ends} {r} e run =
+    subst (λ (v : Depth). InputRun (exact_wave_cells form v rate) max ends r) e run
 
-pub marked-is : {max : ℕ} (form : Form) (depth : Depth) (rate : Option ℕ) (fill : Fill) {m t : Bool} {ended : Bool}
-    {source sink : Movement} {r : Result FilledWave RunError} → t ≡ m
-    → InputRun (filled_wave_cells form depth rate fill t) max ended source sink r
-    → InputRun (filled_wave_cells form depth rate fill m) max ended source sink r
-marked-is {max} form depth rate fill {ended = ended} {source} {sink} {r} e run =
-    subst (λ (v : Bool). InputRun (filled_wave_cells form depth rate fill v) max ended source sink r) e run
+pub marked-is : {max : ℕ} (form : Form) (depth : Depth) (rate : Option ℕ) (fill : Fill) {m t : Bool} {ends : Ends}
+    {r : Result FilledWave RunError} → t ≡ m
+    → InputRun (filled_wave_cells form depth rate fill t) max ends r
+    → InputRun (filled_wave_cells form depth rate fill m) max ends r
+marked-is {max} form depth rate fill {ends = ends} {r} e run =
+    subst (λ (v : Bool). InputRun (filled_wave_cells form depth rate fill v) max ends r) e run

@@ -1,9 +1,10 @@
 -- A WAV file as the block file of its samples.
-use Rattle.std.specs.Prelude.{ℕ, List, Bool, Option, Some, None, Result, Ok, Err, ◌≡◌, ◌≤◌, ◌+◌, ◌⊎◌, ◌&&◌, true, false, if◌then◌else◌, nat_lt, length}
+use Rattle.std.specs.Prelude.{ℕ, List, Bool, Option, Some, None, Result, Ok, Err, ◌≡◌, ◌≤◌, ◌+◌, ◌⊎◌, ◌&&◌, true, false}
+use Rattle.std.specs.Prelude.{if◌then◌else◌, length, nat_lt, unwrap_or}
 use Rattle.aes3_cell.specs.Ends.{Grew}
 use Rattle.aes3_cell.specs.declared.counts.Counts.{Counts}
 use Rattle.aes3_refusals.specs.declared.run_error.RunError.{RunError}
-use Rattle.aes3_input.specs.Running.{InputRan, Movement, Promise, Quiet}
+use Rattle.aes3_input.specs.Running.{Ends, InputRan, Movement, Promise, Quiet}
 use Rattle.aes3_status.specs.declared.change.Change.{Change}
 use Rattle.aes3_wave.specs.declared.chunk.WaveHeader.{WaveHeader}
 use Rattle.aes3_wave.specs.declared.wave_format.WaveFormat.{WaveFormat}
@@ -23,12 +24,8 @@ use Rattle.aes3_wave_runs.specs.Status.{status_for}
 use Rattle.aes3_wave_runs.specs.Wave.{limit_of, wave_file}
 
 -- the channels that are taken: those that are chosen, or the usual ones
-abbrev pub chosen_or : Channels → Option Channels → Channels
-chosen_or usual None = usual
-chosen_or usual (Some channels) = channels
-
 abbrev pub channels_for : WaveOptions → WaveFormat → Channels
-channels_for options f = chosen_or (usual_channels f options.mono) options.channels
+channels_for options f = unwrap_or options.channels (usual_channels f options.mono)
 
 -- whether a frame has both
 abbrev pub has_second : WaveFormat → Option ℕ → Bool
@@ -39,15 +36,11 @@ abbrev pub has_channels : WaveFormat → Channels → Bool
 has_channels f channels = nat_lt channels.first f.channels && has_second f channels.second
 
 -- a change whose channels begin with this status where none is given
-abbrev pub or_status : List ℕ → Option (List ℕ) → Option (List ℕ)
-or_status status None = Some status
-or_status status (Some given) = Some given
-
 abbrev pub change_for : WaveOptions → WaveFormat → Change
 change_for options f =
     record options.change {
-      status1 = or_status (status_for options.status_use f) options.change.status1;
-      status2 = or_status (status_for options.status_use f) options.change.status2;
+      status1 = Some (unwrap_or options.change.status1 (status_for options.status_use f));
+      status2 = Some (unwrap_or options.change.status2 (status_for options.status_use f));
     }
 
 -- the width of all bits of a sample
@@ -74,10 +67,10 @@ promise_for options header =
     (change_for options header.format)
 
 -- the run over a file of octets b that has this header
-pub record RanOn (options : WaveOptions) (max : ℕ) (header : WaveHeader) (b : List ℕ) (ended : Bool)
-    (source sink : Movement) (result : Result Counts RunError) : Type 0 where
+pub record RanOn (options : WaveOptions) (max : ℕ) (header : WaveHeader) (b : List ℕ) (ends : Ends)
+    (result : Result Counts RunError) : Type 0 where
   pub header_is : judged b ≡ Ok (Some header)
-  pub ran : InputRan (promise_for options header) (limit_of header max) b ended source sink result
+  pub ran : InputRan (promise_for options header) (limit_of header max) b ends result
 
 -- nothing was written
 abbrev pub Unwritten : Movement → Type 0
@@ -88,22 +81,22 @@ Unwritten sink = Quiet sink × (sink.new ≡ sink.old)
 -- a header error: its header is refused, and nothing is written
 -- NoChannel: its frames have so many channels, and one that is asked for is none of them; nothing is written
 -- a run error: reading its header is refused so and nothing is written, or the run over its samples is
-abbrev pub WaveRan : WaveOptions → ℕ → List ℕ → Bool → Movement → Movement → Result Converted WaveError → Type 0
-WaveRan options max b ended source sink (Ok n) = RanOn options max n.header b ended source sink (Ok n.counts)
-WaveRan options max b ended source sink (Err (Header e)) =
-    IsRefused b ended e × (length b ≤ max) × Quiet source × Unwritten sink
-WaveRan options max b ended source sink (Err (NoChannel n)) =
+abbrev pub WaveRan : WaveOptions → ℕ → List ℕ → Ends → Result Converted WaveError → Type 0
+WaveRan options max b ends (Ok n) = RanOn options max n.header b ends (Ok n.counts)
+WaveRan options max b ends (Err (Header e)) =
+    IsRefused b ends.ended e × (length b ≤ max) × Quiet ends.source × Unwritten ends.sink
+WaveRan options max b ends (Err (NoChannel n)) =
     ((header : WaveHeader) × (judged b ≡ Ok (Some header)) × (n ≡ header.format.channels)
     × (has_channels header.format (channels_for options header.format) ≡ false))
-    × Quiet source × Unwritten sink
-WaveRan options max b ended source sink (Err (Run e)) =
-    (HeaderRan max b ended source (Err (Run e)) × Unwritten sink)
-    ⊎ ((header : WaveHeader) × RanOn options max header b ended source sink (Err e))
+    × Quiet ends.source × Unwritten ends.sink
+WaveRan options max b ends (Err (Run e)) =
+    (HeaderRan max b ends.ended ends.source (Err (Run e)) × Unwritten ends.sink)
+    ⊎ ((header : WaveHeader) × RanOn options max header b ends (Err e))
 
 -- the octets that the source gave, at most one more than max, and what was answered to them
-pub record WaveRun (options : WaveOptions) (max : ℕ) (ended : Bool) (source sink : Movement)
-    (result : Result Converted WaveError) : Type 0 where
+pub record WaveRun (options : WaveOptions) (max : ℕ) (ends : Ends) (result : Result Converted WaveError)
+    : Type 0 where
   pub bytes : List ℕ
-  pub given : Grew source.old source.new bytes
+  pub given : Grew ends.source.old ends.source.new bytes
   pub few : length bytes ≤ max + 1
-  pub ran : WaveRan options max bytes ended source sink result
+  pub ran : WaveRan options max bytes ends result

@@ -1,6 +1,7 @@
 -- The channel status that the format of samples asks for (AES3-2, IEC 60958-3).
 use Rattle.std.specs.Prelude.{ℕ, List, [], ◌∷◌, Bool, true, false, Option, Some, None, ◌≡◌, ◌+◌, ◌*◌, ◌==◌, ◌&&◌}
 use Rattle.std.specs.Prelude.{if◌then◌else◌, replicate, slice_set, take}
+use Rattle.std.specs.Option.{option_or}
 use Rattle.aes3_status.specs.Check.{CheckHolds, check_byte_of}
 use Rattle.aes3_status.specs.Bits.{status_bits}
 use Rattle.aes3_status.specs.Consumer as con
@@ -127,10 +128,6 @@ lacks_width Bits32 = true
 
 -- ---- read back
 
-abbrev pub or_else : Option ℕ → Option ℕ → Option ℕ
-or_else (Some rate) other = Some rate
-or_else None other = other
-
 -- the sampling frequency that a status names, in hertz
 abbrev pub rate_of_consumer : ℕ → Option ℕ
 rate_of_consumer code = rate_in consumer_rates code
@@ -139,7 +136,7 @@ abbrev pub rate_of_frequency : ℕ → Option ℕ
 rate_of_frequency code = rate_in professional_frequencies code
 
 abbrev pub rate_of_professional : ℕ → ℕ → Option ℕ
-rate_of_professional code frequency = or_else (rate_in professional_rates code) (rate_of_frequency frequency)
+rate_of_professional code frequency = option_or (rate_in professional_rates code) (rate_of_frequency frequency)
 
 abbrev pub rate_of_status : List ℕ → Option ℕ
 rate_of_status status =

@@ -1,6 +1,7 @@
 -- Cells as a WAV file: the header of the samples of their whole blocks, and these samples.
 use Rattle.std.specs.Prelude.{ℕ, List, [], ◌∷◌, ◌++◌, Bool, Option, Some, None, ◌≡◌, true, false}
-use Rattle.std.specs.Prelude.{if◌then◌else◌}
+use Rattle.std.specs.Option.{option_or}
+use Rattle.std.specs.Prelude.{if◌then◌else◌, unwrap_or}
 use Rattle.aes3_level.specs.declared.level.Level.{Level}
 use Rattle.aes3_cell.specs.declared.form.Form.{Form}
 use Rattle.aes3_frame.specs.declared.fill.Fill.{Fill}
@@ -43,9 +44,7 @@ named_by (b ∷ bs) = rate_of_status (status_of b First)
 
 -- that of the file: the one that is asked for, else that one, else 48,000 Hz
 abbrev pub rate_for : Option ℕ → Option ℕ → ℕ
-rate_for (Some rate) named = rate
-rate_for None (Some rate) = rate
-rate_for None None = 48000
+rate_for rate named = unwrap_or (option_or rate named) 48000
 
 -- the header of a file whose length is not known
 abbrev pub header_for : Depth → Option ℕ → List (List (List Bool)) → List ℕ

@@ -6,7 +6,7 @@ use Rattle.aes3_cell.specs.declared.counts.Counts.{Counts}
 use Rattle.aes3_refusals.specs.declared.run_error.RunError.{RunError}
 use Rattle.aes3_refusals.specs.declared.run_error.RunError.TheVariants.{BadLength, BadSample, Read, SoundHeader, TooLong, Write}
 use Rattle.aes3_input.specs.Converting.{first_fault}
-use Rattle.aes3_input.specs.Running.{InputRan, InputState, Movement, Promise}
+use Rattle.aes3_input.specs.Running.{Ends, InputRan, InputState, Promise}
 use Rattle.aes3_forms_samples.specs.declared.sample_format.SampleFormat.TheVariants.{S32}
 use Rattle.aes3_engine.specs.Sampling.{AreSamples, BadSampleAt, IsPcm, IsSound, begun_pcm, pcm_counts, pcm_words}
 use Rattle.aes3_status.specs.declared.change.Change.{Change}
@@ -85,13 +85,13 @@ abbrev pub limit_of : WaveHeader → ℕ → ℕ
 limit_of header max = min max (header.start + frames_most header.format)
 
 -- a run over the octets after a header: whatever octets the header has
-pub record SamplesRun (header : WaveHeader) (p : Promise Counts) (max : ℕ) (ended : Bool) (source sink : Movement)
+pub record SamplesRun (header : WaveHeader) (p : Promise Counts) (max : ℕ) (ends : Ends)
     (result : Result Counts RunError) : Type 0 where
   pub rest : List ℕ
-  pub given : Grew source.old source.new rest
+  pub given : Grew ends.source.old ends.source.new rest
   pub few : header.start + length rest ≤ limit_of header max + 1
   pub ran : (head : List ℕ) → length head ≡ header.start
-      → InputRan p (limit_of header max) (head ++ rest) ended source sink result
+      → InputRan p (limit_of header max) (head ++ rest) ends result
 
 -- ---- octet by octet
 

@@ -23,13 +23,7 @@ const USUAL_RATE: u32 = 48_000;
 pub(crate) fn rate_for(rate: Option<u32>, named: Option<u32>) -> u32
     ensures { result ≡ rate_for rate named }
 {
-    match rate {
-        Some(rate) => rate,
-        None => match named {
-            Some(rate) => rate,
-            None => USUAL_RATE,
-        },
-    }
+    rate.or(named).unwrap_or(USUAL_RATE)
 }
 
 /// The header of a WAV file, written before the first block that is given.

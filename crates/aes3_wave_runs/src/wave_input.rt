@@ -120,13 +120,9 @@ impl WaveInput {
             (movement_of T.taken T.failed sink.old sink.new) result }
     {
         let len = self.format.frame_len();
-        match feed_fronts(&mut self.samples, change, sink, pairs) {
-            Ok(()) => {
-                self.left -= (count * len) as u64;
-                Ok(count * len)
-            }
-            Err(error) => Err(error),
-        }
+        feed_fronts(&mut self.samples, change, sink, pairs)?;
+        self.left -= (count * len) as u64;
+        Ok(count * len)
     }
 
     /// Takes all whole frames if no frame is begun and their octets are samples of 32 bits.
@@ -260,14 +256,10 @@ impl WaveInput {
             return Ok(count);
         }
         let pair = self.format.two_samples(self.channels, &self.begun[..len]);
-        match feed_fronts(&mut self.samples, change, sink, &pair) {
-            Ok(()) => {
-                self.left -= count as u64;
-                self.at = 0;
-                Ok(count)
-            }
-            Err(error) => Err(error),
-        }
+        feed_fronts(&mut self.samples, change, sink, &pair)?;
+        self.left -= count as u64;
+        self.at = 0;
+        Ok(count)
     }
 }
 

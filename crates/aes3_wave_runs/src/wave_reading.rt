@@ -5,7 +5,7 @@ ghost use Rattle.std.specs.Prelude.{true};
 ghost use Rattle.std.specs.Option.{ForSome};
 ghost use Rattle.aes3_cell.specs.Ends.{Grew, Told};
 ghost use Rattle.aes3_engine.specs.Sampling.{pcm_words};
-ghost use Rattle.aes3_input.specs.Running.{movement_of};
+ghost use Rattle.aes3_input.specs.Running.{ends_of};
 ghost use Rattle.aes3_forms_samples.specs.declared.sample_format.SampleFormat.TheVariants.{S32};
 ghost use Rattle.aes3_wave_runs.specs.FromWav.{WaveRun, change_for, channels_for, full_width, has_channels};
 ghost use Rattle.aes3_wave_runs.specs.FromWav.{has_second, read_by};
@@ -62,36 +62,31 @@ fn convert_samples<S: Source, T: Sink>(
     requires first { channels.first < header.now.format.channels }
     requires second { ForSome channels.second (λ n. n < header.now.format.channels) }
     requires frame { frame_len header.now.format < 2 ^ 16 }
-    ensures run { SamplesRun header.now (wave_file header.now channels exact words change.now) max_bytes
-        (S.has_ended source.new) (movement_of S.given S.failed source.old source.new)
-        (movement_of T.taken T.failed sink.old sink.new) result }
-    ensures passed_on { IfOk result (λ _. T.passed sink.new ≡ T.taken sink.new) }
+    ensures { SamplesRun header.now (wave_file header.now channels exact words change.now) max_bytes
+        (ends_of S.Source source.old source.new T.Sink sink.old sink.new) result }
 {
     let block_len = SampleFormat::S32.block_len() as u64;
     let limit = (max_bytes - header.start).min(frames_most(header.format));
     let mut input = WaveInput::new(header.format, channels, header.len, exact, words);
     let mut change = *change;
-    match convert(source, sink, limit, &mut input, &mut change) {
-        Ok(bytes) => Ok(Counts {
-            bytes: header.start + bytes,
-            cells: 0,
-            blocks: (PAIR_LEN as u64 * frames_in(header, bytes)).div_ceil(block_len),
-            faults: 0,
-            unfinished: 0,
-            marks: 0,
-        }),
-        Err(error) => Err(error),
-    }
+    let bytes = convert(source, sink, limit, &mut input, &mut change)?;
+    Ok(Counts {
+        bytes: header.start + bytes,
+        cells: 0,
+        blocks: (PAIR_LEN as u64 * frames_in(header, bytes)).div_ceil(block_len),
+        faults: 0,
+        unfinished: 0,
+        marks: 0,
+    })
 }
 
 /// The channels that are taken.
 fn channels_for(options: &WaveOptions, format: WaveFormat) -> Channels
     ensures { result ≡ channels_for options.now format }
 {
-    match options.channels {
-        Some(channels) => channels,
-        None => format.usual_channels(options.mono),
-    }
+    options
+        .channels
+        .unwrap_or(format.usual_channels(options.mono))
 }
 
 /// Whether a frame has the second channel, if there is one.
@@ -120,13 +115,7 @@ fn change_for(options: &WaveOptions, format: WaveFormat) -> Change
     Change {
         status1: Some(change.status1.unwrap_or(status)),
         status2: Some(change.status2.unwrap_or(status)),
-        settings1: change.settings1,
-        settings2: change.settings2,
-        validity1: change.validity1,
-        validity2: change.validity2,
-        clear_user1: change.clear_user1,
-        clear_user2: change.clear_user2,
-        mend: change.mend,
+        ..change
     }
 }
 
@@ -202,7 +191,6 @@ pub fn from_wav<S: Source, T: Sink>(
         → Grew (T.taken sink.old) (T.taken sink.new)
         (pcm_words S32 options.now.words (change_for options.now n.header.format)
         (file_samples (read_by options.now.exact n.header) (channels_for options.now n.header.format) b))) }
-    ensures passed_on { IfOk result (λ _. T.passed sink.new ≡ T.taken sink.new) }
 
     // It returns Ok if neither input nor output failed and the file is right. It must have a header
     // with the channels that are taken, end with a whole frame, have samples that `from_pcm` takes,
@@ -217,14 +205,10 @@ pub fn from_wav<S: Source, T: Sink>(
         → IsOk result }
 
     // What it returns for every file, and what it has written then.
-    ensures run { WaveRun options.now max_bytes (S.has_ended source.new)
-        (movement_of S.given S.failed source.old source.new)
-        (movement_of T.taken T.failed sink.old sink.new) result }
+    ensures run { WaveRun options.now max_bytes
+        (ends_of S.Source source.old source.new T.Sink sink.old sink.new) result }
 {
-    let header = match read_header(source, max_bytes) {
-        Ok(header) => header,
-        Err(error) => return Err(error),
-    };
+    let header = read_header(source, max_bytes)?;
     let channels = channels_for(options, header.format);
     if !has_channels(header.format, channels) {
         let channels = header.format.channels;

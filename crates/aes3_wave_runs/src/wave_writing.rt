@@ -4,7 +4,7 @@ ghost use Rattle.std.specs.Prelude.{◌≡◌, ◌≢◌, ℕ, ◌+◌, ◌<◌,
 ghost use Rattle.aes3_cell.specs.Ends.{Grew, Told};
 ghost use Rattle.aes3_forms_samples.specs.Formats.{narrowed};
 ghost use Rattle.aes3_input.specs.Inputs.{cells_of};
-ghost use Rattle.aes3_input.specs.Running.{InputRun, movement_of};
+ghost use Rattle.aes3_input.specs.Running.{InputRun, ends_of};
 ghost use Rattle.aes3_lock.specs.Reports.{blocks};
 ghost use Rattle.aes3_wave.specs.declared.header_writing.Depth.TheVariants.{Sixteen};
 ghost use Rattle.aes3_wave_runs.specs.HeadedSamples.{IsQuiet, headed_cells};
@@ -52,10 +52,8 @@ fn run_headed<S: Source, T: Sink, L: Listener + GivenBlocks + Drop>(
     requires limit { max_bytes ≤ 2 ^ 40 }
     requires start { L.follows samples [] }
     requires quiet { IsQuiet L.marked (L.writes samples) }
-    ensures ran { InputRun (headed_cells input depth rate L.marked (L.writes samples) L.finished)
-        max_bytes (S.has_ended source.new) (movement_of S.given S.failed source.old source.new)
-        (movement_of T.taken T.failed sink.old sink.new) result }
-    ensures passed_on { IfOk result (λ _. T.passed sink.new ≡ T.taken sink.new) }
+    ensures { InputRun (headed_cells input depth rate L.marked (L.writes samples) L.finished)
+        max_bytes (ends_of S.Source source.old source.new T.Sink sink.old sink.new) result }
 {
     let headed: Headed<L> = Headed::new(depth, rate, samples);
     let (counts, headed) = run_cells(source, sink, max_bytes, input, headed)?;
@@ -93,10 +91,8 @@ pub fn to_wav<S: Source, T: Sink>(
         → Grew (T.taken sink.old) (T.taken sink.new) (wave_of depth rate (blocks (cells_of input b)))) }
 
     // What it returns for every input, and what it has written then.
-    ensures run { InputRun (wave_cells input depth rate) max_bytes (S.has_ended source.new)
-        (movement_of S.given S.failed source.old source.new)
-        (movement_of T.taken T.failed sink.old sink.new) result }
-    ensures passed_on { IfOk result (λ _. T.passed sink.new ≡ T.taken sink.new) }
+    ensures run { InputRun (wave_cells input depth rate) max_bytes
+        (ends_of S.Source source.old source.new T.Sink sink.old sink.new) result }
 {
     let writer = SampleBlocks {
         format: format_of(depth),
@@ -130,10 +126,8 @@ pub fn to_valid_wav<S: Source, T: Sink>(
         (file_by depth rate false (valid_pcm depth) (cells_of input b))) }
 
     // What it returns for every input, and what it has written then.
-    ensures run { InputRun (valid_wave_cells input depth rate) max_bytes (S.has_ended source.new)
-        (movement_of S.given S.failed source.old source.new)
-        (movement_of T.taken T.failed sink.old sink.new) result }
-    ensures passed_on { IfOk result (λ _. T.passed sink.new ≡ T.taken sink.new) }
+    ensures run { InputRun (valid_wave_cells input depth rate) max_bytes
+        (ends_of S.Source source.old source.new T.Sink sink.old sink.new) result }
 {
     let writer = ValidSampleBlocks {
         format: format_of(depth),
@@ -156,10 +150,8 @@ fn to_exact_16<S: Source, T: Sink>(
     requires source_room { S.failed source.old + 1 < 2 ^ 64 }
     requires sink_room { T.failed sink.old + 1 < 2 ^ 64 }
     requires limit { max_bytes ≤ 2 ^ 40 }
-    ensures run { InputRun (exact_wave_cells input Sixteen rate) max_bytes (S.has_ended source.new)
-        (movement_of S.given S.failed source.old source.new)
-        (movement_of T.taken T.failed sink.old sink.new) result }
-    ensures passed_on { IfOk result (λ _. T.passed sink.new ≡ T.taken sink.new) }
+    ensures { InputRun (exact_wave_cells input Sixteen rate) max_bytes
+        (ends_of S.Source source.old source.new T.Sink sink.old sink.new) result }
 {
     let samples = ReportListener {
         reporter: ExactBlocks::new(),
@@ -195,10 +187,8 @@ fn to_exact_24<S: Source, T: Sink>(
     requires sink_room { T.failed sink.old + 1 < 2 ^ 64 }
     requires limit { max_bytes ≤ 2 ^ 40 }
     requires wide { depth ≢ Sixteen }
-    ensures run { InputRun (exact_wave_cells input depth rate) max_bytes (S.has_ended source.new)
-        (movement_of S.given S.failed source.old source.new)
-        (movement_of T.taken T.failed sink.old sink.new) result }
-    ensures passed_on { IfOk result (λ _. T.passed sink.new ≡ T.taken sink.new) }
+    ensures { InputRun (exact_wave_cells input depth rate) max_bytes
+        (ends_of S.Source source.old source.new T.Sink sink.old sink.new) result }
 {
     let written = to_wav(source, sink, max_bytes, input, depth, rate)?;
     Ok(ExactWave {
@@ -233,10 +223,8 @@ pub fn to_exact_wav<S: Source, T: Sink>(
         (file_by depth rate false (exact_pcm depth) (cells_of input b))) }
 
     // What it returns for every input, and what it has written then.
-    ensures run { InputRun (exact_wave_cells input depth rate) max_bytes (S.has_ended source.new)
-        (movement_of S.given S.failed source.old source.new)
-        (movement_of T.taken T.failed sink.old sink.new) result }
-    ensures passed_on { IfOk result (λ _. T.passed sink.new ≡ T.taken sink.new) }
+    ensures run { InputRun (exact_wave_cells input depth rate) max_bytes
+        (ends_of S.Source source.old source.new T.Sink sink.old sink.new) result }
 {
     match depth {
         Depth::Sixteen => to_exact_16(source, sink, max_bytes, input, rate),
@@ -258,10 +246,8 @@ fn to_filled_whole<S: Source, T: Sink>(
     requires source_room { S.failed source.old + 1 < 2 ^ 64 }
     requires sink_room { T.failed sink.old + 1 < 2 ^ 64 }
     requires limit { max_bytes ≤ 2 ^ 40 }
-    ensures run { InputRun (filled_wave_cells input depth rate fill false) max_bytes
-        (S.has_ended source.new) (movement_of S.given S.failed source.old source.new)
-        (movement_of T.taken T.failed sink.old sink.new) result }
-    ensures passed_on { IfOk result (λ _. T.passed sink.new ≡ T.taken sink.new) }
+    ensures { InputRun (filled_wave_cells input depth rate fill false) max_bytes
+        (ends_of S.Source source.old source.new T.Sink sink.old sink.new) result }
 {
     let samples = ReportListener {
         reporter: FilledBlocks::new(fill, format_of(depth)),
@@ -290,10 +276,8 @@ fn to_filled_marked<S: Source, T: Sink>(
     requires source_room { S.failed source.old + 1 < 2 ^ 64 }
     requires sink_room { T.failed sink.old + 1 < 2 ^ 64 }
     requires limit { max_bytes ≤ 2 ^ 40 }
-    ensures run { InputRun (filled_wave_cells input depth rate fill true) max_bytes
-        (S.has_ended source.new) (movement_of S.given S.failed source.old source.new)
-        (movement_of T.taken T.failed sink.old sink.new) result }
-    ensures passed_on { IfOk result (λ _. T.passed sink.new ≡ T.taken sink.new) }
+    ensures { InputRun (filled_wave_cells input depth rate fill true) max_bytes
+        (ends_of S.Source source.old source.new T.Sink sink.old sink.new) result }
 {
     let samples = MendedBlocks::new(fill, format_of(depth));
     let (written, samples) = run_headed(source, sink, max_bytes, input, depth, rate, samples)?;
@@ -334,9 +318,7 @@ pub fn to_filled_wav<S: Source, T: Sink>(
 
     // What it returns for every input, and what it has written then.
     ensures run { InputRun (filled_wave_cells input depth rate fill marked) max_bytes
-        (S.has_ended source.new) (movement_of S.given S.failed source.old source.new)
-        (movement_of T.taken T.failed sink.old sink.new) result }
-    ensures passed_on { IfOk result (λ _. T.passed sink.new ≡ T.taken sink.new) }
+        (ends_of S.Source source.old source.new T.Sink sink.old sink.new) result }
 {
     if marked {
         to_filled_marked(source, sink, max_bytes, input, depth, rate, fill)

@@ -11,11 +11,11 @@ returns-clause-run g c =
     let f = carried c.args.bits c.args.channel in
     cells-run c.args.input (λ d. all_carried c.args.bits c.args.channel (blocks d))
     (λ d. all_carried c.args.bits c.args.channel (decided_blocks d)) (alike-whole f) (alike-begun f)
-    c.run_blocks.ensures.ran
+    c.run_blocks.ensures
 
 pub returns-clause-bits : goal.returns-clause-bits
 returns-clause-bits g c = run-wrote c.run_blocks.result (returns-clause-run g c)
 
 pub returns-clause-back : goal.returns-clause-back
 returns-clause-back g c =
-    run-back c.args.input (carried c.args.bits c.args.channel) c.run_blocks.result c.run_blocks.ensures.ran
+    run-back c.args.input (carried c.args.bits c.args.channel) c.run_blocks.result c.run_blocks.ensures

@@ -52,6 +52,3 @@ pub returns-in_err-bytes-clause-owed : goal.returns-in_err-bytes-clause-owed
 returns-in_err-bytes-clause-owed g c = λ b t i l q k.
     run-owed (returns-in_err-bytes-clause-run g c) b t
     (no-file-cause c.args.max_bytes b (g.S.Source.has_ended c.convert.new.source) i l) q k
-
-pub returns-clause-passed_on : goal.returns-clause-passed_on
-returns-clause-passed_on g c = c.in_ok-bytes.ensures.passed_on

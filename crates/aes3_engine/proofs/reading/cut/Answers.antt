@@ -10,7 +10,7 @@ returns-clause-run g c =
     cells-run c.args.input (λ d. written_stream c.args.output (cut_blocks c.args.from c.args.count (blocks d)))
     (λ d. begun_stream c.args.output (cut_blocks c.args.from c.args.count (decided_blocks d)))
     (cut-whole c.args.output c.args.from c.args.count)
-    (cut-begun c.args.output c.args.from c.args.count) c.run_blocks.ensures.ran
+    (cut-begun c.args.output c.args.from c.args.count) c.run_blocks.ensures
 
 pub returns-clause-cut : goal.returns-clause-cut
 returns-clause-cut g c = run-wrote c.run_blocks.result (returns-clause-run g c)

@@ -10,7 +10,7 @@ pub returns-clause-run : goal.returns-clause-run
 returns-clause-run g c =
     cells-run c.args.input (λ d. words_file c.args.words (blocks d)) (λ d. words_file c.args.words (decided_blocks d))
     (alike-whole (block_words c.args.words)) (alike-begun (block_words c.args.words))
-    (search (rules, c.run_blocks.ensures.ran))
+    (search (rules, c.run_blocks.ensures))
 
 pub returns-clause-back : goal.returns-clause-back
-returns-clause-back g c = run-back c.args.input (block_words c.args.words) c.run_blocks.result c.run_blocks.ensures.ran
+returns-clause-back g c = run-back c.args.input (block_words c.args.words) c.run_blocks.result c.run_blocks.ensures

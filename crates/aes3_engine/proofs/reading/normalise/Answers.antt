@@ -1,7 +1,7 @@
 use Rattle.aes3_cell.specs.Written.{written}
 use Rattle.aes3_lock.specs.Reports.{normal}
 use Rattle.aes3_input.proofs.InputRuns.{run-wrote, run-input, run-answer, run-fits, run-owed, run-cause, run-sink_quiet}
-use Rattle.aes3_input.proofs.InputRuns.{run-refused, run-front, run-few}
+use Rattle.aes3_input.proofs.InputRuns.{run-refused, run-front, run-few, run-passed}
 use Rattle.aes3_input.proofs.CellRuns.{cells-run, no-cell-cause}
 use Rattle.aes3_lock_runs.specs.BlockRuns.{begun_stream, decided_blocks}
 use Rattle.aes3_lock_runs.proofs.BlockRuns.{normal-whole, normal-begun, run-piece, run-damaged, run-left, run-lost, tells}
@@ -11,28 +11,28 @@ use Rattle.aes3_engine.proofs.reading.normalise.Goals as goal
 pub returns-clause-run : goal.returns-clause-run
 returns-clause-run g c =
     cells-run c.args.input (λ d. written c.args.output (normal d)) (λ d. begun_stream c.args.output (decided_blocks d))
-    (normal-whole c.args.output) (normal-begun c.args.output) c.run_blocks.ensures.ran
+    (normal-whole c.args.output) (normal-begun c.args.output) c.run_blocks.ensures
 
 pub returns-clause-normal : goal.returns-clause-normal
 returns-clause-normal g c = run-wrote c.run_blocks.result (returns-clause-run g c)
 
 pub returns-clause-piece : goal.returns-clause-piece
-returns-clause-piece g c = run-piece c.args.input c.args.output c.run_blocks.result c.run_blocks.ensures.ran
+returns-clause-piece g c = run-piece c.args.input c.args.output c.run_blocks.result c.run_blocks.ensures
 
 pub returns-clause-damaged : goal.returns-clause-damaged
-returns-clause-damaged g c = run-damaged c.args.input c.args.output c.run_blocks.result c.run_blocks.ensures.ran
+returns-clause-damaged g c = run-damaged c.args.input c.args.output c.run_blocks.result c.run_blocks.ensures
 
 pub returns-clause-all_left : goal.returns-clause-all_left
-returns-clause-all_left g c = run-left c.args.input c.args.output c.run_blocks.result c.run_blocks.ensures.ran
+returns-clause-all_left g c = run-left c.args.input c.args.output c.run_blocks.result c.run_blocks.ensures
 
 pub returns-clause-lost : goal.returns-clause-lost
-returns-clause-lost g c = run-lost c.args.input c.args.output c.run_blocks.result c.run_blocks.ensures.ran
+returns-clause-lost g c = run-lost c.args.input c.args.output c.run_blocks.result c.run_blocks.ensures
 
 pub returns-clause-tells : goal.returns-clause-tells
 returns-clause-tells g c = tells c.args.output
 
 pub returns-clause-again : goal.returns-clause-again
-returns-clause-again g c = run-again c.args.input c.args.output c.run_blocks.result c.run_blocks.ensures.ran
+returns-clause-again g c = run-again c.args.input c.args.output c.run_blocks.result c.run_blocks.ensures
 
 pub returns-clause-input : goal.returns-clause-input
 returns-clause-input g c = run-input c.run_blocks.result (returns-clause-run g c)
@@ -42,6 +42,9 @@ returns-clause-counts g c = run-answer c.run_blocks.result (returns-clause-run g
 
 pub returns-clause-fits : goal.returns-clause-fits
 returns-clause-fits g c = run-fits c.run_blocks.result (returns-clause-run g c)
+
+pub returns-clause-passed_on : goal.returns-clause-passed_on
+returns-clause-passed_on g c = run-passed c.run_blocks.result (returns-clause-run g c)
 
 pub returns-clause-owed : goal.returns-clause-owed
 returns-clause-owed g c =

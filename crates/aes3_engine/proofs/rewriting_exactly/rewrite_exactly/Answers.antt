@@ -9,13 +9,13 @@ run_reports-requires-clause-start g c = (c.new-blocks.ensures.met, c.new-blocks.
 pub returns-clause-run : goal.returns-clause-run
 returns-clause-run g c =
     exactly-ok c.args.input c.new-blocks.ensures.output c.new-blocks.ensures.change
-    (λ b n h. c.answer.ensures c.args.input b n h) c.in_ok-counts.ensures.ran
+    (λ b n h. c.answer.ensures c.args.input b n h) c.in_ok-counts.ensures
 
 pub returns-in_err-counts-clause-run : goal.returns-in_err-counts-clause-run
 returns-in_err-counts-clause-run g c =
     let error = err_from_is_err_and c.from_residual.result c.from_residual.ensures.1 in
     rw (error.1, error.2) (exactly-err c.args.input c.new-blocks.ensures.output c.new-blocks.ensures.change
-    c.in_err-counts.ensures.ran)
+    c.in_err-counts.ensures)
 
 pub returns-clause-all : goal.returns-clause-all
 returns-clause-all g c =

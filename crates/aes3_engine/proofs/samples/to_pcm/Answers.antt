@@ -12,19 +12,19 @@ pub returns-clause-run : goal.returns-clause-run
 returns-clause-run g c =
     let f = c.args.format in
     cells-run c.args.input (λ d. narrowed f (samples (blocks d))) (λ d. narrowed f (samples (decided_blocks d)))
-    (narrowed-whole f block_samples block-whole) (narrowed-begun f block_samples block-whole) c.run_blocks.ensures.ran
+    (narrowed-whole f block_samples block-whole) (narrowed-begun f block_samples block-whole) c.run_blocks.ensures
 
 pub returns-clause-samples : goal.returns-clause-samples
 returns-clause-samples g c = run-wrote c.run_blocks.result (returns-clause-run g c)
 
 pub returns-clause-back : goal.returns-clause-back
 returns-clause-back g c =
-    narrowed-back c.args.format block_samples block-whole c.args.input c.run_blocks.result c.run_blocks.ensures.ran
+    narrowed-back c.args.format block_samples block-whole c.args.input c.run_blocks.result c.run_blocks.ensures
 
 pub returns-clause-alone : goal.returns-clause-alone
 returns-clause-alone g c =
-    narrowed-alike c.args.format block_samples block-whole c.args.input c.run_blocks.result c.run_blocks.ensures.ran
+    narrowed-alike c.args.format block_samples block-whole c.args.input c.run_blocks.result c.run_blocks.ensures
 
 pub returns-clause-normal : goal.returns-clause-normal
 returns-clause-normal g c =
-    narrowed-normal c.args.format block_samples block-whole c.args.input c.run_blocks.result c.run_blocks.ensures.ran
+    narrowed-normal c.args.format block_samples block-whole c.args.input c.run_blocks.result c.run_blocks.ensures

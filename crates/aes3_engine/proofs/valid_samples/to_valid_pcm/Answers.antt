@@ -14,15 +14,15 @@ returns-clause-run g c =
     cells-run c.args.input (λ d. narrowed f (valid_samples (blocks d)))
     (λ d. narrowed f (valid_samples (decided_blocks d)))
     (narrowed-whole f valid_block_samples valid-whole) (narrowed-begun f valid_block_samples valid-whole)
-    c.run_blocks.ensures.ran
+    c.run_blocks.ensures
 
 pub returns-clause-samples : goal.returns-clause-samples
 returns-clause-samples g c = run-wrote c.run_blocks.result (returns-clause-run g c)
 
 pub returns-clause-all : goal.returns-clause-all
-returns-clause-all g c = run-all-valid c.args.format c.args.input c.run_blocks.result c.run_blocks.ensures.ran
+returns-clause-all g c = run-all-valid c.args.format c.args.input c.run_blocks.result c.run_blocks.ensures
 
 pub returns-clause-back : goal.returns-clause-back
 returns-clause-back g c =
     narrowed-back c.args.format valid_block_samples valid-whole c.args.input c.run_blocks.result
-    c.run_blocks.ensures.ran
+    c.run_blocks.ensures

@@ -12,8 +12,8 @@ convert-requires-clause-start g c =
           c.new-file.ensures.bytes c.new-file.ensures.open [] refl,
     )
 
-pub returns-clause-run : goal.returns-clause-run
-returns-clause-run g c =
+pub returns : goal.returns
+returns g c =
     run-ok (words-gives c.args.words c.args.output _)
     (λ b i h. (
       c.answer_of.ensures.counts b (sym h.1),
@@ -22,7 +22,7 @@ returns-clause-run g c =
     ))
     c.in_ok-bytes.ensures.run.run
 
-pub returns-in_err-bytes-clause-run : goal.returns-in_err-bytes-clause-run
-returns-in_err-bytes-clause-run g c =
+pub returns-in_err-bytes : goal.returns-in_err-bytes
+returns-in_err-bytes g c =
     let error = err_from_is_err_and c.from_residual.result c.from_residual.ensures.1 in
     rw (error.1, error.2) (run-err (words-gives c.args.words c.args.output _) c.in_err-bytes.ensures.run.run)

@@ -22,7 +22,7 @@ returns-clause-run g c =
       unfinished = f.reports.unfinished;
       marks = 0;
     }) (c.more-2.ensures ∙ ap (λ v. more v f.gaps.gaps) c.more.ensures)
-    ∙ info-counted c.args.input b f h.0 h.1) c.in_ok-counts.ensures.ran
+    ∙ info-counted c.args.input b f h.0 h.1) c.in_ok-counts.ensures
 
 pub returns-clause-page : goal.returns-clause-page
 returns-clause-page g c = run-wrote (Ok _) (returns-clause-run g c)
@@ -31,4 +31,4 @@ pub returns-in_err-counts-clause-run : goal.returns-in_err-counts-clause-run
 returns-in_err-counts-clause-run g c =
     let error = err_from_is_err_and c.from_residual.result c.from_residual.ensures.1 in
     rw (error.1, error.2) (run-err (gives-page c.args.input (λ k d. k.facts ≡ facts_of d)
-    c.new-inspector.ensures.notation) c.in_err-counts.ensures.ran)
+    c.new-inspector.ensures.notation) c.in_err-counts.ensures)

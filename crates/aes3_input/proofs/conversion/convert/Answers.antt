@@ -32,7 +32,7 @@ returns-then-n-eq0-clause-run g c =
     (g.I.Input.state c.finish.new.input c.finish.new.taker) _ _ _ _ _ _ _
     v.upto c.requires.start v.short (c.in-Ok.ensures.no_failure ∙ v.quiet_source) v.quiet_sink
     (grew-is (ap (λ z. take z c.read_next.new.piece) c.if-n-eq0.true) c.in-Ok.ensures.bytes)
-    (c.in-Ok.ensures.end.0 c.if-n-eq0.true) c.in_ok-finish.ensures.ran
+    (c.in-Ok.ensures.end.0 c.if-n-eq0.true) c.in_ok-finish.ensures.ran c.in_ok-finish.ensures.passed_on
 
 pub returns-in_err-finish-clause-run : goal.returns-in_err-finish-clause-run
 returns-in_err-finish-clause-run g c =
@@ -114,9 +114,6 @@ feed-requires-clause-following g c =
 
 pub returns-in-Err-clause-passed_before : goal.returns-in-Err-clause-passed_before
 returns-in-Err-clause-passed_before g c = λ e h. c.pieces.invariant.passed h
-
-pub returns-then-n-eq0-clause-passed_on : goal.returns-then-n-eq0-clause-passed_on
-returns-then-n-eq0-clause-passed_on g c = c.in_ok-finish.ensures.passed_on
 
 pub returns-then-n-eq0-clause-passed_before : goal.returns-then-n-eq0-clause-passed_before
 returns-then-n-eq0-clause-passed_before g c = λ e h. c.in_ok-finish.ensures.passed_on

@@ -10,13 +10,13 @@ drive-requires-clause-start g c = (
   subst (λ l. g.L.Listener.follows l []) (sym c.new-taker.ensures.listener) c.requires.start,
 )
 
-pub returns-clause-ran : goal.returns-clause-ran
-returns-clause-ran g c =
+pub returns : goal.returns
+returns g c =
     heard-ok g.L.Listener.finished (ap (λ l. g.L.Listener.writes l) c.new-taker.ensures.listener)
-    (λ b n m t. search (rules, c.counts.ensures c.args.input b n m t)) c.in_ok-bytes.ensures.ran
+    (λ b n m t. search (rules, c.counts.ensures c.args.input b n m t)) c.in_ok-bytes.ensures
 
-pub returns-in_err-bytes-clause-ran : goal.returns-in_err-bytes-clause-ran
-returns-in_err-bytes-clause-ran g c =
+pub returns-in_err-bytes : goal.returns-in_err-bytes
+returns-in_err-bytes g c =
     let error = err_from_is_err_and c.from_residual.result c.from_residual.ensures.1 in
     rw (error.1, error.2) (heard-err g.L.Listener.finished
-    (ap (λ l. g.L.Listener.writes l) c.new-taker.ensures.listener) c.in_err-bytes.ensures.ran)
+    (ap (λ l. g.L.Listener.writes l) c.new-taker.ensures.listener) c.in_err-bytes.ensures)

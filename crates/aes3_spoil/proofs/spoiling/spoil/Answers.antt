@@ -19,7 +19,7 @@ returns-clause-run g c =
     (record { bytes = c.in_ok-bytes.bytes; cells = c.in_ok-bytes.cells; blocks = 0; faults = 0; unfinished = 0; marks = 0 })
     (rw (k.form, same) (with-all o e)) (rw (k.form, same) (before-words o e))
     (λ b p q h. counted c.args.input b c.in_ok-bytes.bytes c.in_ok-bytes.cells p q)
-    c.in_ok-bytes.ensures.ran
+    c.in_ok-bytes.ensures
 
 pub returns-clause-cells : goal.returns-clause-cells
 returns-clause-cells g c = λ b t. (run-told (returns-clause-run g c) b t).4
@@ -33,4 +33,4 @@ returns-in_err-bytes-clause-run g c =
     let p = err_from_is_err_and c.from_residual.result c.from_residual.ensures.1 in
     rw (p.1, p.2) (drove-err (λ d. finished o (spoiled e d)) (λ d. bytes_of o (whole_words (spoiled e d)))
     (spoil_counts c.args.input) (rw (k.form, same) (with-all o e)) (rw (k.form, same) (before-words o e))
-    c.in_err-bytes.ensures.ran)
+    c.in_err-bytes.ensures)

@@ -12,7 +12,7 @@ pub returns-clause-run : goal.returns-clause-run
 returns-clause-run g c =
     let l = c.args.lines in
     cells-run c.args.input (λ d. report_lines l (reports d)) (λ d. report_lines l (decided d)) (check-whole l)
-    (check-begun l) (told-ok c.args.input (λ _. told_line l) [] (λ k r. Unit {0}) c.in_ok-counts.ensures.ran)
+    (check-begun l) (told-ok c.args.input (λ _. told_line l) [] (λ k r. Unit {0}) c.in_ok-counts.ensures)
 
 pub returns-in_err-counts-clause-run : goal.returns-in_err-counts-clause-run
 returns-in_err-counts-clause-run g c =
@@ -20,7 +20,7 @@ returns-in_err-counts-clause-run g c =
     let error = err_from_is_err_and c.from_residual.result c.from_residual.ensures.1 in
     rw (error.1, error.2) (cells-run c.args.input (λ d. report_lines l (reports d))
     (λ d. report_lines l (decided d)) (check-whole l) (check-begun l)
-    (told-err c.args.input (λ _. told_line l) [] (λ k r. Unit {0}) c.in_err-counts.ensures.ran))
+    (told-err c.args.input (λ _. told_line l) [] (λ k r. Unit {0}) c.in_err-counts.ensures))
 
 pub returns-clause-lines : goal.returns-clause-lines
 returns-clause-lines g c = run-wrote (Ok _) (returns-clause-run g c)

@@ -9,7 +9,7 @@ use Rattle.aes3_text.proofs.showing.show.Goals as goal
 
 pub returns-clause-run : goal.returns-clause-run
 returns-clause-run g c = cells-run c.args.input (λ d. status_lines (blocks d)) (λ d. status_lines (decided_blocks d))
-    plain-whole (λ d. plain-lines (decided d)) c.show_lines.ensures.run
+    plain-whole (λ d. plain-lines (decided d)) c.show_lines.ensures
 
 pub returns-clause-lines : goal.returns-clause-lines
 returns-clause-lines g c = run-wrote c.show_lines.result (returns-clause-run g c)

@@ -21,7 +21,7 @@ returns-clause-run g c =
     })
     with-lines before-lines
     (λ b e f h. counted c.args.input b c.in_ok-bytes.bytes c.in_ok-bytes.cells k.marks k.scan e f h)
-    c.in_ok-bytes.ensures.ran
+    c.in_ok-bytes.ensures
 
 pub returns-clause-lines : goal.returns-clause-lines
 returns-clause-lines g c = λ b t. (run-told (returns-clause-run g c) b t).4
@@ -30,4 +30,4 @@ pub returns-in_err-bytes-clause-run : goal.returns-in_err-bytes-clause-run
 returns-in_err-bytes-clause-run g c =
     let error = err_from_is_err_and c.from_residual.result c.from_residual.ensures.1 in
     rw (error.1, error.2) (drove-err (λ d. mark_lines (marks d)) (λ d. mark_lines (marks d)) (scan_counts c.args.input)
-    with-lines before-lines c.in_err-bytes.ensures.ran)
+    with-lines before-lines c.in_err-bytes.ensures)

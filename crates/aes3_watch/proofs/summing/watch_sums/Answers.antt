@@ -11,7 +11,7 @@ run_cells-requires-clause-start g c = c.new-summer.ensures.none
 
 pub overflow_add-result : goal.overflow_add-result
 overflow_add-result g c =
-    let r = c.in_ok-counts.ensures.ran in
+    let r = c.in_ok-counts.ensures in
     let l = watch-room c.args.input r.bytes r.ran.1.0 r.ran.1.1 in
     omega (arith, l)
 
@@ -19,7 +19,7 @@ pub returns-clause-run : goal.returns-clause-run
 returns-clause-run g c =
     run-ok (gives-sums c.args.input (λ k. Ended k.watcher.state.losses) c.requires.some c.new-summer.ensures.style
     c.new-summer.ensures.every) (λ b i h. search (rules, watch-counted c.args.input b h.0 h.1))
-    c.in_ok-counts.ensures.ran
+    c.in_ok-counts.ensures
 
 pub returns-clause-lines : goal.returns-clause-lines
 returns-clause-lines g c = run-wrote (Ok _) (returns-clause-run g c)
@@ -28,4 +28,4 @@ pub returns-in_err-counts-clause-run : goal.returns-in_err-counts-clause-run
 returns-in_err-counts-clause-run g c =
     let error = err_from_is_err_and c.from_residual.result c.from_residual.ensures.1 in
     rw (error.1, error.2) (run-err (gives-sums c.args.input (λ k. Ended k.watcher.state.losses) c.requires.some
-    c.new-summer.ensures.style c.new-summer.ensures.every) c.in_err-counts.ensures.ran)
+    c.new-summer.ensures.style c.new-summer.ensures.every) c.in_err-counts.ensures)

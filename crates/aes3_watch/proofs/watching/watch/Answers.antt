@@ -10,14 +10,14 @@ run_cells-requires-clause-start g c = c.new.ensures.state
 
 pub overflow_add-result : goal.overflow_add-result
 overflow_add-result g c =
-    let r = c.in_ok-counts.ensures.ran in
+    let r = c.in_ok-counts.ensures in
     let l = watch-room c.args.input r.bytes r.ran.1.0 r.ran.1.1 in
     omega (arith, l)
 
 pub returns-clause-run : goal.returns-clause-run
 returns-clause-run g c =
     run-ok (gives-watch c.args.input (λ k. Ended k.state.losses) c.new.ensures.style)
-    (λ b i h. search (rules, watch-counted c.args.input b h.0 h.1)) c.in_ok-counts.ensures.ran
+    (λ b i h. search (rules, watch-counted c.args.input b h.0 h.1)) c.in_ok-counts.ensures
 
 pub returns-clause-lines : goal.returns-clause-lines
 returns-clause-lines g c = run-wrote (Ok _) (returns-clause-run g c)
@@ -26,4 +26,4 @@ pub returns-in_err-counts-clause-run : goal.returns-in_err-counts-clause-run
 returns-in_err-counts-clause-run g c =
     let error = err_from_is_err_and c.from_residual.result c.from_residual.ensures.1 in
     rw (error.1, error.2) (run-err (gives-watch c.args.input (λ k. Ended k.state.losses) c.new.ensures.style)
-    c.in_err-counts.ensures.ran)
+    c.in_err-counts.ensures)

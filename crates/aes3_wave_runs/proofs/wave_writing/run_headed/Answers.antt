@@ -14,17 +14,17 @@ run_cells-requires-clause-start g c =
       subst (λ l. g.L.Listener.follows l []) (sym e.samples) c.requires.start,
     )
 
-pub returns-clause-ran : goal.returns-clause-ran
-returns-clause-ran g c =
+pub returns : goal.returns
+returns g c =
     let m = g.L.GivenBlocks.marked in
     let e = c.new-headed.ensures in
     headed-ok m c.args.input g.L.Listener.finished e.depth e.rate (ap g.L.Listener.writes e.samples) c.requires.quiet
-    c.in_ok-counts.ensures.ran
+    c.in_ok-counts.ensures
 
-pub returns-in_err-counts-clause-ran : goal.returns-in_err-counts-clause-ran
-returns-in_err-counts-clause-ran g c =
+pub returns-in_err-counts : goal.returns-in_err-counts
+returns-in_err-counts g c =
     let m = g.L.GivenBlocks.marked in
     let e = c.new-headed.ensures in
     let error = err_from_is_err_and c.from_residual.result c.from_residual.ensures.1 in
     rw (error.1, error.2) (headed-err m c.args.input g.L.Listener.finished e.depth e.rate
-    (ap g.L.Listener.writes e.samples) c.requires.quiet c.in_err-counts.ensures.ran)
+    (ap g.L.Listener.writes e.samples) c.requires.quiet c.in_err-counts.ensures)

@@ -13,10 +13,10 @@ run_headed-requires-clause-start g c = none-told (λ r. c.new.result.refused ≡
 pub run_headed-requires-clause-quiet : goal.run_headed-requires-clause-quiet
 run_headed-requires-clause-quiet g c = quiet-exact S16
 
-pub returns-clause-run : goal.returns-clause-run
-returns-clause-run g c = exact-ok c.args.input c.args.rate (search rules) c.in_ok-written.ensures.ran
+pub returns : goal.returns
+returns g c = exact-ok c.args.input c.args.rate (search rules) c.in_ok-written.ensures
 
-pub returns-in_err-written-clause-run : goal.returns-in_err-written-clause-run
-returns-in_err-written-clause-run g c =
+pub returns-in_err-written : goal.returns-in_err-written
+returns-in_err-written g c =
     let error = err_from_is_err_and c.from_residual.result c.from_residual.ensures.1 in
-    rw (error.1, error.2) (exact-err c.args.input c.args.rate c.in_err-written.ensures.ran)
+    rw (error.1, error.2) (exact-err c.args.input c.args.rate c.in_err-written.ensures)

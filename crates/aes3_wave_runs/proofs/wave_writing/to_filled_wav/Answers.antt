@@ -5,7 +5,7 @@ use Rattle.aes3_wave_runs.proofs.wave_writing.to_filled_wav.Goals as goal
 
 pub returns-then-marked-clause-run : goal.returns-then-marked-clause-run
 returns-then-marked-clause-run g c =
-    marked-is c.args.input c.args.depth c.args.rate c.args.fill (sym c.if-marked.true) c.to_filled_marked.ensures.run
+    marked-is c.args.input c.args.depth c.args.rate c.args.fill (sym c.if-marked.true) c.to_filled_marked.ensures
 
 pub returns-then-marked-clause-file : goal.returns-then-marked-clause-file
 returns-then-marked-clause-file g c =
@@ -16,7 +16,7 @@ returns-then-marked-clause-file g c =
 
 pub returns-else-marked-clause-run : goal.returns-else-marked-clause-run
 returns-else-marked-clause-run g c =
-    marked-is c.args.input c.args.depth c.args.rate c.args.fill (sym c.if-marked.false) c.to_filled_whole.ensures.run
+    marked-is c.args.input c.args.depth c.args.rate c.args.fill (sym c.if-marked.false) c.to_filled_whole.ensures
 
 pub returns-else-marked-clause-file : goal.returns-else-marked-clause-file
 returns-else-marked-clause-file g c =

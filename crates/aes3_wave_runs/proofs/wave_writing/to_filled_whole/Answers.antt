@@ -13,14 +13,14 @@ run_headed-requires-clause-start g c =
 pub run_headed-requires-clause-quiet : goal.run_headed-requires-clause-quiet
 run_headed-requires-clause-quiet g c = quiet-filled c.new.result.format c.new.result.fill
 
-pub returns-clause-run : goal.returns-clause-run
-returns-clause-run g c =
+pub returns : goal.returns
+returns g c =
     filled-ok c.args.input c.args.depth c.args.rate c.args.fill (c.new.ensures.format ∙ c.format_of.ensures)
-    c.new.ensures.fill (λ xs a p n. omega (arith, c.frames.ensures xs a p (omega (arith, n)))) c.in_ok-written.ensures.ran
+    c.new.ensures.fill (λ xs a p n. omega (arith, c.frames.ensures xs a p (omega (arith, n)))) c.in_ok-written.ensures
 
-pub returns-in_err-written-clause-run : goal.returns-in_err-written-clause-run
-returns-in_err-written-clause-run g c =
+pub returns-in_err-written : goal.returns-in_err-written
+returns-in_err-written g c =
     let error = err_from_is_err_and c.from_residual.result c.from_residual.ensures.1 in
     rw (error.1, error.2)
     (filled-err c.args.input c.args.depth c.args.rate c.args.fill (c.new.ensures.format ∙ c.format_of.ensures)
-    c.new.ensures.fill c.in_err-written.ensures.ran)
+    c.new.ensures.fill c.in_err-written.ensures)

@@ -11,7 +11,7 @@ run_headed-requires-clause-quiet g c = quiet-blocks (λ b. narrowed c.format_of.
 
 pub returns-clause-run : goal.returns-clause-run
 returns-clause-run g c = valid-ok c.args.input c.args.depth c.args.rate (λ k d. Unit {0}) c.format_of.ensures
-    (search rules) c.in_ok-valid.ensures.ran
+    (search rules) c.in_ok-valid.ensures
 
 pub returns-clause-file : goal.returns-clause-file
 returns-clause-file g c = file-clause c.args.input (file_by c.args.depth c.args.rate false (valid_pcm c.args.depth))
@@ -21,4 +21,4 @@ pub returns-in_err-valid-clause-run : goal.returns-in_err-valid-clause-run
 returns-in_err-valid-clause-run g c =
     let error = err_from_is_err_and c.from_residual.result c.from_residual.ensures.1 in
     rw (error.1, error.2)
-    (valid-err c.args.input c.args.depth c.args.rate (λ k d. Unit {0}) c.format_of.ensures c.in_err-valid.ensures.ran)
+    (valid-err c.args.input c.args.depth c.args.rate (λ k d. Unit {0}) c.format_of.ensures c.in_err-valid.ensures)

@@ -11,7 +11,7 @@ pub run_headed-requires-clause-quiet : goal.run_headed-requires-clause-quiet
 run_headed-requires-clause-quiet g c = quiet-blocks (λ b. narrowed c.format_of.result (block_samples b))
 
 pub returns-clause-run : goal.returns-clause-run
-returns-clause-run g c = all-ok c.args.input c.args.depth c.args.rate (λ k d. Unit {0}) c.format_of.ensures c.in_ok-written.ensures.ran
+returns-clause-run g c = all-ok c.args.input c.args.depth c.args.rate (λ k d. Unit {0}) c.format_of.ensures c.in_ok-written.ensures
 
 pub returns-clause-file : goal.returns-clause-file
 returns-clause-file g c = file-clause c.args.input (λ d. wave_of c.args.depth c.args.rate (blocks d))
@@ -21,4 +21,4 @@ pub returns-in_err-written-clause-run : goal.returns-in_err-written-clause-run
 returns-in_err-written-clause-run g c =
     let error = err_from_is_err_and c.from_residual.result c.from_residual.ensures.1 in
     rw (error.1, error.2)
-    (all-err c.args.input c.args.depth c.args.rate (λ k d. Unit {0}) c.format_of.ensures c.in_err-written.ensures.ran)
+    (all-err c.args.input c.args.depth c.args.rate (λ k d. Unit {0}) c.format_of.ensures c.in_err-written.ensures)

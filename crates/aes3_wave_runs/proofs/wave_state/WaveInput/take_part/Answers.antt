@@ -1,6 +1,7 @@
 use Rattle.std.proofs.Common.{◌≡◌, ◌+◌, ◌-◌, ◌++◌, length, take, refl, ap, ◌∙◌, arith}
 use borrow.Rule.Slice.PartMut.{put_mid}
 use Rattle.std.proofs.lemmas.List.{length-take-le}
+use Rattle.std.proofs.lemmas.Result.{err_from_is_err_and}
 use Rattle.aes3_engine.proofs.SampleReads.{put-behind}
 use Rattle.aes3_wave_runs.specs.States.{samples_state}
 use Rattle.aes3_wave_runs.specs.Wave.{frames_state}
@@ -50,8 +51,8 @@ feed_fronts-requires-clause-following g c =
     (samples_state s.samples c.args.change.now) c.requires.following.0 (omega arith) most (omega arith) (omega arith)
     c.requires.following.2
 
-pub returns-in-Ok : goal.returns-in-Ok
-returns-in-Ok g c =
+pub returns : goal.returns
+returns g c =
     let s = c.args.self.now in
     let xs = c.args.octets.now in
     let n = c.min-count.result in
@@ -76,12 +77,13 @@ returns-in-Ok g c =
       last-fed s.format s.channels s.len s.left (s.left - n) n (take s.at s.begun) (take 0 new) (take w new) xs
           c.two_samples-pair.result (samples_state s.samples c.args.change.now)
           (samples_state c.feed_fronts.new.input c.feed_fronts.new.taker) c.requires.following.2.pairs (omega arith) refl
-          frame (omega arith) c.two_samples-pair.ensures (omega arith) room refl c.in-Ok.ensures.0,
-      c.in-Ok.ensures.1,
+          frame (omega arith) c.two_samples-pair.ensures (omega arith) room refl c.in_ok-feed_fronts.ensures.0,
+      c.in_ok-feed_fronts.ensures.1,
     )
 
-pub returns-in-Err : goal.returns-in-Err
-returns-in-Err g c =
+pub returns-in_err-feed_fronts : goal.returns-in_err-feed_fronts
+returns-in_err-feed_fronts g c =
+    let error = err_from_is_err_and c.from_residual.result c.from_residual.ensures.1 in
     let s = c.args.self.now in
     let xs = c.args.octets.now in
     let n = c.min-count.result in
@@ -101,10 +103,10 @@ returns-in-Err g c =
     let e : w ≡ s.at + n = omega arith in
     let frame : take w new ≡ take s.at s.begun ++ take n xs = ap (λ v. take v new) e ∙ front in
     let i = ap length frame in
-    last-refused s.format s.channels s.len s.left n (take s.at s.begun) (take w new) xs c.two_samples-pair.result
-    (samples_state s.samples c.args.change.now) (samples_state c.feed_fronts.new.input c.feed_fronts.new.taker)
+    rw (error.1, error.2) (last-refused s.format s.channels s.len s.left n (take s.at s.begun) (take w new) xs
+    c.two_samples-pair.result (samples_state s.samples c.args.change.now) (samples_state c.feed_fronts.new.input c.feed_fronts.new.taker)
     (frames_state s.format s.channels s.len s.left (take s.at new)
     (samples_state c.feed_fronts.new.input c.feed_fronts.new.taker))
     (g.T.Sink.taken c.args.sink.now) (g.T.Sink.taken c.feed_fronts.new.sink) (g.T.Sink.failed c.args.sink.now)
-    (g.T.Sink.failed c.feed_fronts.new.sink) c.in-Err.error c.requires.following.2.pairs (omega arith) frame (omega arith)
-    c.two_samples-pair.ensures (omega arith) room (λ b. tt) c.in-Err.ensures
+    (g.T.Sink.failed c.feed_fronts.new.sink) _ c.requires.following.2.pairs (omega arith) frame (omega arith)
+    c.two_samples-pair.ensures (omega arith) room (λ b. tt) c.in_err-feed_fronts.ensures)
