@@ -23,7 +23,7 @@ class Browser:
         self.process = subprocess.Popen(shell, pass_fds=(theirs_in, theirs_out), stdout=subprocess.DEVNULL,
                                         stderr=subprocess.DEVNULL)
         os.close(theirs_in), os.close(theirs_out)
-        self.held, self.number, self.session, self.asked = b"", 0, None, []
+        self.held, self.number, self.session, self.asked, self.ended = b"", 0, None, [], []
 
     def receive(self):
         while b"\0" not in self.held:
@@ -46,6 +46,8 @@ class Browser:
             answer = self.receive()
             if answer.get("method") == "Network.requestWillBeSent":
                 self.asked.append(answer["params"]["request"]["url"])
+            if answer.get("method") == "Browser.downloadProgress" and answer["params"]["state"] != "inProgress":
+                self.ended.append(answer["params"]["state"])
             if answer.get("id") == self.number:
                 if "error" in answer:
                     raise RuntimeError(f"{method}: {answer['error']}")
@@ -71,6 +73,19 @@ class Browser:
                 return state
             time.sleep(0.02)
         raise TimeoutError(f"the page's state is {state}")
+
+    def press_to_save(self, button, folder):
+        """Presses a button that saves a file into a folder; returns once the browser says that all of it is there."""
+        self.send("Browser.setDownloadBehavior", behavior="allow", downloadPath=folder, eventsEnabled=True)
+        self.ended.clear()
+        self.ask(f"at('{button}').click()")
+        for _ in range(3000):
+            self.ask("null")
+            if self.ended:
+                break
+            time.sleep(0.02)
+        if self.ended != ["completed"]:
+            raise TimeoutError(f"{button}: the file is not saved in a minute: {self.ended}")
 
     def give(self, path):
         """Chooses a file, as a person does."""

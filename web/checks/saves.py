@@ -1,23 +1,16 @@
 """What the page saves, beside what the program writes."""
 
 import os
-import time
 
 from checks.expected import ROOT, packed, text_cells
 
 
 def saved(browser, folder, button, name):
     """The bytes of what a button saves."""
-    path = f"{folder}/saved/{name}"
     os.makedirs(f"{folder}/saved", exist_ok=True)
-    browser.send("Browser.setDownloadBehavior", behavior="allow", downloadPath=f"{folder}/saved")
-    browser.ask(f"at('{button}').click()")
-    for _ in range(500):
-        if os.path.isfile(path):
-            with open(path, "rb") as file:
-                return file.read()
-        time.sleep(0.02)
-    return b""
+    browser.press_to_save(button, f"{folder}/saved")
+    with open(f"{folder}/saved/{name}", "rb") as file:
+        return file.read()
 
 
 def compare_saves(compare, browser, program, folder):
