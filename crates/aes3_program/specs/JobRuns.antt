@@ -235,7 +235,7 @@ AnswerTold job typed (Err error) failed sink errors status =
     × (((sink.failed_new ≡ failed) × IsTold errors error)
     ⊎ ((error ≢ Run refusal.Write) × (sink.failed_new ≡ failed + 1) × IsTold errors (Run refusal.Write)))
 
--- both ends of a job when its run answered: how often the sink had failed then, and what it had passed on
+-- both ends of a job when its run answered: how often the sink had failed by then, and what it had passed on
 abbrev pub ends_then : Streams → ℕ → Option (List ℕ) → Ends
 ends_then streams failed passed = record {
   ended = streams.ended;
@@ -244,7 +244,8 @@ ends_then streams failed passed = record {
   passed = passed;
 }
 
--- a job: what its run answered, how often the sink had failed then and what it had passed on, and what is told of that
+-- a job: what its run answered; how often the sink had failed by then, and what it had passed on, of which no more is
+-- said here; and what is told of the answer
 pub record JobRan (job : Job) (typed : TypedSettings) (streams : Streams) (status : ℕ) : Type 0 where
   pub answer : Result Outcome Refusal
   pub failed : ℕ

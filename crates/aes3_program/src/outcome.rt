@@ -364,7 +364,7 @@ fn cut_remark(missing: Option<u64>) -> Remark
     }
 }
 
-/// The status that blocks of a WAV file begin with, if one is given.
+/// The status that blocks of a WAV file begin with: the given one, else the one for its format.
 fn wave_status(
     given: Option<[u8; 24]>,
     options: &WaveOptions,

@@ -58,8 +58,8 @@ AnswerReported (Err error) failed sink messages status =
     × (((sink.failed_new ≡ failed) × IsReported messages error)
     ⊎ ((error ≢ refusal.Write) × (sink.failed_new ≡ failed + 1) × IsReported messages refusal.Write))
 
--- a job: what its run answered, how often the sink had failed then and what it had passed on, and what is reported of
--- that
+-- a job: what its run answered; how often the sink had failed by then, and what it had passed on, of which no more is
+-- said here; and what is reported of the answer
 pub record JobRan (job : Job) (ends : Ends) (messages : Movement) (status : ℕ) : Type 0 where
   pub answer : Result Counts RunError
   pub failed : ℕ

@@ -16,7 +16,7 @@ use Rattle.aes3_frame.specs.Blocks.{zero_block}
 use Rattle.aes3_frame.specs.Samples.{block_samples, samples}
 use Rattle.aes3_input.specs.Driving.{over_cells}
 use Rattle.aes3_input.specs.Inputs.{cells_of}
-use Rattle.aes3_input.specs.Running.{Ends, InputRun, Movement, Promise}
+use Rattle.aes3_input.specs.Running.{Ends, InputRun, Promise}
 use Rattle.aes3_input.specs.Taking.{Writing, before_end, with_end}
 use Rattle.aes3_input.proofs.CellRuns.{cells-give}
 use Rattle.aes3_input.proofs.InputRuns.{Gives, run-err, run-ok, run-told}

@@ -35,7 +35,7 @@ has_second f (Some second) = nat_lt second f.channels
 abbrev pub has_channels : WaveFormat → Channels → Bool
 has_channels f channels = nat_lt channels.first f.channels && has_second f channels.second
 
--- a change whose channels begin with this status where none is given
+-- a change whose channels begin with the status for the file's format where none is given
 abbrev pub change_for : WaveOptions → WaveFormat → Change
 change_for options f =
     record options.change {
